@@ -11,16 +11,7 @@ use Rattle.multi_meaning.proofs.CutLemmas.{Cut, cut, part, cut_behind_is, cut_in
 
 module _ {X : Type 0} (p : X → Bool) where
   pub after_last_push : (xs : List X) (x : X) → after_last p (xs ++ x ∷ []) ≡ cond (p x) [] (after_last p xs ++ x ∷ [])
-  after_last_push xs x =
-      let n = suffix_len (λ x. not (p x)) xs in
-      let within : n ≤ length xs = suffix_len-le-length (λ x. not (p x)) xs in
-      let size = length-append xs (x ∷ []) in
-      ap (λ l. drop (length (xs ++ x ∷ []) - prefix_len (λ x. not (p x)) l) (xs ++ x ∷ [])) (reverse-append xs (x ∷ [])) ∙ elim (cases_Bool (p x)) [
-        | inl e ↦ rw e (drop_all (length (xs ++ x ∷ []) - 0) (xs ++ x ∷ []) (omega arith))
-        | inr e ↦
-            let same : length (xs ++ x ∷ []) - (1 + n) ≡ length xs - n = omega (arith, size) in
-            rw e (ap (λ k. drop k (xs ++ x ∷ [])) same ∙ drop-append-le (length xs - n) xs (x ∷ []) (omega arith))
-      ]
+  after_last_push xs x = grind (arith, suffix_len-le-length, length-append, reverse-append, drop_all, drop-append-le)
 
   abbrev pub cut_if : Bool → Cut X → X → Cut X
   cut_if b c x = cond b (record { closed = c.closed ++ (c.open' ++ x ∷ []) ∷ []; open' = [] }) (record { closed = c.closed; open' = c.open' ++ x ∷ [] })
@@ -48,8 +39,4 @@ module _ {X : Type 0} (p : X → Bool) where
 
   -- the parts that an item ends are the closed ones
   pub ended_is : (xs : List X) → filter (list_any p) (cut_behind p xs) ≡ (cut p xs).closed
-  ended_is xs =
-      let c = cut p xs in
-      let e = ends xs in
-      ap (filter (list_any p)) (cut_behind_is p xs) ∙ filter-append (list_any p) c.closed (part p c.open')
-      ∙ rw (e.closed, filter_part c.open' e.open') (append-nil c.closed)
+  ended_is xs = grind (arith, cut, ends, cut_behind_is, filter-append, part, filter_part, append-nil)

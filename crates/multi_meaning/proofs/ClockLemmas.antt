@@ -30,10 +30,7 @@ module _ (sign : SignData) (octets : List ℕ) (pages tenths : ℕ) (verdict : I
 
   -- else what is shown is that at the clock modulo the cycle
   pub shown_in_turn : (clock : ℕ) → (pages ≡ 1 → ⊥) → (tenths ≡ 0 → ⊥) → shown sign octets clock ≡ shown_within times (clock % tenths)
-  shown_in_turn clock many some =
-      let pages_many = ne_eqb (length times) 1 (λ e. many (sym count ∙ e)) in
-      let cycle_some = ne_eqb (cycle times) 0 (λ e. some (sym same ∙ e)) in
-      shown_modulo times clock (rw (pages_many, cycle_some) refl) ∙ ap (λ n. shown_within times (clock % n)) same
+  shown_in_turn clock many some = grind (arith, ne_eqb, count, same, shown_modulo)
 
   -- the clock modulo the cycle is below it
   pub below_cycle : (clock : ℕ) → (tenths ≡ 0 → ⊥) → clock % tenths < cycle times

@@ -28,30 +28,21 @@ abbrev covers_at : Thing → ℕ → ℕ → ℕ → Bool
 covers_at t page column row = (t.page == page) && t.covers column row
 
 colour_push : (defaults : Defaults) (things : List Thing) (t : Thing) (page column row : ℕ) → colour_of defaults (things ++ t ∷ []) page column row ≡ cond (covers_at t page column row) t.colour (colour_of defaults things page column row)
-colour_push defaults things t page column row =
-    let f = λ (t : Thing). cond (covers_at t page column row) (Some t.colour) None in
-    ap (λ l. unwrap_or (last_or None l) defaults.back) (filter_map-append f things (t ∷ []))
-    ∙ ap (λ o. unwrap_or o defaults.back) (last_or-append None (filter_map f things) (cons_option (f t) []))
-    ∙ elim (cases_Bool (covers_at t page column row)) [ inl e ↦ rw e refl | inr e ↦ rw e refl ]
+colour_push defaults things t page column row = grind (arith, filter_map-append, last_or-append)
 
 module _ (sign : SignData) (page phase colour : ℕ) (all : List Spot) (column row : ℕ) where
   -- a pixel after one more spot that is no thing
   covered_nothing : (some : List Spot) (s : Spot) → thing_at phase (place_of some all s) s s.put ≡ None
       → has_colour sign page phase colour all (some ++ s ∷ []) column row ≡ has_colour sign page phase colour all some column row
   unfolding has_colour
-  covered_nothing some s is =
-      ap (λ l. shown_colour sign (colour_of sign.defaults l page column row) == colour)
-      (things_push phase all some s ∙ ap (λ o. things_among phase all some ++ cons_option o []) is ∙ append-nil (things_among phase all some))
+  covered_nothing some s is = grind (arith, things_push, append-nil)
 
   -- a pixel after one more spot that is a thing
   covered_more : (some : List Spot) (s : Spot) (t : Thing) → thing_at phase (place_of some all s) s s.put ≡ Some t
       → has_colour sign page phase colour all (some ++ s ∷ []) column row
       ≡ cond (covers_at t page column row) (shown_colour sign t.colour == colour) (has_colour sign page phase colour all some column row)
   unfolding has_colour
-  covered_more some s t is =
-      ap (λ l. shown_colour sign (colour_of sign.defaults l page column row) == colour) (things_push phase all some s ∙ ap (λ o. things_among phase all some ++ cons_option o []) is)
-      ∙ ap (λ c. shown_colour sign c == colour) (colour_push sign.defaults (things_among phase all some) t page column row)
-      ∙ elim (cases_Bool (covers_at t page column row)) [ inl e ↦ rw e refl | inr e ↦ rw e refl ]
+  covered_more some s t is = grind (arith, things_push, colour_push)
 
   -- a pixel of the page of one more spot that covers a page
   covered_whole : (some : List Spot) (at : Standing) (back : ℕ)
@@ -124,10 +115,7 @@ IsBeside page t = (t.page == page) ≡ false
 
 -- things of other pages leave the colour of a pixel
 colour_beside : (defaults : Defaults) (some more : List Thing) (page column row : ℕ) → All (IsBeside page) more → colour_of defaults (some ++ more) page column row ≡ colour_of defaults some page column row
-colour_beside defaults some more page column row beside =
-    let f = λ (t : Thing). cond (covers_at t page column row) (Some t.colour) None in
-    let none : All (λ t. f t ≡ None) more = All-weaker (IsBeside page) (λ t. f t ≡ None) (λ t apart. ap (λ b. cond (b && t.covers column row) (Some t.colour) None) apart) more beside in
-    ap (λ l. unwrap_or (last_or None l) defaults.back) (filter_map-append f some more ∙ ap (λ l. filter_map f some ++ l) (maps_none f more none) ∙ append-nil (filter_map f some))
+colour_beside defaults some more page column row beside = grind (arith, All-weaker, filter_map-append, maps_none, append-nil)
 
 -- what a spot of a later page puts is beside this page
 thing_beside : (page phase : ℕ) (place : Place) (spot : Spot) (put : Put) → page < page_put spot.at put → IfSome (thing_at phase place spot put) (IsBeside page)

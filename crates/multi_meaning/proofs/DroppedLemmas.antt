@@ -17,12 +17,7 @@ use Rattle.multi_meaning.proofs.GroupLemmas.{glyph_put, break_put}
 -- an item's line in a group is what stands open before it, it, and some items
 line_of : (front : List Spot) (y : Spot) (back : List Spot)
     → slice_index_or (lines_of (front ++ y ∷ back)) (count_by is_break front) [] ≡ after_last is_break front ++ y ∷ (first_part is_break y back).rest
-line_of front y back =
-    let c = cut is_break front in
-    let first = first_part is_break y back in
-    ap (λ l. slice_index_or l (count_by is_break front) []) (cut_with_item is_break front y back)
-    ∙ get_or_at c.closed (c.open' ++ y ∷ first.rest) first.others [] (count_by is_break front) (closed_count front)
-    ∙ ap (λ l. l ++ y ∷ first.rest) (sym (after_last_is is_break front))
+line_of front y back = grind (arith, cut, first_part, cut_with_item, get_or_at, closed_count, after_last_is)
 
 -- what stands behind an item of a segment makes it no narrower
 wider : (j : ℕ) (open' rest : List Spot) (y : Spot) → is_glyph y ≡ true → line_number y.at.line_just ≡ j → 1 ≤ glyph_width y → width_of (segment j open') < width_of (segment j (open' ++ y ∷ rest))
@@ -37,17 +32,4 @@ wider j open' rest y glyph just wide =
 -- an item of a laid group ends its line exactly where the segment in which it would stand is as wide before it as on that line
 pub full_known : (j : ℕ) (front : List Spot) (y : Spot) (back : List Spot) → IsPlacing y → (is_glyph y ≡ true → (line_number y.at.line_just ≡ j) × (1 ≤ glyph_width y))
     → (width_of (segment j (after_last is_break front)) == width_of (segment j (slice_index_or (lines_of (front ++ y ∷ back)) (count_by is_break front) []))) ≡ is_break y
-full_known j front y back placing stands =
-    let open' = after_last is_break front in
-    let first = first_part is_break y back in
-    let with_it = open' ++ y ∷ first.rest in
-    ap (λ l. width_of (segment j open') == width_of (segment j l)) (line_of front y back) ∙ elim placing [
-      | inl glyph ↦
-          let more = wider j open' first.rest y glyph (stands glyph).0 (stands glyph).1 in
-          ne_eqb (width_of (segment j open')) (width_of (segment j with_it)) (λ e. omega (arith, more, e)) ∙ sym (glyph_put y.at y.put glyph).0
-      | inr breaks ↦
-          let none = break_put y.at y.put breaks in
-          let same : segment j with_it ≡ segment j open' =
-          ap (λ l. segment j (open' ++ y ∷ l)) (first.ends breaks) ∙ filter-append (λ t. is_glyph t && (line_number t.at.line_just == j)) open' (y ∷ []) ∙ rw none (append-nil (segment j open')) in
-          eq-eqb (width_of (segment j open')) (width_of (segment j with_it)) (ap width_of (sym same)) ∙ sym breaks
-    ]
+full_known j front y back placing stands = grind (arith, first_part, line_of, wider, ne_eqb, glyph_put, break_put, filter-append, append-nil, eq-eqb)

@@ -11,9 +11,7 @@ use Rattle.multi_meaning.proofs.GroupLemmas.{glyph_put}
 
 -- one more `nl` ends the open line
 pub ended_break : (g : List Spot) (s : Spot) → is_break s ≡ true → ended_lines (g ++ s ∷ []) ≡ ended_lines g ++ (after_last is_break g ++ s ∷ []) ∷ []
-ended_break g s b =
-    ended_is is_break (g ++ s ∷ []) ∙ ap (λ (c : Cut Spot). c.closed) (cut_push is_break g s)
-    ∙ rw b (λ i. sym (ended_is is_break g) i ++ (sym (after_last_is is_break g) i ++ s ∷ []) ∷ [])
+ended_break g s b = grind (arith, ended_is, Cut, cut_push, after_last_is)
 
 -- one more character ends none
 pub ended_glyph : (g : List Spot) (s : Spot) → is_glyph s ≡ true → ended_lines (g ++ s ∷ []) ≡ ended_lines g

@@ -18,8 +18,7 @@ use Rattle.multi_meaning.proofs.FillListLemmas.{longest_push, longest_all, longe
 
 -- what stands behind characters makes no segment narrower
 pub segment_front : (just : ℕ) (line behind : List Spot) → width_of (segment just line) ≤ width_of (segment just (line ++ behind))
-segment_front just line behind =
-    omega (arith, extent-append-le glyph_width char_gap (segment just behind) (segment just line), ap width_of (filter-append (λ t. is_glyph t && (line_number t.at.line_just == just)) line behind))
+segment_front just line behind = grind (arith, extent-append-le, filter-append)
 
 pub le_test : (a b w : ℕ) → a ≤ b → nat_le b w ≡ true → nat_le a w ≡ true
 le_test a b w h k = grind (arith, nat_tests)
@@ -62,23 +61,11 @@ module _ (width : ℕ) where
 
   -- the first character that no longer fits: the line is broken at its last space, which may be that character
   pub broken_first : (cs : List Spot) (s : Spot) → line_fits width cs ≡ true → line_fits width (cs ++ s ∷ []) ≡ false → soft_break width (cs ++ s ∷ []) ≡ cut_at_last is_space (cs ++ s ∷ [])
-  broken_first cs s fits wide =
-      let more = cs ++ s ∷ [] in
-      let longest : longest_prefix (line_fits width) more ≡ cs = longest_push (line_fits width) cs s ∙ rw wide (longest_all (line_fits width) cs fits) in
-      let all : length more ≤ most more = omega (arith, ap length longest, length-append cs (s ∷ [])) in
-      broken_wide more wide ∙ rw (drop_all (most more) more all, take_all (most more) more all) (longer_nil (cut_at_last is_space more))
+  broken_first cs s fits wide = grind (arith, longest_push, longest_all, length-append, broken_wide, drop_all, take_all, longer_nil)
 
   -- a later one leaves the break
   pub broken_later : (cs : List Spot) (s : Spot) → line_fits width cs ≡ false → soft_break width (cs ++ s ∷ []) ≡ option_map (longer (s ∷ [])) (soft_break width cs)
-  broken_later cs s wide =
-      let more = cs ++ s ∷ [] in
-      let wide' = stays_wide width cs s wide in
-      let same : most more ≡ most cs = ap (λ l. length l + 1) (longest_push (line_fits width) cs s ∙ rw wide' refl) in
-      let short : most cs ≤ length cs = longest_short (line_fits width) cs (nothing_fits width) wide in
-      broken_wide more wide'
-      ∙ ap (λ n. cut_wide n more) same
-      ∙ rw (drop-append-le (most cs) cs (s ∷ []) short, take-append-le (most cs) cs (s ∷ []) short) (longer_twice (drop (most cs) cs) (s ∷ []) (cut_at_last is_space (take (most cs) cs)))
-      ∙ ap (option_map (longer (s ∷ []))) (sym (broken_wide cs wide))
+  broken_later cs s wide = grind (arith, stays_wide, longest_push, longest_short, nothing_fits, broken_wide, drop-append-le, take-append-le, longer_twice)
 
   pub broken_is_wide : (cs : List Spot) (c : CutAt Spot) → soft_break width cs ≡ Some c → line_fits width cs ≡ false
   broken_is_wide cs c e = false_from_ne_true (line_fits width cs) (λ fits. let wrong : ◌≡◌ {A = Option (CutAt Spot)} None (Some c) = sym (broken_fits cs fits) ∙ e in cc)

@@ -32,10 +32,7 @@ module _ (setting : LineFill) (width : ℕ) (a : ℕ) where
 
   largest_more : (xs : List Spot) (x : Spot) → let f = largest (λ (t : Spot). page_number t.at.page_just) in
       f (in_area a (xs ++ x ∷ [])) ≡ cond (in_areas a x) (max (f (in_area a xs)) (page_number x.at.page_just)) (f (in_area a xs))
-  largest_more xs x = ap (largest (λ (t : Spot). page_number t.at.page_just)) (one_more xs x) ∙ elim (cases_Bool (in_areas a x)) [
-    | inl e ↦ rw e (largest_push (λ t. page_number t.at.page_just) (in_area a xs) x)
-    | inr e ↦ rw e (ap (largest (λ (t : Spot). page_number t.at.page_just)) (append-nil (in_area a xs)))
-  ]
+  largest_more xs x = grind (arith, one_more, in_areas, largest_push, append-nil)
 
   pub largest_laid : (all some more : List Spot) → all ≡ some ++ more → largest (λ (t : Spot). page_number t.at.page_just) (in_area a (laid setting all some)) ≡ largest (λ (t : Spot). page_number t.at.page_just) (in_area a some)
   largest_laid all =

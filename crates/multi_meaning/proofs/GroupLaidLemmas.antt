@@ -24,8 +24,7 @@ abbrev pub is_member : ℕ → ℕ → Spot → Bool
 is_member a j t = in_areas a t && (page_number t.at.page_just == j)
 
 members-append : (a j : ℕ) (xs ys : List Spot) → members a j (xs ++ ys) ≡ members a j xs ++ members a j ys
-members-append a j xs ys =
-    ap (in_group j) (filter-append (in_areas a) xs ys) ∙ filter-append (λ t. page_number t.at.page_just == j) (in_area a xs) (in_area a ys)
+members-append a j xs ys = grind (arith, filter-append)
 
 one_member : (a j : ℕ) (x : Spot) → members a j (x ∷ []) ≡ cond (is_member a j x) (x ∷ []) []
 one_member a j x = elim (cases_Bool (in_areas a x)) [ inl e ↦ rw e refl | inr e ↦ rw e refl ]
@@ -35,11 +34,7 @@ members_push a j xs x b e = members-append a j xs (x ∷ []) ∙ ap (λ l. membe
 
 -- the members with one of them in its place
 pub members_with : (a j : ℕ) (xs ys : List Spot) (x : Spot) → is_member a j x ≡ true → members a j (xs ++ x ∷ ys) ≡ members a j xs ++ x ∷ members a j ys
-members_with a j xs ys x e =
-    ap (members a j) (sym (append_assoc xs (x ∷ []) ys))
-    ∙ members-append a j (xs ++ x ∷ []) ys
-    ∙ ap (λ l. l ++ members a j ys) (members_push a j xs x true e)
-    ∙ append_assoc (members a j xs) (x ∷ []) (members a j ys)
+members_with a j xs ys x e = grind (arith, members-append, members_push, append_assoc)
 
 -- a laid spot is in the group of its spot
 pub same_member : (a j : ℕ) (x y : Spot) → LaidAs x y → is_member a j y ≡ is_member a j x
@@ -48,9 +43,7 @@ same_member a j x y (inr (glyph, e)) = ap (is_member a j) e ∙ ap (λ b. ((b ||
 
 -- a spot of a group is of its area and has its page justification
 pub member_at : (a j : ℕ) (x : Spot) → is_member a j x ≡ true → (x.at.area ≡ a) × (page_number x.at.page_just ≡ j)
-member_at a j x member =
-    let (placed, just) = and_parts (in_areas a x) (page_number x.at.page_just == j) member in
-    (eqb-true x.at.area a (and_parts (is_glyph x || is_break x) (x.at.area == a) placed).1, eqb-true (page_number x.at.page_just) j just)
+member_at a j x member = grind (arith, and_parts, eqb-true)
 
 pub own_member : (x : Spot) → is_glyph x ≡ true → is_member x.at.area (page_number x.at.page_just) x ≡ true
 own_member x glyph = rw (glyph, eq-eqb x.at.area x.at.area refl, eq-eqb (page_number x.at.page_just) (page_number x.at.page_just) refl) refl
@@ -81,12 +74,7 @@ module _ (all : List Spot) (a j : ℕ) (some more : List Spot) (x : Spot) (is : 
 module _ (setting : LineFill) (all : List Spot) where
   -- a spot of the string is laid as itself or as a dropped space
   pub laid_as : (some more : List Spot) (x : Spot) → all ≡ some ++ x ∷ more → LaidAs x (laid_spot setting all some x)
-  laid_as some more x is = elim (cases_Bool (is_glyph x)) [
-    | inl glyph ↦
-        let there : laid_spot setting all some x ≡ slice_index_or (filled (fill_at setting x.at) (group_of x all)) (length (group_of x some)) x = rw glyph refl in
-        subst (LaidAs x) (sym there) (in_place all x.at.area (page_number x.at.page_just) some more x is (own_member x glyph) (fill_at setting x.at))
-    | inr other ↦ inl (rw other refl)
-  ]
+  laid_as some more x is = grind (arith, LaidAs, in_place, own_member)
 
   module _ (a j : ℕ) (fill : Option ℕ) (same : HasFill setting fill a all) where
     -- the group, filled
@@ -95,14 +83,7 @@ module _ (setting : LineFill) (all : List Spot) where
 
     -- a spot of the group is laid as the item in its place in the filled group
     pub there : (some more : List Spot) (x : Spot) → all ≡ some ++ x ∷ more → is_member a j x ≡ true → laid_spot setting all some x ≡ slice_index_or (filled fill (members a j all)) (length (members a j some)) x
-    there some more x is member = elim (cases_Bool (is_glyph x)) [
-      | inl glyph ↦
-          let (area, just) = member_at a j x member in
-          let P = λ (x : Spot). x.at.area ≡ a → fill_at setting x.at ≡ fill in
-          let fill' = (All-around P some x more (subst (All P) is same)).1 area in
-          rw glyph (λ i. slice_index_or (filled (fill' i) (members (area i) (just i) all)) (length (members (area i) (just i) some)) x)
-      | inr other ↦ rw other (elim (in_place all a j some more x is member fill) [ inl same ↦ sym same | inr (glyph, drop) ↦ absurd (both_ways (is_glyph x) other glyph) ])
-    ]
+    there some more x is member = grind (arith, member_at, All-around, in_place, both_ways)
 
     -- it has as many items
     pub whole_length : length (members a j all) ≡ length (filled fill (members a j all))

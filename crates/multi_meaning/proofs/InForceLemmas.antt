@@ -77,9 +77,7 @@ module _ (sign : SignData) (big : List Spot → Spot → Bool) where
   first_in_sign = whole_in_sign sign
 
   next_in_sign : (before : List Meaning) (x : Meaning) → offence_by big sign before x ≡ None → IsInSign sign (standing sign before).rectangle → IsInSign sign (standing sign (before ++ x ∷ [])).rectangle
-  next_in_sign before x none old =
-      subst (λ (s : Standing). IsInSign sign s.rectangle) (sym (standing_push sign before x))
-      (in_force_by (IsInSign sign) (given_rectangle sign x) (standing sign before).rectangle (given_in_sign before x none) old)
+  next_in_sign before x none old = grind (arith, standing_push, in_force_by, given_in_sign)
 
   -- behind the items of an accepted string the rectangle in force is inside the sign
   pub rectangle_inside : (items : List Meaning) → some_after (offence_by big sign) items ≡ [] → IsInSign sign (standing sign items).rectangle
@@ -116,8 +114,7 @@ abbrev High : Spot → Type 0
 High s = (1 ≤ s.at.font.height) × (is_glyph s ≡ true → 1 ≤ glyph_width s)
 
 high_numbered : (sign : SignData) (number : ℕ) → IsSound sign → IfSome (font_numbered sign number) HighFont
-high_numbered sign number sound =
-    found_each HighFont (λ font. font.number == number) sign.fonts (All-weaker IsSoundFont HighFont (λ font s. (s.height.0, All-weaker (IsSoundCell font.height) IsWideCell (λ cell k. k.width.0) font.cells s.each)) sign.fonts sound.each)
+high_numbered sign number sound = grind (arith, found_each, All-weaker)
 
 high_default : (o : Option FontData) (font : FontData) → IsSome o → IfSome o HighFont → HighFont (unwrap_or o font)
 high_default None font some high = absurd (false≢true some)

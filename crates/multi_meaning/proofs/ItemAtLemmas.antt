@@ -35,9 +35,7 @@ module _ (octets : List ℕ) (at : ℕ) where
 
   -- a tag of the table
   pub tag_at : (tag : Tag) (len : ℕ) → IsTagAt octets at tag len → IsItemAt octets at len (said_by tag)
-  tag_at tag len (is, spells) =
-      let t : Token = record { at = at; len = len; kind = kinds.Tag } in
-      (t, refl, refl, is.is, meaning-tag octets t (Ok tag) is.kind (tag_of-spelled (body_of octets t) tag spells))
+  tag_at tag len (is, spells) = grind (arith, meaning-tag, tag_of-spelled)
 
   -- the steps of one look and of the octets ahead, for a tag that stands there
   pub ahead_steps : (tag : Tag) (len steps : ℕ) → IsTagAt octets at tag len → steps ≡ 1 + min 26 (length octets - (at + 1)) → (len - 1 ≤ steps) × (steps ≤ 9 * len - 9)

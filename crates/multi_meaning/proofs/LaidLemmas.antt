@@ -58,25 +58,14 @@ module _ (width : ℕ) where
 
   -- a filled group is what is ended and the open line
   pub filled_is : (g : List Spot) → All IsPlacing g → filled (Some width) g ≡ ended g ++ open_line g
-  filled_is g placing =
-      let c = cut is_break g in
-      ap (flat_map (filled_line width)) (cut_behind_is is_break g)
-      ∙ flat_map-append (filled_line width) c.closed (part is_break c.open')
-      ∙ ap (λ l. front g ++ l) (part_filled c.open' (open_glyphs g placing) ∙ fill_is width (length c.open') c.open')
-      ∙ sym (append_assoc (front g) (last_parts g).closed (last_parts g).open')
+  filled_is g placing = grind (arith, cut, cut_behind_is, flat_map-append, part, part_filled, open_glyphs, fill_is, append_assoc)
 
   more_filled : (g : List Spot) (s : Spot) → filled (Some width) (g ++ s ∷ []) ≡ front g ++ filled_line width ((cut is_break g).open' ++ s ∷ [])
   more_filled g s = ap (flat_map (filled_line width)) (cut_behind_push is_break g s) ∙ flat_map_push (filled_line width) (cut is_break g).closed ((cut is_break g).open' ++ s ∷ [])
 
   -- one more `nl` stands behind the filled group
   pub filled_break : (g : List Spot) (s : Spot) → All IsPlacing g → is_break s ≡ true → filled (Some width) (g ++ s ∷ []) ≡ filled (Some width) g ++ s ∷ []
-  filled_break g s placing b =
-      let o = (cut is_break g).open' in
-      let last = last_parts g in
-      let line : filled_line width (o ++ s ∷ []) ≡ (last.closed ++ last.open') ++ s ∷ [] =
-      rw (glyphs_before o s (open_glyphs g placing) b, break_behind o s (open_glyphs g placing) b) (ap (λ l. l ++ s ∷ []) (fill_is width (length o) o)) in
-      more_filled g s ∙ ap (λ l. front g ++ l) line ∙ sym (append_assoc (front g) (last.closed ++ last.open') (s ∷ []))
-      ∙ ap (λ l. l ++ s ∷ []) (sym (append_assoc (front g) last.closed last.open') ∙ sym (filled_is g placing))
+  filled_break g s placing b = grind (arith, cut, glyphs_before, open_glyphs, break_behind, fill_is, more_filled, filled_is, append_assoc)
 
   -- one more character: what is ended stays, and the open line with it is broken at its last space where it doesn't fit
   pub filled_character : (g : List Spot) (s : Spot) → All IsPlacing g → is_glyph s ≡ true → line_fits width (open_line g) ≡ true

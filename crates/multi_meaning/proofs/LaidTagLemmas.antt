@@ -41,12 +41,7 @@ module _ (setting : LineFill) (all : List Spot) (s : Spot) where
 
   -- and so one that isn't in its group
   pub other_leaves : (some : List Spot) (x : Spot) → is_member s.at.area (page_number s.at.page_just) x ≡ false → Leaves some x
-  other_leaves some x apart = elim (cases_Bool (is_glyph x)) [
-    | inl glyph ↦ group_stays some x (false_from_ne_true (is_member x.at.area (page_number x.at.page_just) s) (λ member.
-        let (area, just) = member_at x.at.area (page_number x.at.page_just) s member in
-        both_ways (is_member s.at.area (page_number s.at.page_just) x) apart ((λ i. is_member (area i) (just i) x) ∙ own_member x glyph)))
-    | inr other ↦ rw other refl
-  ]
+  other_leaves some x apart = grind (arith, group_stays, false_from_ne_true, is_member, member_at, both_ways, own_member)
 
   -- a spot of no group leaves all others
   pub unplaced_leaves : is_glyph s ≡ false → is_break s ≡ false → LeavesAll
@@ -68,19 +63,11 @@ module _ (setting : LineFill) (all : List Spot) (s : Spot) where
 
     -- it leaves all others
     pub placed_leaves : LeavesAll
-    placed_leaves some more x is = elim (cases_Bool (is_member s.at.area (page_number s.at.page_just) x)) [
-      | inr other ↦ other_leaves some x other
-      | inl own ↦
-          with_it some (more ++ s ∷ []) x (ap (λ l. l ++ s ∷ []) is ∙ append_assoc some (x ∷ more) (s ∷ [])) own
-          ∙ get_or_append_left (filled (fill_at setting s.at) (group_of s all)) (s' ∷ []) x (length (group_of s some)) (omega (arith, has_place all s.at.area (page_number s.at.page_just) some more x is own, size))
-          ∙ sym (there setting all s.at.area (page_number s.at.page_just) (fill_at setting s.at) same some more x is own)
-    ]
+    placed_leaves some more x is = grind (arith, is_member, other_leaves, with_it, get_or_append_left, has_place, size, there, append_assoc)
 
     -- and is laid itself as the last of its group
     pub laid_last : laid_spot setting (all ++ s ∷ []) all s ≡ s'
-    laid_last =
-        with_it all [] s refl member
-        ∙ get_or_at (filled (fill_at setting s.at) (group_of s all)) s' [] s (length (group_of s all)) (sym size)
+    laid_last = grind (arith, with_it, get_or_at, size)
 
 -- ONE MORE ITEM
 
@@ -91,10 +78,7 @@ module _ (setting : LineFill) (sign : SignData) where
 
   -- an item that puts nothing
   pub laid_nothing : (items : List Meaning) (x : Meaning) → put_at sign.defaults (standing sign items) x ≡ None → laid_items setting sign (items ++ x ∷ []) (items ++ x ∷ []) ≡ laid_items setting sign items items ++ x ∷ []
-  laid_nothing items x none =
-      each_after_push (laid_item setting sign (items ++ x ∷ [])) items x
-      ∙ ap (λ all. each_after (among all) items ++ among all items x ∷ []) (spots_nothing sign items x none)
-      ∙ rw none refl
+  laid_nothing items x none = grind (arith, each_after_push, spots_nothing)
 
   -- one that leaves the others where they are laid, and is laid itself as this spot
   pub laid_behind : (items : List Meaning) (x : Meaning) (put : Put) (y : Spot) → put_at sign.defaults (standing sign items) x ≡ Some put
@@ -125,10 +109,7 @@ module _ (setting : LineFill) (sign : SignData) (items : List Meaning) where
 
   -- the spots of the area in which the next item stands are filled as it would be
   pub same_fill : HasFill setting (fill_at setting (standing sign items)) (standing sign items).area (spots sign items)
-  same_fill =
-      let here = standing sign items in
-      All-weaker (λ (x : Spot). IsBehind sign x.at.area x.at.rectangle items) (λ (x : Spot). x.at.area ≡ here.area → fill_at setting x.at ≡ fill_at setting here)
-      (λ x h same. fill_same setting x.at here (h.1 same)) (spots sign items) (spots_placed sign items)
+  same_fill = grind (arith, All-weaker, IsBehind, fill_same, spots_placed)
 
   -- a placing item behind whose group goes this spot, as it is filled, is laid as this spot
   pub laid_placing : (x : Meaning) (put : Put) (y : Spot) → put_at sign.defaults (standing sign items) x ≡ Some put → is_member (standing sign items).area (page_number (standing sign items).page_just) (spot_of put) ≡ true

@@ -73,17 +73,10 @@ fit_each a b c height h = grind (arith, nat_tests)
 
 -- what holds of the line justifications left, centre, right and full
 pub each_just : (P : ℕ → Type 0) → P 2 → P 3 → P 4 → P 5 → (just : ℕ) → 2 ≤ just → just ≤ 5 → P just
-each_just P p2 p3 p4 p5 just low high = elim (cases_eq just 2) [
-  | inl e ↦ subst P (sym e) p2
-  | inr n2 ↦ elim (cases_eq just 3) [
-    | inl e ↦ subst P (sym e) p3
-    | inr n3 ↦ elim (cases_eq just 4) [ inl e ↦ subst P (sym e) p4 | inr n4 ↦ let five : 5 ≡ just = omega arith in subst P five p5 ]
-  ]
-]
+each_just P p2 p3 p4 p5 just low high = grind arith
 
 pub part_most : (f : ℕ → ℕ) (just height : ℕ) → 2 ≤ just → just ≤ 4 → f 2 + f 3 + f 4 ≤ height → f just ≤ height
-part_most f just height low high room =
-    each_just (λ just. just ≤ 4 → f just ≤ height) (λ _. omega arith) (λ _. omega arith) (λ _. omega arith) (λ h. absurd (omega arith)) just low (omega arith) high
+part_most f just height low high room = grind (arith, each_just)
 
 -- an area that fits has no more lines than pixels
 pub lines_within : (height : ℕ) (area : List Spot) → area_fits height area ≡ true → All (λ (s : Spot). 1 ≤ s.at.font.height) area

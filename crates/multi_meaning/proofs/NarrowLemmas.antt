@@ -116,10 +116,7 @@ module _ (sign : SignData) (sound : IsSound sign) (items : List Meaning) (fits :
 
   -- and no group is higher than a sign
   height : (just : ℕ) → 2 ≤ just → just ≤ 4 → height_of (lines_of (in_group just (present_area sign items))) ≤ 1024
-  height just low top =
-      let tall = λ (just : ℕ). height_of (lines_of (in_group just (present_area sign items))) in
-      let room : tall just ≤ (standing sign items).rectangle.height = part_most tall just (standing sign items).rectangle.height low top (fit_each (tall 2) (tall 3) (tall 4) (standing sign items).rectangle.height high) in
-      omega (arith, room, down, sound.height.1)
+  height just low top = grind (arith, part_most, fit_each)
 
   pub narrow_of : IsNarrowArea (present_area sign items)
   narrow_of = λ just low top. (narrow just, height just low top)
@@ -132,7 +129,4 @@ narrow_area sign sound items none =
 
 -- and the front of a narrow line
 pub narrow_front : (line behind : List Spot) → IsNarrow (line ++ behind) → IsNarrow line
-narrow_front line behind whole = record {
-  width = λ just low high. omega (arith, segment_front just line behind, whole.width just low high);
-  characters = omega (arith, whole.characters, ap length (filter-append (λ t. is_glyph t && (line_number t.at.line_just == 5)) line behind), length-append (segment 5 line) (segment 5 behind));
-}
+narrow_front line behind whole = grind (arith, segment_front, filter-append, length-append)

@@ -35,10 +35,7 @@ module _ (sign : SignData) where
   IsBehind area r items = (area ≤ (standing sign items).area) × (area ≡ (standing sign items).area → r ≡ (standing sign items).rectangle)
 
   behind_push : (area : ℕ) (r : Rectangle) (items : List Meaning) (x : Meaning) → IsBehind area r items → IsBehind area r (items ++ x ∷ [])
-  behind_push area r items x (least, same) = elim (cases_Bool (begins_area x)) [
-    | inl e ↦ let next = rw e at (area_push items x) in (omega (arith, next, least), λ is. absurd (omega (arith, next, least, is)))
-    | inr e ↦ let next = rw e at (area_push items x) in (omega (arith, next, least), λ is. same (omega (arith, is, next)) ∙ sym (rectangle_stays items x (given_none sign x e)))
-  ]
+  behind_push area r items x (least, same) = grind (arith, area_push, rectangle_stays, given_none)
 
   none_placed : All (λ s. IsBehind s.at.area s.at.rectangle []) (spots sign [])
   unfolding spots

@@ -48,23 +48,17 @@ module _ (setting : LineFill) (sign : SignData) (P : Rectangle → List Spot →
   module _ (before : List Meaning) (x : Meaning) where
     -- an area that begins is empty
     holds_new : begins_area x ≡ true → Holds (before ++ x ∷ [])
-    holds_new begins =
-        let r = (standing sign (before ++ x ∷ [])).rectangle in
-        subst (P r) (sym (present_area-new sign before x begins)) (first r)
+    holds_new begins = grind (arith, present_area-new)
 
     -- the area behind the item, by what it is and by the rectangle before the item
     holds_by : (area : List Spot) → given_rectangle sign x ≡ None → present_area sign (before ++ x ∷ []) ≡ area → P (standing sign before).rectangle area → Holds (before ++ x ∷ [])
-    holds_by area gives is holds =
-        subst (λ (r : Rectangle). P r (present_area sign (before ++ x ∷ []))) (sym (rectangle_stays sign before x gives))
-        (subst (P (standing sign before).rectangle) (sym is) holds)
+    holds_by area gives is holds = grind (arith, rectangle_stays)
 
     -- a placing item joins it
     holds_placing : (put : Put) → let spot : Spot = record { at = standing sign before; put = put } in
         given_rectangle sign x ≡ None → begins_area x ≡ false → put_at sign.defaults (standing sign before) x ≡ Some put → (is_glyph spot || is_break spot) ≡ true
         → too_big setting (spots sign before) spot ≡ false → Holds before → Holds (before ++ x ∷ [])
-    holds_placing put gives stays puts placing small old =
-        let spot : Spot = record { at = standing sign before; put = put } in
-        holds_by (present_area sign before ++ spot ∷ []) gives (present_area-placing sign before x put stays puts placing) (joins before put placing small old)
+    holds_placing put gives stays puts placing small old = grind (arith, holds_by, present_area-placing)
 
   holds_character : (before : List Meaning) (number : ℕ) → offence setting sign before (Shows number) ≡ None → Holds before → Holds (before ++ Shows number ∷ [])
   holds_character before number none old = elim (cases_Option (cell_numbered (standing sign before).font number)) [
@@ -116,9 +110,7 @@ module _ (sign : SignData) (sound : IsSound sign) (some : IsSome (font_numbered 
   pub room_of : area_fits (standing sign items).rectangle.height (present_area sign items) ≡ true → (standing sign items).rectangle.height ≤ sign.height
       → length (lines_of (in_group 2 (present_area sign items))) + length (lines_of (in_group 3 (present_area sign items)))
       + length (lines_of (in_group 4 (present_area sign items))) ≤ 128
-  room_of fits within =
-      let lines = lines_within (standing sign items).rectangle.height (present_area sign items) fits (area_high sign sound some items) in
-      omega (arith, lines, within, sound.height.1)
+  room_of fits within = grind (arith, lines_within, area_high)
 
   -- and so has that behind the items of an accepted string
   pub room : IsFine sign items → length (lines_of (in_group 2 (present_area sign items))) + length (lines_of (in_group 3 (present_area sign items)))

@@ -48,9 +48,7 @@ spots_with sign before x rest put is =
 
 -- an item that is no new page leaves the page
 pub same_page_behind : (sign : SignData) (before : List Meaning) (x : Meaning) → is_new_page x ≡ false → (standing sign (before ++ x ∷ [])).page ≡ (standing sign before).page
-same_page_behind sign before x stays =
-    let next : (standing sign (before ++ x ∷ [])).page ≡ (standing sign before).page + cond (is_new_page x) 1 0 = ap (λ (s : Standing). s.page) (standing_push sign before x) in
-    omega (arith, rw stays at next)
+same_page_behind sign before x stays = grind (arith, standing_push)
 
 -- behind a new page stands the next page
 pub next_page_behind : (sign : SignData) (before : List Meaning) → (standing sign (before ++ Does NewPage ∷ [])).page ≡ (standing sign before).page + 1

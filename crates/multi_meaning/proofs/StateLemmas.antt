@@ -44,18 +44,8 @@ module _ (sign : SignData) (items : List Meaning) (x : Meaning) where
 
   -- another area stays
   pub other_area : (k : ℕ) → ((standing sign items).area ≡ k → ⊥) → in_area k (spots sign (items ++ x ∷ [])) ≡ in_area k (spots sign items)
-  other_area k apart = grown k ∙ elim (cases_Option (put_at sign.defaults (standing sign items) x)) [
-    | inl none ↦ rw none (append-nil (in_area k (spots sign items)))
-    | inr (put, e) ↦
-        let none = and_right (is_placing (record { at = standing sign items; put = put })) ((standing sign items).area == k) (ne_eqb (standing sign items).area k apart) in
-        rw (e, none) (append-nil (in_area k (spots sign items)))
-  ]
+  other_area k apart = grind (arith, grown, append-nil, and_right, ne_eqb)
 
   -- a new area has none
   pub present_area-new : begins_area x ≡ true → present_area sign (items ++ x ∷ []) ≡ []
-  present_area-new begins =
-      let k = (standing sign (items ++ x ∷ [])).area in
-      let next : k ≡ (standing sign items).area + 1 = rw begins at (area_push sign items x) in
-      other_area k (λ e. omega (arith, next, e))
-      ∙ filter_none (λ t. is_placing t && (t.at.area == k)) (spots sign items) (All-weaker (λ t. IsBehind sign t.at.area t.at.rectangle items) (λ t. (is_placing t && (t.at.area == k)) ≡ false)
-      (λ t h. and_right (is_placing t) (t.at.area == k) (ne_eqb t.at.area k (λ e. omega (arith, next, h.0, e)))) (spots sign items) (spots_placed sign items))
+  present_area-new begins = grind (arith, area_push, other_area, filter_none, All-weaker, IsBehind, and_right, ne_eqb, spots_placed)

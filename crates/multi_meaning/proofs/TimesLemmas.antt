@@ -107,13 +107,7 @@ module _ (pages before after : List Times) (here : Times) (is : pages ≡ before
   -- in its off time nothing is shown
   pub shown_off : (t : ℕ) → cycle before + here.on ≤ t → t < cycle before + here.on + here.off → shown_within pages t ≡ Off
   unfolding shown_within
-  shown_off t from until =
-      let off : (j : ℕ) → is_on pages t j ≡ false = λ j. elim (cases_order j (length before)) [
-        | inl e ↦ ap (is_on pages t) e ∙ off_behind pages t (length before) here stands (omega (arith, begins))
-        | inr (inl below) ↦ none_before t j (omega arith) below
-        | inr (inr above) ↦ none_after t j (omega arith) above
-      ] in
-      rw (find_none (is_on pages t) 0 (length pages) (λ j _ _. off j)) refl
+  shown_off t from until = grind (arith, off_behind, stands, begins, none_before, none_after, find_none)
 
 -- THE TIMES OF PAGES
 
@@ -155,10 +149,7 @@ ended_count sign before = count_some is_new_page (λ ms. times_at (standing sign
 
 -- there is one page more than new pages begin
 pub times_count : (sign : SignData) (items : List Meaning) → length (page_times sign items) ≡ count_by is_new_page items + 1
-times_count sign items =
-    let times = ended_times sign items in
-    let last = times_at (standing sign items) in
-    omega (arith, ap length (times_are_all sign items), length-append times (last ∷ []), ended_count sign items)
+times_count sign items = grind (arith, times_are_all, length-append, ended_count)
 
 -- THE PAGE AT A CLOCK IS A PAGE
 
@@ -173,25 +164,11 @@ found_below p a n k is =
 
 within_below : (pages : List Times) (time page phase : ℕ) → shown_within pages time ≡ Page page phase → page < length pages
 unfolding shown_within
-within_below pages time page phase is = elim (cases_Option (find (is_on pages time) (range_with_len 0 (length pages)))) [
-  | inl none ↦ absurd (cc (rw none at is))
-  | inr (k, found) ↦
-      let same : k ≡ page = cc (rw found at is) in
-      omega (arith, same, found_below (is_on pages time) 0 (length pages) k found)
-]
+within_below pages time page phase is = grind (arith, found_below)
 
 at_below : (pages : List Times) (clock page phase : ℕ) → 0 < length pages → shown_at pages clock ≡ Page page phase → page < length pages
-at_below pages clock page phase some is = elim (cases_Bool ((length pages == 1) || (cycle pages == 0))) [
-  | inl e ↦
-      let first : Page 0 clock ≡ Page page phase = sym (shown_always pages clock e) ∙ is in
-      let same : 0 ≡ page = cc in
-      omega arith
-  | inr e ↦ within_below pages (clock % cycle pages) page phase (sym (shown_modulo pages clock e) ∙ is)
-]
+at_below pages clock page phase some is = grind (arith, shown_always, within_below, shown_modulo)
 
 -- a page that is shown is one of the string's
 pub page_below : (sign : SignData) (octets : List ℕ) (clock page phase : ℕ) → shown sign octets clock ≡ Page page phase → page < pages_of (meanings octets)
-page_below sign octets clock page phase is =
-    let count = times_count sign (meanings octets) in
-    let below : page < length (page_times sign (meanings octets)) = at_below (page_times sign (meanings octets)) clock page phase (omega (arith, count)) is in
-    omega (arith, count)
+page_below sign octets clock page phase is = grind (arith, times_count, at_below)
