@@ -25,10 +25,7 @@ le_test a b w h k = grind (arith, nat_tests)
 
 -- what fits one line still fits without its last character
 pub fits_front : (width : ℕ) (line : List Spot) (s : Spot) → line_fits width (line ++ s ∷ []) ≡ true → line_fits width line ≡ true
-fits_front width line s h =
-    let grows = λ (just : ℕ). segment_front just line (s ∷ []) in
-    let (parts, full) = and_parts _ _ h in
-    and_from _ _ (smaller_fits _ _ _ _ _ _ width (grows 2) (grows 3) (grows 4) parts) (le_test _ _ width (grows 5) full)
+fits_front width line s h = grind (arith, nat_tests, append_assoc, append-nil, segment_front, and_parts, and_from, smaller_fits, le_test)
 
 pub stays_wide : (width : ℕ) (line : List Spot) (s : Spot) → line_fits width line ≡ false → line_fits width (line ++ s ∷ []) ≡ false
 stays_wide width line s h = false_from_ne_true (line_fits width (line ++ s ∷ [])) (λ fits. false≢true (sym h ∙ fits_front width line s fits))

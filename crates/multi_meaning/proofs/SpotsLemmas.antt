@@ -1,5 +1,6 @@
 -- What the items behind some others put: they leave what was put before, go on with its page and its area, and put nothing into
 -- an area that ended.
+use Rattle.std.proofs.lemmas.Bool.Decides.{nat_tests}
 use Rattle.std.proofs.Common.{◌≡◌, ℕ, ◌+◌, ◌≤◌, true, false, cond, List, [], ◌∷◌, ◌++◌, Option, Some, None, refl, sym, ap, ◌∙◌, arith, append-nil, append_assoc, inl, inr, IfSome, option_map, eq-eqb}
 use Rattle.std.specs.List.{cons_option, All, Contains}
 use Rattle.std.proofs.lemmas.List.Elements.{All-contains_itself, All-weaker, All-nil, All-cons, All-head, All-tail}
@@ -40,11 +41,7 @@ spots_more sign before x put is = spots_push sign before x ∙ rw is refl
 -- all items, with one of them that puts something
 pub spots_with : (sign : SignData) (before : List Meaning) (x : Meaning) (rest : List Meaning) (put : Put) → put_at sign.defaults (standing sign before) x ≡ Some put
     → spots sign (before ++ x ∷ rest) ≡ spots sign before ++ record { at = standing sign before; put = put } ∷ spots_behind sign (before ++ x ∷ []) rest
-spots_with sign before x rest put is =
-    let more = spots_behind sign (before ++ x ∷ []) rest in
-    ap (spots sign) (sym (append_assoc before (x ∷ []) rest)) ∙ spots_split sign (before ++ x ∷ []) rest
-    ∙ ap (λ l. l ++ more) (spots_more sign before x put is)
-    ∙ append_assoc (spots sign before) (record { at = standing sign before; put = put } ∷ []) more
+spots_with sign before x rest put is = grind (arith, nat_tests, append_assoc, append-nil, spots_split, spots_more)
 
 -- an item that is no new page leaves the page
 pub same_page_behind : (sign : SignData) (before : List Meaning) (x : Meaning) → is_new_page x ≡ false → (standing sign (before ++ x ∷ [])).page ≡ (standing sign before).page
