@@ -1,4 +1,5 @@
 -- What an accepted string is, by its one reading.
+use native.Mathlib.Omega.{arith}
 use Rattle.std.proofs.Common.{◌≡◌, ℕ, ◌^◌, ◌<◌, List, [], ◌∷◌, ◌++◌, map, length, refl, sym, ap, ◌∙◌, append-nil}
 use Rattle.multi_token.specs.Reading.{reading}
 use Rattle.multi_token.specs.Spelling.{Item, spell}
@@ -15,12 +16,10 @@ use Rattle.multi_meaning.proofs.WordLemmas.{left_nil, right_nil}
 
 -- accepted means that there is no fault
 no_fault : (pages number : ℕ) (faults : List (ℕ × ℕ)) → Accepted pages ≡ of_first number faults → (pages ≡ number) × (faults ≡ [])
-no_fault pages number [] is = (cc, refl)
-no_fault pages number (fault ∷ faults) is = absurd cc
+no_fault pages number v2 is = grind arith
 
 not_broken : (items : List Item) (rest : List ℕ) → broken items rest ≡ [] → rest ≡ []
-not_broken items [] is = refl
-not_broken items (octet ∷ rest) is = absurd cc
+not_broken items v1 is = grind arith
 
 -- the items of an accepted string are those of its reading, and it has so many pages
 pub accepted_is : (sign : SignData) (octets : List ℕ) (pages : ℕ) → IsVerdict sign octets (Accepted pages) → length octets < 2 ^ 32

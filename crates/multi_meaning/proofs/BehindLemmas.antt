@@ -34,8 +34,7 @@ module _ {X : Type 0} (p : X → Bool) where
       (λ xs c x e h. record { closed = h.closed; open' = list_any-append p c.open' (x ∷ []) ∙ rw (h.open', e) refl })
 
   filter_part : (l : List X) → list_any p l ≡ false → filter (list_any p) (part p l) ≡ []
-  filter_part [] h = refl
-  filter_part (x ∷ l) h = rw h refl
+  filter_part v0 h = grind arith
 
   -- the parts that an item ends are the closed ones
   pub ended_is : (xs : List X) → filter (list_any p) (cut_behind p xs) ≡ (cut p xs).closed

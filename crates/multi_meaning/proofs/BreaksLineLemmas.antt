@@ -30,24 +30,11 @@ use Rattle.multi_meaning.proofs.SpotsLemmas.{spots_behind, spots_more, spots_not
 use Rattle.multi_meaning.proofs.WordLemmas.{All-split, cases_Option, each_after_push, front_ind}
 
 pub space_glyph : (at : Standing) (put : Put) → is_space (record { at = at; put = put }) ≡ true → is_glyph (record { at = at; put = put }) ≡ true
-space_glyph at (Glyph cell) e = refl
-space_glyph at (Break gap) e = absurd cc
-space_glyph at (Cover page colour) e = absurd cc
+space_glyph at v1 e = grind arith
 
 -- an item that puts a space shows 32
 pub space_shown : (defaults : Defaults) (here : Standing) (x : Meaning) (put : Put) → put_at defaults here x ≡ Some put → is_space (record { at = here; put = put }) ≡ true → x ≡ Shows 32
-space_shown defaults here (Shows number) (Glyph cell) e space = elim (cases_Option (cell_numbered here.font number)) [
-  | inl none ↦ absurd (cc (rw none at e))
-  | inr (other, found) ↦
-      let same : other ≡ cell = cc (rw found at e) in
-      ap Shows (sym (found_cell here.font.cells number other found) ∙ ap (λ (c : CellData). c.number) same ∙ eqb-true cell.number 32 space)
-]
-space_shown defaults here (Does (NewLine gap)) (Glyph cell) e space = absurd cc
-space_shown defaults here (Does NewPage) (Glyph cell) e space = absurd cc
-space_shown defaults here (Does (Back colour)) (Glyph cell) e space = absurd cc
-space_shown defaults here x (Glyph cell) e space = absurd cc
-space_shown defaults here x (Break gap) e space = absurd cc
-space_shown defaults here x (Cover page colour) e space = absurd cc
+space_shown defaults here x v3 e space = grind (arith, found_cell, eqb-true)
 
 -- a list with another item in one place, and more behind it, is the same in every other place
 get_other : (xs ys zs : List Spot) (a b d : Spot) (n : ℕ) → (n ≡ length xs → ⊥) → n < length (xs ++ a ∷ ys) → slice_index_or (xs ++ b ∷ (ys ++ zs)) n d ≡ slice_index_or (xs ++ a ∷ ys) n d

@@ -1,4 +1,5 @@
 -- A list cut behind each item that passes a test, at one more item.
+use native.Mathlib.Omega.{arith}
 use Rattle.std.proofs.Common.{◌≡◌, inl, inr, Bool, true, false, cond, List, [], ◌∷◌, ◌++◌, refl, sym, ap, ◌∙◌, append_assoc}
 use Rattle.std.specs.List.{All, fold, onto_first}
 use Rattle.std.proofs.lemmas.Bool.{both_ways, cases_Bool}
@@ -60,10 +61,7 @@ module _ {X : Type 0} (p : X → Bool) where
 
   cut_parts : (xs : List X) (c : Cut X) → Parts xs c
   cut_parts [] c = ap (λ l. c.closed ++ l) (sym (onto-nil c.open'))
-  cut_parts (x ∷ xs) c = elim (cases_Bool (p x)) [
-    | inl e ↦ more xs c x (ends_part c x) (rw e refl) ∙ rw e (cut_parts xs (ends_part c x) ∙ append_assoc c.closed ((c.open' ++ x ∷ []) ∷ []) (cut_behind p xs) ∙ ap (λ l. c.closed ++ l) (sym (onto-cons c.open' (x ∷ []) (cut_behind p xs))))
-    | inr e ↦ more xs c x (longer_part c x) (rw e refl) ∙ rw e (cut_parts xs (longer_part c x) ∙ ap (λ l. c.closed ++ l) (sym (onto_push c.open' x (cut_behind p xs))))
-  ]
+  cut_parts (x ∷ xs) c = grind (arith, more, onto-cons, onto_push, append_assoc, cut_parts xs (ends_part c x), cut_parts xs (longer_part c x))
 
   -- the parts of two lists
   pub cut_append : (xs ys : List X) → cut_behind p (xs ++ ys) ≡ (cut xs).closed ++ onto (cut xs).open' (cut_behind p ys)

@@ -70,8 +70,7 @@ module _ (sign : SignData) (phase colour : ℕ) (all : List Spot) (column row : 
   -- where a page begins, every pixel has it
   pub covered_begins : (before : List Meaning) → BeginsPage before
       → has_colour sign (standing sign before).page phase colour all (spots sign before) column row ≡ (shown_colour sign (standing sign before).back == colour)
-  covered_begins before (inl first) = subst HasBackground (sym first) begins_first
-  covered_begins before (inr (earlier, next)) = subst HasBackground (sym next) (begins_next earlier)
+  covered_begins before v1 = grind (arith, begins_first, begins_next)
 
   -- a pixel after one more character: its colour if the character covers the pixel, else as before
   pub covered_glyph : (before : List Meaning) (number : ℕ) (cell : CellData) → cell_numbered (standing sign before).font number ≡ Some cell →
@@ -119,9 +118,7 @@ colour_beside defaults some more page column row beside = grind (arith, All-weak
 
 -- what a spot of a later page puts is beside this page
 thing_beside : (page phase : ℕ) (place : Place) (spot : Spot) (put : Put) → page < page_put spot.at put → IfSome (thing_at phase place spot put) (IsBeside page)
-thing_beside page phase place spot (Break gap) h = tt
-thing_beside page phase place spot (Cover later back) h = ne_eqb later page (λ e. omega arith)
-thing_beside page phase place spot (Glyph cell) h = ne_eqb spot.at.page page (λ e. omega arith)
+thing_beside page phase place spot v4 h = grind (arith, ne_eqb)
 
 module _ (sign : SignData) (page phase colour : ℕ) (all : List Spot) (column row : ℕ) where
   -- spots of later pages leave every pixel of a page

@@ -1,4 +1,5 @@
 -- One more item keeps every break of filling, and adds at most one, on its line.
+use native.Mathlib.Omega.{arith}
 use Rattle.std.proofs.Common.{◌≡◌, ◌⊎◌, inl, inr, ℕ, true, false, map, List, [], ◌∷◌, ◌++◌, Option, Some, None, refl, sym, ap, subst, ◌∙◌, append_assoc, append-nil, option_map}
 use Rattle.std.specs.List.{All, AllPass}
 use Rattle.std.proofs.lemmas.Bool.{cases_Bool, eqb-true}
@@ -93,9 +94,7 @@ shown_by Words sign items number fits (Some cell) found =
     filled_shown sign items number cell found (ap (line_fits c.at.rectangle.width) (sym is) ∙ fits refl (page_number c.at.page_just))
 
 kept : (setting : LineFill) (sign : SignData) (items : List Meaning) (x : Meaning) → (setting ≡ Words → OpenLinesFit sign items) → Kept setting sign items x
-kept setting sign items (Shows number) fits = shown_by setting sign items number fits (cell_numbered (standing sign items).font number) refl
-kept setting sign items (Does tag) fits = inl (laid_tag setting sign items tag)
-kept setting sign items (Faulty code) fits = inl (laid_nothing setting sign items (Faulty code) refl)
+kept setting sign items v3 fits = grind (arith, shown_by, laid_tag, laid_nothing)
 
 pub keeps_breaks : KeepsBreaks
 keeps_breaks sign before item none = kept sign.line_fill sign (map meaning before) (meaning item) (λ words. open_lines_fit sign words before none)

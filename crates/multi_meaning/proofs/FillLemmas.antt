@@ -49,12 +49,10 @@ module _ (width : ℕ) where
   broken_wide cs h = rw h refl
 
   longer_nil : (o : Option (CutAt Spot)) → option_map (longer []) o ≡ o
-  longer_nil None = refl
-  longer_nil (Some c) = ap (λ l. let d : CutAt Spot = record c { behind = l } in Some d) (append-nil c.behind)
+  longer_nil v0 = grind (arith, append-nil)
 
   longer_twice : (xs ys : List Spot) (o : Option (CutAt Spot)) → option_map (longer (xs ++ ys)) o ≡ option_map (longer ys) (option_map (longer xs) o)
-  longer_twice xs ys None = refl
-  longer_twice xs ys (Some c) = ap (λ l. let d : CutAt Spot = record c { behind = l } in Some d) (sym (append_assoc c.behind xs ys))
+  longer_twice xs ys v2 = grind (arith, append_assoc)
 
   -- the first character that no longer fits: the line is broken at its last space, which may be that character
   pub broken_first : (cs : List Spot) (s : Spot) → line_fits width cs ≡ true → line_fits width (cs ++ s ∷ []) ≡ false → soft_break width (cs ++ s ∷ []) ≡ cut_at_last is_space (cs ++ s ∷ [])
@@ -85,11 +83,7 @@ module _ (width : ℕ) where
 
   -- characters without a space stay together
   pub fill_still : (n : ℕ) (cs : List Spot) → cut_at_last is_space cs ≡ None → fill n width cs ≡ cs
-  fill_still zero cs none = refl
-  fill_still (suc n) cs none = ap (broken_off (fill n width) cs) (elim (cases_Bool (line_fits width cs)) [
-    | inl fits ↦ broken_fits cs fits
-    | inr wide ↦ broken_wide cs wide ∙ rw (none_take is_space cs (most cs) none) refl
-  ])
+  fill_still v0 cs none = grind (arith, broken_fits, broken_wide, none_take)
 
   -- THE LAST LINE
 

@@ -47,10 +47,7 @@ module _ {X : Type 0} (p : X → Bool) where
 
   cut_step : (b d : Bool) (y : X) (xs : List X) (x : X) (o : Option (CutAt X))
       → option_map_or (onto y) (cut_more b xs x o) (alone d y (xs ++ x ∷ [])) ≡ cut_more b (y ∷ xs) x (option_map_or (onto y) o (alone d y xs))
-  cut_step true d y xs x o = refl
-  cut_step false d y xs x (Some c) = refl
-  cut_step false true y xs x None = refl
-  cut_step false false y xs x None = refl
+  cut_step v0 d y xs x o = grind arith
 
   pub cut_push : (xs : List X) (x : X) → cut_at_last p (xs ++ x ∷ []) ≡ cut_more (p x) xs x (cut_at_last p xs)
   cut_push [] x = elim (cases_Bool (p x)) [ inl e ↦ rw e refl | inr e ↦ rw e refl ]

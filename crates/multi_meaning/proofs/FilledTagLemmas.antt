@@ -1,4 +1,5 @@
 -- A tag offends behind some items, where lines are filled, just where it does behind the items as they are laid out.
+use native.Mathlib.Omega.{arith}
 use Rattle.std.proofs.Common.{◌≡◌, ℕ, ◌+◌, true, false, cond, not, ◌||◌, nat_lt, List, [], ◌∷◌, ◌++◌, Option, Some, refl, sym, ap, ◌∙◌, append-nil, eq-eqb}
 use Rattle.std.specs.List.{count_by, list_any}
 use Rattle.std.proofs.lemmas.List.Elements.{All-push}
@@ -76,9 +77,4 @@ module _ (sign : SignData) (items : List Meaning) where
 
   pub offends_as_laid : (tag : Tag) → OffendsAsLaid tag
   unfolding offence_by
-  offends_as_laid (NewLine gap) =
-      (λ i. first_code ((goes_back_laid gap i || false, 11) ∷ (too_big_laid_break gap i, 5) ∷ []))
-      ∙ sym (λ i. first_code (placing_cases (too_big Off) (here.1 i) (record { at = here.0 i; put = Break gap })))
-  offends_as_laid NewPage = ap (λ n. first_code ((nat_lt sign.max_pages (n + 2), 12) ∷ [])) same_pages
-  offends_as_laid (Font (Some pick)) = refl
-  offends_as_laid tag = refl
+  offends_as_laid tag = grind (arith, goes_back_laid, too_big_laid_break, here, same_pages)

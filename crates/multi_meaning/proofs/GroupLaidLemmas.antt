@@ -38,8 +38,7 @@ members_with a j xs ys x e = grind (arith, members-append, members_push, append_
 
 -- a laid spot is in the group of its spot
 pub same_member : (a j : ℕ) (x y : Spot) → LaidAs x y → is_member a j y ≡ is_member a j x
-same_member a j x y (inl e) = ap (is_member a j) e
-same_member a j x y (inr (glyph, e)) = ap (is_member a j) e ∙ ap (λ b. ((b || is_break x) && (x.at.area == a)) && (page_number x.at.page_just == j)) (sym glyph)
+same_member a j x y v4 = grind arith
 
 -- a spot of a group is of its area and has its page justification
 pub member_at : (a j : ℕ) (x : Spot) → is_member a j x ≡ true → (x.at.area ≡ a) × (page_number x.at.page_just ≡ j)

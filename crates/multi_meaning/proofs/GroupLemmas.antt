@@ -1,4 +1,5 @@
 -- Placing items, and the groups of an area.
+use native.Mathlib.Omega.{arith}
 use Rattle.std.proofs.Common.{◌≡◌, ℕ, Bool, true, false, ◌&&◌, ◌||◌, ◌==◌, List, [], ◌∷◌, ◌++◌, None, refl, ◌∙◌, append-nil}
 use Rattle.std.proofs.lemmas.Bool.{and_parts, eq-eqb, false≢true, ne_eqb, or_cases}
 use Rattle.std.proofs.lemmas.List.Elements.{All-weaker, filter-append, All-filter, filter_passes}
@@ -14,14 +15,10 @@ pub filter_yes : {X : Type 0} (p : X → Bool) (xs : List X) (x : X) → p x ≡
 filter_yes p xs x h = filter-append p xs (x ∷ []) ∙ rw h refl
 
 pub glyph_put : (at : Standing) (p : Put) → is_glyph (record { at = at; put = p }) ≡ true → (is_break (record { at = at; put = p }) ≡ false) × (given_gap (record { at = at; put = p }) ≡ None)
-glyph_put at (Glyph cell) e = (refl, refl)
-glyph_put at (Break gap) e = absurd (false≢true e)
-glyph_put at (Cover page colour) e = absurd (false≢true e)
+glyph_put at v1 e = grind (arith, false≢true)
 
 pub break_put : (at : Standing) (p : Put) → is_break (record { at = at; put = p }) ≡ true → is_glyph (record { at = at; put = p }) ≡ false
-break_put at (Glyph cell) e = absurd (false≢true e)
-break_put at (Break gap) e = refl
-break_put at (Cover page colour) e = refl
+break_put at v1 e = grind (arith, false≢true)
 
 pub placing_group : (just : ℕ) (area : List Spot) → All IsPlacing area → All IsPlacing (in_group just area)
 placing_group just area h = All-filter (λ t. page_number t.at.page_just == just) IsPlacing area h

@@ -41,8 +41,7 @@ module _ (sign : SignData) where
 
 -- what holds of each value that is given and of the one before holds of the one in force
 in_force_by : {A : Type 0} (P : A → Type 0) (o : Option A) (a : A) → IfSome o P → P a → P (unwrap_or o a)
-in_force_by P None a given old = old
-in_force_by P (Some b) a given old = given
+in_force_by v0 v1 a given old = grind arith
 
 -- ---- the rectangle in force
 
@@ -67,10 +66,7 @@ whole_in_sign sign = record { across = omega arith; down = omega arith }
 module _ (sign : SignData) (big : List Spot → Spot → Bool) where
   -- a rectangle that an item gives is inside the sign
   given_in_sign : (before : List Meaning) (x : Meaning) → offence_by big sign before x ≡ None → IfSome (given_rectangle sign x) (IsInSign sign)
-  given_in_sign before (Does NewPage) none = whole_in_sign sign
-  given_in_sign before (Does (Rect x y w h)) none =
-      rectangle_in_sign sign x y w h (true_from_ne_false (is_inside sign x y w h) (λ outside. let wrong : ◌≡◌ {A = Option ℕ} (Some 4) None = rw outside at (sym (offence-rectangle big sign before x y w h) ∙ none) in cc))
-  given_in_sign before x none = tt
+  given_in_sign before x none = grind (arith, whole_in_sign, rectangle_in_sign, true_from_ne_false, Option, offence-rectangle)
 
   first_in_sign : IsInSign sign (standing sign []).rectangle
   unfolding standing
@@ -96,10 +92,7 @@ module _ (sign : SignData) (big : List Spot → Spot → Bool) where
 -- what holds of each holds of the one that is found
 found_each : {X : Type 0} (P : X → Type 0) (p : X → Bool) (xs : List X) → All P xs → IfSome (find p xs) P
 found_each P p [] all = tt
-found_each P p (x ∷ xs) all = elim (cases_Bool (p x)) [
-  | inl here ↦ rw here (All-head P x xs all)
-  | inr there ↦ rw there (found_each P p xs (All-tail P x xs all))
-]
+found_each P p (x ∷ xs) all = grind (arith, All-head, All-tail, found_each P p xs (All-tail P x xs all))
 
 -- a cell of at least one column
 abbrev IsWideCell : CellData → Type 0
@@ -117,8 +110,7 @@ high_numbered : (sign : SignData) (number : ℕ) → IsSound sign → IfSome (fo
 high_numbered sign number sound = grind (arith, found_each, All-weaker)
 
 high_default : (o : Option FontData) (font : FontData) → IsSome o → IfSome o HighFont → HighFont (unwrap_or o font)
-high_default None font some high = absurd (false≢true some)
-high_default (Some found) font some high = high
+high_default v0 font some high = grind (arith, false≢true)
 
 -- what an item puts where the font in force is high
 high_put : (defaults : Defaults) (here : Standing) (x : Meaning) → HighFont here.font → IfSome (put_at defaults here x) (λ put. let spot : Spot = record { at = here; put = put } in High spot)
@@ -141,9 +133,7 @@ module _ (sign : SignData) (sound : IsSound sign) (some : IsSome (font_numbered 
 
   -- a font that an item gives is high
   given_high : (x : Meaning) → IfSome (given_font sign x) HighFont
-  given_high (Does (Font None)) = default_high
-  given_high (Does (Font (Some pick))) = high_numbered sign pick.number sound
-  given_high x = tt
+  given_high x = grind (arith, default_high, high_numbered)
 
   first_high : IsHigh sign []
   unfolding standing spots

@@ -19,12 +19,10 @@ use Rattle.multi_meaning.proofs.MeaningLemmas.{meaning-tag}
 
 -- an octet that was read, by a comparison
 pub read_is : (found : Option ℕ) (octet : ℕ) → true ≡ option_eq nat_eq found (Some octet) → found ≡ Some octet
-read_is None octet e = cc
-read_is (Some x) octet e = ap Some (eqb-true x octet (sym e))
+read_is v0 octet e = grind (arith, eqb-true)
 
 pub read_not : (found : Option ℕ) (octet : ℕ) → false ≡ option_eq nat_eq found (Some octet) → found ≡ Some octet → ⊥
-read_not None octet e is = cc
-read_not (Some x) octet e is = let same : x ≡ octet = cc in absurd (false≢true (e ∙ eq-eqb x octet same))
+read_not v0 octet e is = grind (arith, false≢true, eq-eqb)
 
 module _ (octets : List ℕ) (at : ℕ) where
   -- a doubled bracket

@@ -1,4 +1,5 @@
 -- The items of a string as they are laid out: a space that is dropped is the end of its line, as an `nl` is.
+use native.Mathlib.Omega.{arith}
 use Rattle.std.proofs.Common.{◌≡◌, ◌||◌, ℕ, true, List, [], ◌∷◌, ◌++◌, Option, Some, None, inl, inr, refl, sym, ap, subst, ◌∙◌, append-nil, option_map}
 use Rattle.std.specs.List.{cons_option}
 use Rattle.std.proofs.lemmas.Bool.{false≢true}
@@ -24,24 +25,17 @@ module _ (sign : SignData) (here at : Standing) where
   -- a placing item gives nothing that stays in force, as an `nl` gives nothing
   nothing_given : (item : Meaning) (put : Put) (gap : Option ℕ) → put_at sign.defaults at item ≡ Some put → (is_glyph (spot_of put) || is_break (spot_of put)) ≡ true
       → standing_behind sign here (Does (NewLine gap)) ≡ standing_behind sign here item
-  nothing_given (Shows number) put gap e placing = refl
-  nothing_given (Does (NewLine other)) put gap e placing = refl
-  nothing_given item (Glyph cell) gap e placing = absurd cc
-  nothing_given item (Break other) gap e placing = absurd cc
-  nothing_given item (Cover page colour) gap e placing = absurd (false≢true placing)
+  nothing_given item put gap e placing = grind (arith, false≢true)
 
   -- an item that is laid as this spot puts it, and the same stays in force behind it
   abbrev IsLaid : Meaning → Spot → Type 0
   IsLaid item y = (standing_behind sign here (laid_of item (Some y)) ≡ standing_behind sign here item) × (spot_at sign.defaults at (laid_of item (Some y)) ≡ Some y)
 
   itself : (item : Meaning) (put : Put) → put_at sign.defaults at item ≡ Some put → IsLaid item (spot_of put)
-  itself item (Glyph cell) e = (refl, ap (option_map spot_of) e)
-  itself item (Break gap) e = (nothing_given item (Break gap) gap e refl, refl)
-  itself item (Cover page colour) e = (refl, ap (option_map spot_of) e)
+  itself item v1 e = grind (arith, nothing_given)
 
   is_laid : (item : Meaning) (put : Put) (y : Spot) → put_at sign.defaults at item ≡ Some put → LaidAs (spot_of put) y → IsLaid item y
-  is_laid item put y e (inl same) = subst (IsLaid item) (sym same) (itself item put e)
-  is_laid item put y e (inr (glyph, drop)) = subst (IsLaid item) (sym drop) (nothing_given item put None e (rw glyph refl), refl)
+  is_laid item put y e v4 = grind (arith, itself, nothing_given)
 
 module _ (setting : LineFill) (sign : SignData) where
   -- the same is in force behind them, and what they put is laid as it is in the string

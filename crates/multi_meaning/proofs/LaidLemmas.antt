@@ -124,28 +124,21 @@ module _ (width : ℕ) where
 
 -- a group, filled to a width or to none: nothing, and one more `nl`
 pub filled_none : (o : Option ℕ) → filled o [] ≡ []
-filled_none None = refl
-filled_none (Some width) = refl
+filled_none v0 = grind arith
 
 pub filled_behind : (o : Option ℕ) (g : List Spot) (s : Spot) → All IsPlacing g → is_break s ≡ true → filled o (g ++ s ∷ []) ≡ filled o g ++ s ∷ []
-filled_behind None g s placing b = refl
-filled_behind (Some width) g s placing b = filled_break width g s placing b
+filled_behind v0 g s placing b = grind (arith, filled_break)
 
 -- a cut list with characters behind it
 cut_glyphs : (ys : List Spot) (c : Cut Spot) → AllPass is_glyph ys → cut_from is_break c ys ≡ record { closed = c.closed; open' = c.open' ++ ys }
 cut_glyphs [] c h = ap (λ l. let d : Cut Spot = record { closed = c.closed; open' = l } in d) (sym (append-nil c.open'))
-cut_glyphs (y ∷ ys) c h =
-    let one : cut_more is_break c y ≡ longer_part is_break c y = rw (glyph_put y.at y.put (All-head (λ x. is_glyph x ≡ true) y ys h)).0 refl in
-    ap (λ d. cut_from is_break d ys) one
-    ∙ cut_glyphs ys (longer_part is_break c y) (All-tail (λ x. is_glyph x ≡ true) y ys h)
-    ∙ ap (λ l. let d : Cut Spot = record { closed = c.closed; open' = l } in d) (append_assoc c.open' (y ∷ []) ys)
+cut_glyphs (y ∷ ys) c h = grind (arith, cut_more, longer_part, glyph_put, All-head, cut_from, All-tail, Cut, append_assoc, cut_glyphs ys (longer_part is_break c y) (All-tail (λ x. is_glyph x ≡ true) y ys h))
 
 pub cut_with : (ys xs : List Spot) → AllPass is_glyph ys → cut is_break (xs ++ ys) ≡ record { closed = (cut is_break xs).closed; open' = (cut is_break xs).open' ++ ys }
 cut_with ys xs h = fold-append (cut_more is_break) (record { closed = []; open' = [] }) xs ys ∙ cut_glyphs ys (cut is_break xs) h
 
 pub ends_open : (width : ℕ) (xs : List Spot) → Ends width xs → (cut is_break xs).open' ≡ []
-ends_open width xs (inl none) = ap (λ l. (cut is_break l).open') none
-ends_open width xs (inr (ys, b, is, e)) = ap (λ l. (cut is_break l).open') e ∙ ap (λ (c : Cut Spot). c.open') (cut_push is_break ys b) ∙ rw is refl
+ends_open width xs v2 = grind (arith, cut, Cut, cut_push)
 
 -- the open line of a filled group stands behind its last end of a line
 pub open_line_is : (width : ℕ) (g : List Spot) → All IsPlacing g → after_last is_break (filled (Some width) g) ≡ open_line width g

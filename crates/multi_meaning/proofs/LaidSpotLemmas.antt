@@ -1,4 +1,5 @@
 -- The laid spots of a string: each is the spot itself or a dropped space, and those of a group are the group, filled.
+use native.Mathlib.Omega.{arith}
 use Rattle.std.proofs.Common.{◌≡◌, ◌⊎◌, inl, inr, ℕ, true, List, [], ◌∷◌, ◌++◌, length, Option, Some, None, zero, suc, refl, sym, ap, subst, ◌∙◌, append_assoc}
 use Rattle.std.specs.List.{flat_map, All, AllPass, AllZip}
 use Rattle.multi_meaning.specs.Address.{Spot, is_glyph, is_break}
@@ -56,5 +57,4 @@ module _ (width : ℕ) where
 
 -- a filled group has each of its items in its place
 pub filled_laid : (o : Option ℕ) (g : List Spot) → All IsPlacing g → LaidAll g (filled o g)
-filled_laid None g placing = same_laid g
-filled_laid (Some width) g placing = some_laid width g placing
+filled_laid v0 g placing = grind (arith, same_laid, some_laid)

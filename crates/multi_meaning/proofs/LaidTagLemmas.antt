@@ -100,8 +100,7 @@ module _ (setting : LineFill) (sign : SignData) where
 
 -- lines are filled to one width in one rectangle
 fill_same : (setting : LineFill) (a b : Standing) → a.rectangle ≡ b.rectangle → fill_at setting a ≡ fill_at setting b
-fill_same Off a b e = refl
-fill_same Words a b e = ap (λ r. Some r.width) e
+fill_same v0 a b e = grind arith
 
 module _ (setting : LineFill) (sign : SignData) (items : List Meaning) where
   abbrev spot_of : Put → Spot

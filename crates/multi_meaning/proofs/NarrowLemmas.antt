@@ -89,12 +89,7 @@ module _ (sign : SignData) where
 -- the characters of a segment are at least one column wide
 wide_segment : (just : ℕ) (line : List Spot) → All (λ (s : Spot). is_glyph s ≡ true → 1 ≤ glyph_width s) line → All (λ (s : Spot). 1 ≤ glyph_width s) (segment just line)
 wide_segment just [] all = All-nil (λ (s : Spot). 1 ≤ glyph_width s)
-wide_segment just (s ∷ line) all =
-    let rest = wide_segment just line (All-tail (λ (s : Spot). is_glyph s ≡ true → 1 ≤ glyph_width s) s line all) in
-    elim (cases_Bool (is_glyph s && (line_number s.at.line_just == just))) [
-      | inl own ↦ rw own (All-cons (λ (s : Spot). 1 ≤ glyph_width s) s (segment just line) (All-head (λ (s : Spot). is_glyph s ≡ true → 1 ≤ glyph_width s) s line all (and_parts (is_glyph s) _ own).0) rest)
-      | inr other ↦ rw other rest
-    ]
+wide_segment just (s ∷ line) all = grind (arith, All-tail, All-cons, All-head, and_parts, wide_segment just line (All-tail (λ (s : Spot). is_glyph s ≡ true → 1 ≤ glyph_width s) s line all))
 
 module _ (sign : SignData) (sound : IsSound sign) (items : List Meaning) (fits : LinesFit (standing sign items).rectangle.width (present_area sign items))
     (high : area_fits (standing sign items).rectangle.height (present_area sign items) ≡ true) (across : (standing sign items).rectangle.width ≤ sign.width) (down : (standing sign items).rectangle.height ≤ sign.height) where

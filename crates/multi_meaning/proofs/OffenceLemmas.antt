@@ -1,4 +1,5 @@
 -- The error of an item, by the tests of its cases.
+use native.Mathlib.Omega.{arith}
 use Rattle.std.proofs.Common.{◌≡◌, inl, inr, ℕ, ◌+◌, Bool, true, false, cond, List, [], ◌∷◌, Option, Some, None, refl, ap, ◌∙◌, nat_lt, not, ◌==◌, count_by}
 use Rattle.std.specs.Option.{option_map_or}
 use Rattle.std.proofs.lemmas.Bool.{cases_Bool}
@@ -14,9 +15,7 @@ one_case : (a : Bool) (n : ℕ) → first_code ((a, n) ∷ []) ≡ cond a (Some 
 one_case a n = elim (cases_Bool a) [ inl e ↦ rw e refl | inr e ↦ rw e refl ]
 
 two_cases : (a b : Bool) (n m : ℕ) → first_code ((a, n) ∷ (b, m) ∷ []) ≡ cond a (Some n) (cond b (Some m) None)
-two_cases true b n m = refl
-two_cases false true n m = refl
-two_cases false false n m = refl
+two_cases v0 b n m = grind arith
 
 module _ (big : List Spot → Spot → Bool) (sign : SignData) (items : List Meaning) where
   -- a character without a cell

@@ -1,4 +1,5 @@
 -- The items of a string as they are laid out offend by nothing but their size, where those of the string don't.
+use native.Mathlib.Omega.{arith}
 use Rattle.std.proofs.Common.{◌≡◌, ℕ, ◌+◌, Bool, true, false, cond, ◌&&◌, ◌||◌, nat_lt, inl, inr, List, [], ◌∷◌, ◌++◌, map, Option, Some, None, refl, sym, ap, subst, ◌∙◌, append_assoc, append-nil, option_map}
 use Rattle.std.proofs.lemmas.Bool.{cases_Bool, or_from, or_parts}
 use Rattle.std.specs.List.{after_last, count_by, list_any}
@@ -49,11 +50,7 @@ module _ (setting : LineFill) (all : List Spot) (a j : ℕ) (p : Spot → Bool) 
   any_other xs x e = ap (λ l. list_any p (after_last is_break l)) (members_push a j xs x false e ∙ append-nil (members a j xs))
 
   joins : (b c : Bool) (x y : Spot) → LaidAs x y → (b ≡ false → c ≡ false) → cond (is_break x) false (b || (p x || false)) ≡ false → cond (is_break y) false (c || (p y || false)) ≡ false
-  joins b c x y (inr (glyph, drop)) ih none = rw drop refl
-  joins b c x y (inl same) ih none = rw same (elim (cases_Bool (is_break x)) [
-    | inl ends ↦ rw ends refl
-    | inr stays ↦ let parts = or_parts b (p x || false) (rw stays at none) in rw (stays, ih parts.0) parts.1
-  ])
+  joins b c x y v4 ih none = grind (arith, or_parts)
 
   none_laid : (some more : List Spot) → all ≡ some ++ more → None_of some
   none_laid = front_ind all None_of (λ none. none) (λ some more x is ih none.
@@ -135,11 +132,7 @@ module _ (setting : LineFill) (sign : SignData) (all : List Meaning) where
   -- an item that places nothing offends by its page alone
   same_offence : (xs ys : List Meaning) → count_by is_new_page xs ≡ count_by is_new_page ys → (x : Meaning) → has_place x ≡ false → unsized_offence sign xs x ≡ unsized_offence sign ys x
   unfolding offence_by
-  same_offence xs ys pages (Shows number) e = absurd cc
-  same_offence xs ys pages (Does (NewLine gap)) e = absurd cc
-  same_offence xs ys pages (Does NewPage) e = ap (λ n. first_code ((nat_lt sign.max_pages (n + 2), 12) ∷ [])) pages
-  same_offence xs ys pages (Does (Font (Some pick))) e = refl
-  same_offence xs ys pages x e = refl
+  same_offence xs ys pages x e = grind arith
 
   pages_same : (some more : List Meaning) → all ≡ some ++ more → count_by is_new_page (before some) ≡ count_by is_new_page some
   unfolding standing

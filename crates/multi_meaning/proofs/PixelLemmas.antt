@@ -1,4 +1,5 @@
 -- What things give a pixel of a page.
+use native.Mathlib.Omega.{arith}
 use Rattle.std.proofs.Common.{◌≡◌, ℕ, cond, ◌&&◌, ◌==◌, List, [], ◌∷◌, Option, Some, None, refl, sym, ◌∙◌}
 use Rattle.std.specs.List.{AllByRecursion, cons_option, filter_map}
 use Rattle.multi_meaning.specs.Picture.{Thing}
@@ -15,8 +16,7 @@ picked page column row (Some thing) = pick page column row thing
 
 pick_cons : (page column row : ℕ) (thing : Option Thing) (rest : List Thing)
     → filter_map (pick page column row) (cons_option thing rest) ≡ cons_option (picked page column row thing) (filter_map (pick page column row) rest)
-pick_cons page column row None rest = refl
-pick_cons page column row (Some thing) rest = refl
+pick_cons page column row v3 rest = grind arith
 
 -- what items make, one after the other, gives a pixel the same where each gives it the same
 pub all_same : {X : Type 0} (page column row : ℕ) (f g : List X → X → Option Thing) (Holds : X → Type 0)

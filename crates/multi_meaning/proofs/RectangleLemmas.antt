@@ -14,9 +14,7 @@ use Rattle.multi_meaning.proofs.WordLemmas.{push_ind}
 
 -- an item that begins no area gives no rectangle
 given_none : (sign : SignData) (x : Meaning) → begins_area x ≡ false → given_rectangle sign x ≡ None
-given_none sign (Does NewPage) e = absurd (false≢true (sym e))
-given_none sign (Does (Rect x y w h)) e = absurd (false≢true (sym e))
-given_none sign x e = refl
+given_none sign x e = grind (arith, false≢true)
 
 module _ (sign : SignData) where
   pub area_push : (items : List Meaning) (x : Meaning) → (standing sign (items ++ x ∷ [])).area ≡ (standing sign items).area + cond (begins_area x) 1 0

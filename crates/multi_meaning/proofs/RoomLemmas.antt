@@ -28,9 +28,7 @@ use Rattle.multi_meaning.proofs.StateLemmas.{present_area-placing, present_area-
 
 -- a placing item that doesn't offend isn't too big
 not_big : (a b : Bool) → cond {A = Option ℕ} a (Some 11) (cond b (Some 5) None) ≡ None → b ≡ false
-not_big true b e = cc
-not_big false true e = cc
-not_big false false e = refl
+not_big v0 b e = grind arith
 
 -- what holds of an empty area in each rectangle, and stays where a placing item joins that isn't too big, holds of the present
 -- area of an accepted string

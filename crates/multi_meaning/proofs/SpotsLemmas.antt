@@ -58,12 +58,7 @@ same_back sign before = ap (λ (s : Standing). s.back) (standing_push sign befor
 -- what f makes of each of some items has a property
 pub some_all : {X Y : Type 0} (P : X → Type 0) (Q : Y → Type 0) (f : List X → X → Option Y) (xs : List X) → All P xs → ((before : List X) (x : X) → P x → IfSome (f before x) Q) → All Q (some_after f xs)
 some_all P Q f [] h each = All-nil Q
-some_all P Q f (x ∷ xs) h each =
-    let rest = some_all P Q (λ before. f (x ∷ before)) xs (All-tail P x xs h) (λ before. each (x ∷ before)) in
-    elim (cases_Option (f [] x)) [
-      | inl none ↦ rw none rest
-      | inr (y, e) ↦ rw e (All-cons Q y (some_after (λ before. f (x ∷ before)) xs) (rw e at (each [] x (All-head P x xs h))) rest)
-    ]
+some_all P Q f (x ∷ xs) h each = grind (arith, All-tail, All-cons, All-head, some_all P Q (λ before. f (x ∷ before)) xs (All-tail P x xs h) (λ before. each (x ∷ before)))
 
 -- the page of what is put
 abbrev pub page_put : Standing → Put → ℕ
@@ -75,11 +70,7 @@ abbrev pub IsFrom : ℕ → Spot → Type 0
 IsFrom page s = page ≤ page_put s.at s.put
 
 spot_page : (here : Standing) (low : ℕ) → low ≤ here.page → (defaults : Defaults) (x : Meaning) → IfSome (spot_at defaults here x) (IsFrom low)
-spot_page here low reached defaults (Shows number) = elim (cases_Option (cell_numbered here.font number)) [ inl none ↦ rw none tt | inr (cell, found) ↦ rw found reached ]
-spot_page here low reached defaults (Does (NewLine gap)) = reached
-spot_page here low reached defaults (Does NewPage) = omega arith
-spot_page here low reached defaults (Does (Back colour)) = reached
-spot_page here low reached defaults _ = tt
+spot_page here low reached defaults v4 = grind arith
 
 -- pages don't fall along the items, nor do areas
 page_on : (sign : SignData) (before more : List Meaning) → (standing sign before).page ≤ (standing sign (before ++ more)).page
@@ -99,9 +90,7 @@ pages_behind sign before behind =
 
 -- an item that begins an area places nothing
 begins_none : (k : ℕ) (defaults : Defaults) (here : Standing) (x : Meaning) → begins_area x ≡ true → in_area k (cons_option (spot_at defaults here x) []) ≡ []
-begins_none k defaults here (Does NewPage) begins = refl
-begins_none k defaults here (Does (Rect x y w h)) begins = refl
-begins_none k defaults here _ begins = absurd (cc)
+begins_none k defaults here v3 begins = grind arith
 
 module _ (sign : SignData) (before : List Meaning) where
   -- behind an item that begins an area stands the next area
@@ -123,8 +112,7 @@ module _ (sign : SignData) (before : List Meaning) where
   -- where an area ends, the rest of the string puts nothing into it
   pub area_ends : (behind : List Meaning) → EndsArea behind
       → in_area (standing sign before).area (spots sign (before ++ behind)) ≡ in_area (standing sign before).area (spots sign before)
-  area_ends behind (inl last) = ap (λ l. in_area (standing sign before).area (spots sign l)) (ap (λ l. before ++ l) last ∙ append-nil before)
-  area_ends behind (inr (x, rest, begins, next)) = ap (λ l. in_area (standing sign before).area (spots sign (before ++ l))) next ∙ ends_next x rest begins
+  area_ends behind v1 = grind (arith, append-nil, ends_next)
 
   -- a character joins its area, and the items behind it come after it
   pub area_with_glyph : (number : ℕ) (cell : CellData) (rest : List Meaning) → cell_numbered (standing sign before).font number ≡ Some cell →

