@@ -11,7 +11,7 @@ use Rattle.multi_meaning.proofs.CutLemmas.{Cut, cut, part, cut_behind_is, cut_in
 
 module _ {X : Type 0} (p : X → Bool) where
   pub after_last_push : (xs : List X) (x : X) → after_last p (xs ++ x ∷ []) ≡ cond (p x) [] (after_last p xs ++ x ∷ [])
-  after_last_push xs x = grind (arith, suffix_len-le-length, length-append, reverse-append, drop_all, drop-append-le)
+  after_last_push xs x = grind (arith, length-append, reverse-append, drop_all, drop-append-le)
 
   abbrev pub cut_if : Bool → Cut X → X → Cut X
   cut_if b c x = cond b (record { closed = c.closed ++ (c.open' ++ x ∷ []) ∷ []; open' = [] }) (record { closed = c.closed; open' = c.open' ++ x ∷ [] })
@@ -38,4 +38,4 @@ module _ {X : Type 0} (p : X → Bool) where
 
   -- the parts that an item ends are the closed ones
   pub ended_is : (xs : List X) → filter (list_any p) (cut_behind p xs) ≡ (cut p xs).closed
-  ended_is xs = grind (arith, cut, ends, cut_behind_is, filter-append, part, filter_part, append-nil)
+  ended_is xs = grind (arith, ends, cut_behind_is, filter-append, append-nil)

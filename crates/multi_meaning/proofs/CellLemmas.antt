@@ -8,7 +8,7 @@ use Rattle.sign_font.specs.Cell as cells
 pub put_row_of : (cell : cells.SizedCell) (r word column row left shown x y : ℕ) → cells.IsRowOf cell r word → cell.width ≤ 64 → shown ≡ min cell.width left → x < column + left
     → is_put column row shown word x y ≡ ((y == row) && nat_le column x && cells.is_lit cell (x - column) r)
 unfolding is_put
-put_row_of cell r word column row left shown x y is narrow shown_is inside = grind (arith, ne_eqb, eq-eqb, lt-leb, le-leb, lt-ltb, le-ltb)
+put_row_of cell r word column row left shown x y is narrow shown_is inside = grind arith
 
 -- the pixels of a cell with its upper left pixel at a column and a row
 abbrev pub covers : cells.SizedCell → ℕ → ℕ → ℕ → ℕ → Bool

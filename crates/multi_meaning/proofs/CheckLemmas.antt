@@ -11,10 +11,10 @@ use Rattle.multi_meaning.proofs.WordLemmas.{largest_push, extent_push, push_ind}
 
 -- a test of each item against a number is one of the largest
 lt_none : (n : ℕ) → false ≡ nat_lt n 0
-lt_none n = grind (arith, nat_tests)
+lt_none n = grind arith
 
 lt_max : (n a b : ℕ) → (nat_lt n a || (nat_lt n b || false)) ≡ nat_lt n (max a b)
-lt_max n a b = grind (arith, nat_tests)
+lt_max n a b = grind arith
 
 pub any_largest : {X : Type 0} (f : X → ℕ) (n : ℕ) (xs : List X) → list_any (λ x. nat_lt n (f x)) xs ≡ nat_lt n (largest f xs)
 any_largest f n = push_ind (λ xs. list_any (λ x. nat_lt n (f x)) xs ≡ nat_lt n (largest f xs)) (lt_none n)

@@ -30,7 +30,7 @@ module _ (sign : SignData) (octets : List ℕ) (pages tenths : ℕ) (verdict : I
 
   -- else what is shown is that at the clock modulo the cycle
   pub shown_in_turn : (clock : ℕ) → (pages ≡ 1 → ⊥) → (tenths ≡ 0 → ⊥) → shown sign octets clock ≡ shown_within times (clock % tenths)
-  shown_in_turn clock many some = grind (arith, ne_eqb, count, same, shown_modulo)
+  shown_in_turn clock many some = grind (arith, count, same, shown_modulo)
 
   -- the clock modulo the cycle is below it
   pub below_cycle : (clock : ℕ) → (tenths ≡ 0 → ⊥) → clock % tenths < cycle times

@@ -61,7 +61,7 @@ module _ {X : Type 0} (p : X → Bool) where
 
   cut_parts : (xs : List X) (c : Cut X) → Parts xs c
   cut_parts [] c = ap (λ l. c.closed ++ l) (sym (onto-nil c.open'))
-  cut_parts (x ∷ xs) c = grind (arith, more, onto-cons, onto_push, append_assoc, cut_parts xs (ends_part c x), cut_parts xs (longer_part c x))
+  cut_parts (x ∷ xs) c = grind (arith, onto-cons, onto_push, append_assoc, cut_parts xs (ends_part c x), cut_parts xs (longer_part c x))
 
   -- the parts of two lists
   pub cut_append : (xs ys : List X) → cut_behind p (xs ++ ys) ≡ (cut xs).closed ++ onto (cut xs).open' (cut_behind p ys)

@@ -114,11 +114,11 @@ IsBeside page t = (t.page == page) ≡ false
 
 -- things of other pages leave the colour of a pixel
 colour_beside : (defaults : Defaults) (some more : List Thing) (page column row : ℕ) → All (IsBeside page) more → colour_of defaults (some ++ more) page column row ≡ colour_of defaults some page column row
-colour_beside defaults some more page column row beside = grind (arith, All-weaker, filter_map-append, maps_none, append-nil)
+colour_beside defaults some more page column row beside = grind (arith, filter_map-append, maps_none, append-nil)
 
 -- what a spot of a later page puts is beside this page
 thing_beside : (page phase : ℕ) (place : Place) (spot : Spot) (put : Put) → page < page_put spot.at put → IfSome (thing_at phase place spot put) (IsBeside page)
-thing_beside page phase place spot v4 h = grind (arith, ne_eqb)
+thing_beside page phase place spot v4 h = grind arith
 
 module _ (sign : SignData) (page phase colour : ℕ) (all : List Spot) (column row : ℕ) where
   -- spots of later pages leave every pixel of a page

@@ -11,7 +11,7 @@ use Rattle.multi_meaning.proofs.GroupLemmas.{glyph_put}
 
 -- one more `nl` ends the open line
 pub ended_break : (g : List Spot) (s : Spot) → is_break s ≡ true → ended_lines (g ++ s ∷ []) ≡ ended_lines g ++ (after_last is_break g ++ s ∷ []) ∷ []
-ended_break g s b = grind (arith, ended_is, Cut, cut_push, after_last_is)
+ended_break g s b = grind (arith, ended_is, cut_push, after_last_is)
 
 -- one more character ends none
 pub ended_glyph : (g : List Spot) (s : Spot) → is_glyph s ≡ true → ended_lines (g ++ s ∷ []) ≡ ended_lines g

@@ -21,11 +21,11 @@ pub segment_front : (just : ℕ) (line behind : List Spot) → width_of (segment
 segment_front just line behind = grind (arith, extent-append-le, filter-append)
 
 pub le_test : (a b w : ℕ) → a ≤ b → nat_le b w ≡ true → nat_le a w ≡ true
-le_test a b w h k = grind (arith, nat_tests)
+le_test a b w h k = grind arith
 
 -- what fits one line still fits without its last character
 pub fits_front : (width : ℕ) (line : List Spot) (s : Spot) → line_fits width (line ++ s ∷ []) ≡ true → line_fits width line ≡ true
-fits_front width line s h = grind (arith, nat_tests, append_assoc, append-nil, segment_front, and_parts, and_from, smaller_fits, le_test)
+fits_front width line s h = grind (arith, nat_tests, segment_front)
 
 pub stays_wide : (width : ℕ) (line : List Spot) (s : Spot) → line_fits width line ≡ false → line_fits width (line ++ s ∷ []) ≡ false
 stays_wide width line s h = false_from_ne_true (line_fits width (line ++ s ∷ [])) (λ fits. false≢true (sym h ∙ fits_front width line s fits))
@@ -56,11 +56,11 @@ module _ (width : ℕ) where
 
   -- the first character that no longer fits: the line is broken at its last space, which may be that character
   pub broken_first : (cs : List Spot) (s : Spot) → line_fits width cs ≡ true → line_fits width (cs ++ s ∷ []) ≡ false → soft_break width (cs ++ s ∷ []) ≡ cut_at_last is_space (cs ++ s ∷ [])
-  broken_first cs s fits wide = grind (arith, longest_push, longest_all, length-append, broken_wide, drop_all, take_all, longer_nil)
+  broken_first cs s fits wide = grind (arith, longest_push, longest_all, length-append, drop_all, take_all, longer_nil)
 
   -- a later one leaves the break
   pub broken_later : (cs : List Spot) (s : Spot) → line_fits width cs ≡ false → soft_break width (cs ++ s ∷ []) ≡ option_map (longer (s ∷ [])) (soft_break width cs)
-  broken_later cs s wide = grind (arith, stays_wide, longest_push, longest_short, nothing_fits, broken_wide, drop-append-le, take-append-le, longer_twice)
+  broken_later cs s wide = grind (arith, stays_wide, longest_push, longest_short, drop-append-le, take-append-le, longer_twice)
 
   pub broken_is_wide : (cs : List Spot) (c : CutAt Spot) → soft_break width cs ≡ Some c → line_fits width cs ≡ false
   broken_is_wide cs c e = false_from_ne_true (line_fits width cs) (λ fits. let wrong : ◌≡◌ {A = Option (CutAt Spot)} None (Some c) = sym (broken_fits cs fits) ∙ e in cc)
@@ -83,7 +83,7 @@ module _ (width : ℕ) where
 
   -- characters without a space stay together
   pub fill_still : (n : ℕ) (cs : List Spot) → cut_at_last is_space cs ≡ None → fill n width cs ≡ cs
-  fill_still v0 cs none = grind (arith, broken_fits, broken_wide, none_take)
+  fill_still v0 cs none = grind (arith, none_take)
 
   -- THE LAST LINE
 

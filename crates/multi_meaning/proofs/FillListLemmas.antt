@@ -14,7 +14,7 @@ prefixes_push xs x = ap (λ l. [] ∷ l) (each_after_push (λ before x. before +
 
 -- one more item: the whole, or the longest so far
 pub longest_push : {X : Type 0} (p : List X → Bool) (xs : List X) (x : X) → longest_prefix p (xs ++ x ∷ []) ≡ cond (p (xs ++ x ∷ [])) (xs ++ x ∷ []) (longest_prefix p xs)
-longest_push p xs x = grind (arith, prefixes_push, filter-append, last_or-append, cond_both)
+longest_push p xs x = grind (arith, prefixes_push, filter-append, last_or-append)
 
 -- it is all of a list that passes
 pub longest_all : {X : Type 0} (p : List X → Bool) (xs : List X) → p xs ≡ true → longest_prefix p xs ≡ xs

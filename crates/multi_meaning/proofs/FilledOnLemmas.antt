@@ -24,14 +24,14 @@ module _ (setting : LineFill) (width : ℕ) (a : ℕ) where
 
   -- the largest page justification stays, since what is laid stands where it did
   pub same_at : (x y : Spot) → LaidAs x y → (in_areas a y ≡ in_areas a x) × (page_number y.at.page_just ≡ page_number x.at.page_just)
-  same_at x y v2 = grind (arith, in_areas)
+  same_at x y v2 = grind arith
 
   pub one_more : (xs : List Spot) (x : Spot) → in_area a (xs ++ x ∷ []) ≡ in_area a xs ++ cond (in_areas a x) (x ∷ []) []
   one_more xs x = filter-append (in_areas a) xs (x ∷ [])
 
   largest_more : (xs : List Spot) (x : Spot) → let f = largest (λ (t : Spot). page_number t.at.page_just) in
       f (in_area a (xs ++ x ∷ [])) ≡ cond (in_areas a x) (max (f (in_area a xs)) (page_number x.at.page_just)) (f (in_area a xs))
-  largest_more xs x = grind (arith, one_more, in_areas, largest_push, append-nil)
+  largest_more xs x = grind (arith, one_more, largest_push, append-nil)
 
   pub largest_laid : (all some more : List Spot) → all ≡ some ++ more → largest (λ (t : Spot). page_number t.at.page_just) (in_area a (laid setting all some)) ≡ largest (λ (t : Spot). page_number t.at.page_just) (in_area a some)
   largest_laid all =

@@ -34,7 +34,7 @@ members_push a j xs x b e = members-append a j xs (x ∷ []) ∙ ap (λ l. membe
 
 -- the members with one of them in its place
 pub members_with : (a j : ℕ) (xs ys : List Spot) (x : Spot) → is_member a j x ≡ true → members a j (xs ++ x ∷ ys) ≡ members a j xs ++ x ∷ members a j ys
-members_with a j xs ys x e = grind (arith, members-append, members_push, append_assoc)
+members_with a j xs ys x e = grind (arith, members-append)
 
 -- a laid spot is in the group of its spot
 pub same_member : (a j : ℕ) (x y : Spot) → LaidAs x y → is_member a j y ≡ is_member a j x
@@ -42,7 +42,7 @@ same_member a j x y v4 = grind arith
 
 -- a spot of a group is of its area and has its page justification
 pub member_at : (a j : ℕ) (x : Spot) → is_member a j x ≡ true → (x.at.area ≡ a) × (page_number x.at.page_just ≡ j)
-member_at a j x member = grind (arith, and_parts, eqb-true)
+member_at a j x member = grind arith
 
 pub own_member : (x : Spot) → is_glyph x ≡ true → is_member x.at.area (page_number x.at.page_just) x ≡ true
 own_member x glyph = rw (glyph, eq-eqb x.at.area x.at.area refl, eq-eqb (page_number x.at.page_just) (page_number x.at.page_just) refl) refl
@@ -73,7 +73,7 @@ module _ (all : List Spot) (a j : ℕ) (some more : List Spot) (x : Spot) (is : 
 module _ (setting : LineFill) (all : List Spot) where
   -- a spot of the string is laid as itself or as a dropped space
   pub laid_as : (some more : List Spot) (x : Spot) → all ≡ some ++ x ∷ more → LaidAs x (laid_spot setting all some x)
-  laid_as some more x is = grind (arith, LaidAs, in_place, own_member)
+  laid_as some more x is = grind (arith, in_place)
 
   module _ (a j : ℕ) (fill : Option ℕ) (same : HasFill setting fill a all) where
     -- the group, filled
@@ -82,7 +82,7 @@ module _ (setting : LineFill) (all : List Spot) where
 
     -- a spot of the group is laid as the item in its place in the filled group
     pub there : (some more : List Spot) (x : Spot) → all ≡ some ++ x ∷ more → is_member a j x ≡ true → laid_spot setting all some x ≡ slice_index_or (filled fill (members a j all)) (length (members a j some)) x
-    there some more x is member = grind (arith, member_at, All-around, in_place, both_ways)
+    there some more x is member = grind (arith, All-around, in_place)
 
     -- it has as many items
     pub whole_length : length (members a j all) ≡ length (filled fill (members a j all))

@@ -66,14 +66,14 @@ whole_in_sign sign = record { across = omega arith; down = omega arith }
 module _ (sign : SignData) (big : List Spot → Spot → Bool) where
   -- a rectangle that an item gives is inside the sign
   given_in_sign : (before : List Meaning) (x : Meaning) → offence_by big sign before x ≡ None → IfSome (given_rectangle sign x) (IsInSign sign)
-  given_in_sign before x none = grind (arith, whole_in_sign, rectangle_in_sign, true_from_ne_false, Option, offence-rectangle)
+  given_in_sign before x none = grind (arith, rectangle_in_sign, offence-rectangle)
 
   first_in_sign : IsInSign sign (standing sign []).rectangle
   unfolding standing
   first_in_sign = whole_in_sign sign
 
   next_in_sign : (before : List Meaning) (x : Meaning) → offence_by big sign before x ≡ None → IsInSign sign (standing sign before).rectangle → IsInSign sign (standing sign (before ++ x ∷ [])).rectangle
-  next_in_sign before x none old = grind (arith, standing_push, in_force_by, given_in_sign)
+  next_in_sign before x none old = grind (arith, standing_push, given_in_sign)
 
   -- behind the items of an accepted string the rectangle in force is inside the sign
   pub rectangle_inside : (items : List Meaning) → some_after (offence_by big sign) items ≡ [] → IsInSign sign (standing sign items).rectangle
@@ -92,7 +92,7 @@ module _ (sign : SignData) (big : List Spot → Spot → Bool) where
 -- what holds of each holds of the one that is found
 found_each : {X : Type 0} (P : X → Type 0) (p : X → Bool) (xs : List X) → All P xs → IfSome (find p xs) P
 found_each P p [] all = tt
-found_each P p (x ∷ xs) all = grind (arith, All-head, All-tail, found_each P p xs (All-tail P x xs all))
+found_each P p (x ∷ xs) all = grind (arith, All-head, found_each P p xs (All-tail P x xs all))
 
 -- a cell of at least one column
 abbrev IsWideCell : CellData → Type 0
@@ -107,10 +107,10 @@ abbrev High : Spot → Type 0
 High s = (1 ≤ s.at.font.height) × (is_glyph s ≡ true → 1 ≤ glyph_width s)
 
 high_numbered : (sign : SignData) (number : ℕ) → IsSound sign → IfSome (font_numbered sign number) HighFont
-high_numbered sign number sound = grind (arith, found_each, All-weaker)
+high_numbered sign number sound = grind (arith, found_each)
 
 high_default : (o : Option FontData) (font : FontData) → IsSome o → IfSome o HighFont → HighFont (unwrap_or o font)
-high_default v0 font some high = grind (arith, false≢true)
+high_default v0 font some high = grind arith
 
 -- what an item puts where the font in force is high
 high_put : (defaults : Defaults) (here : Standing) (x : Meaning) → HighFont here.font → IfSome (put_at defaults here x) (λ put. let spot : Spot = record { at = here; put = put } in High spot)
@@ -133,7 +133,7 @@ module _ (sign : SignData) (sound : IsSound sign) (some : IsSome (font_numbered 
 
   -- a font that an item gives is high
   given_high : (x : Meaning) → IfSome (given_font sign x) HighFont
-  given_high x = grind (arith, default_high, high_numbered)
+  given_high x = grind (arith, high_numbered)
 
   first_high : IsHigh sign []
   unfolding standing spots

@@ -19,10 +19,10 @@ use Rattle.multi_meaning.proofs.MeaningLemmas.{meaning-tag}
 
 -- an octet that was read, by a comparison
 pub read_is : (found : Option ℕ) (octet : ℕ) → true ≡ option_eq nat_eq found (Some octet) → found ≡ Some octet
-read_is v0 octet e = grind (arith, eqb-true)
+read_is v0 octet e = grind arith
 
 pub read_not : (found : Option ℕ) (octet : ℕ) → false ≡ option_eq nat_eq found (Some octet) → found ≡ Some octet → ⊥
-read_not v0 octet e is = grind (arith, false≢true, eq-eqb)
+read_not v0 octet e is = grind arith
 
 module _ (octets : List ℕ) (at : ℕ) where
   -- a doubled bracket
@@ -33,7 +33,7 @@ module _ (octets : List ℕ) (at : ℕ) where
 
   -- a tag of the table
   pub tag_at : (tag : Tag) (len : ℕ) → IsTagAt octets at tag len → IsItemAt octets at len (said_by tag)
-  tag_at tag len (is, spells) = grind (arith, meaning-tag, tag_of-spelled)
+  tag_at tag len (is, spells) = grind (arith, tag_of-spelled)
 
   -- the steps of one look and of the octets ahead, for a tag that stands there
   pub ahead_steps : (tag : Tag) (len steps : ℕ) → IsTagAt octets at tag len → steps ≡ 1 + min 26 (length octets - (at + 1)) → (len - 1 ≤ steps) × (steps ≤ 9 * len - 9)

@@ -25,17 +25,17 @@ module _ (sign : SignData) (here at : Standing) where
   -- a placing item gives nothing that stays in force, as an `nl` gives nothing
   nothing_given : (item : Meaning) (put : Put) (gap : Option ℕ) → put_at sign.defaults at item ≡ Some put → (is_glyph (spot_of put) || is_break (spot_of put)) ≡ true
       → standing_behind sign here (Does (NewLine gap)) ≡ standing_behind sign here item
-  nothing_given item put gap e placing = grind (arith, false≢true)
+  nothing_given item put gap e placing = grind arith
 
   -- an item that is laid as this spot puts it, and the same stays in force behind it
   abbrev IsLaid : Meaning → Spot → Type 0
   IsLaid item y = (standing_behind sign here (laid_of item (Some y)) ≡ standing_behind sign here item) × (spot_at sign.defaults at (laid_of item (Some y)) ≡ Some y)
 
   itself : (item : Meaning) (put : Put) → put_at sign.defaults at item ≡ Some put → IsLaid item (spot_of put)
-  itself item v1 e = grind (arith, nothing_given)
+  itself item v1 e = grind arith
 
   is_laid : (item : Meaning) (put : Put) (y : Spot) → put_at sign.defaults at item ≡ Some put → LaidAs (spot_of put) y → IsLaid item y
-  is_laid item put y e v4 = grind (arith, itself, nothing_given)
+  is_laid item put y e v4 = grind arith
 
 module _ (setting : LineFill) (sign : SignData) where
   -- the same is in force behind them, and what they put is laid as it is in the string

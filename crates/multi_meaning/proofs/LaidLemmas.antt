@@ -58,14 +58,14 @@ module _ (width : ℕ) where
 
   -- a filled group is what is ended and the open line
   pub filled_is : (g : List Spot) → All IsPlacing g → filled (Some width) g ≡ ended g ++ open_line g
-  filled_is g placing = grind (arith, cut, cut_behind_is, flat_map-append, part, part_filled, open_glyphs, fill_is, append_assoc)
+  filled_is g placing = grind (arith, cut_behind_is, flat_map-append, part_filled, open_glyphs, fill_is, append_assoc)
 
   more_filled : (g : List Spot) (s : Spot) → filled (Some width) (g ++ s ∷ []) ≡ front g ++ filled_line width ((cut is_break g).open' ++ s ∷ [])
   more_filled g s = ap (flat_map (filled_line width)) (cut_behind_push is_break g s) ∙ flat_map_push (filled_line width) (cut is_break g).closed ((cut is_break g).open' ++ s ∷ [])
 
   -- one more `nl` stands behind the filled group
   pub filled_break : (g : List Spot) (s : Spot) → All IsPlacing g → is_break s ≡ true → filled (Some width) (g ++ s ∷ []) ≡ filled (Some width) g ++ s ∷ []
-  filled_break g s placing b = grind (arith, cut, glyphs_before, open_glyphs, break_behind, fill_is, more_filled, filled_is, append_assoc)
+  filled_break g s placing b = grind (arith, glyphs_before, open_glyphs, break_behind, fill_is, more_filled, filled_is, append_assoc)
 
   -- one more character: what is ended stays, and the open line with it is broken at its last space where it doesn't fit
   pub filled_character : (g : List Spot) (s : Spot) → All IsPlacing g → is_glyph s ≡ true → line_fits width (open_line g) ≡ true
@@ -132,13 +132,13 @@ filled_behind v0 g s placing b = grind (arith, filled_break)
 -- a cut list with characters behind it
 cut_glyphs : (ys : List Spot) (c : Cut Spot) → AllPass is_glyph ys → cut_from is_break c ys ≡ record { closed = c.closed; open' = c.open' ++ ys }
 cut_glyphs [] c h = ap (λ l. let d : Cut Spot = record { closed = c.closed; open' = l } in d) (sym (append-nil c.open'))
-cut_glyphs (y ∷ ys) c h = grind (arith, cut_more, longer_part, glyph_put, All-head, cut_from, All-tail, Cut, append_assoc, cut_glyphs ys (longer_part is_break c y) (All-tail (λ x. is_glyph x ≡ true) y ys h))
+cut_glyphs (y ∷ ys) c h = grind (arith, All-head, append_assoc, cut_glyphs ys (longer_part is_break c y) (All-tail (λ x. is_glyph x ≡ true) y ys h))
 
 pub cut_with : (ys xs : List Spot) → AllPass is_glyph ys → cut is_break (xs ++ ys) ≡ record { closed = (cut is_break xs).closed; open' = (cut is_break xs).open' ++ ys }
 cut_with ys xs h = fold-append (cut_more is_break) (record { closed = []; open' = [] }) xs ys ∙ cut_glyphs ys (cut is_break xs) h
 
 pub ends_open : (width : ℕ) (xs : List Spot) → Ends width xs → (cut is_break xs).open' ≡ []
-ends_open width xs v2 = grind (arith, cut, Cut, cut_push)
+ends_open width xs v2 = grind (arith, cut_push)
 
 -- the open line of a filled group stands behind its last end of a line
 pub open_line_is : (width : ℕ) (g : List Spot) → All IsPlacing g → after_last is_break (filled (Some width) g) ≡ open_line width g

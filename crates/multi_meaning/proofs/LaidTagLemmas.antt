@@ -41,7 +41,7 @@ module _ (setting : LineFill) (all : List Spot) (s : Spot) where
 
   -- and so one that isn't in its group
   pub other_leaves : (some : List Spot) (x : Spot) → is_member s.at.area (page_number s.at.page_just) x ≡ false → Leaves some x
-  other_leaves some x apart = grind (arith, group_stays, false_from_ne_true, is_member, member_at, both_ways, own_member)
+  other_leaves some x apart = grind (arith, group_stays)
 
   -- a spot of no group leaves all others
   pub unplaced_leaves : is_glyph s ≡ false → is_break s ≡ false → LeavesAll
@@ -63,7 +63,7 @@ module _ (setting : LineFill) (all : List Spot) (s : Spot) where
 
     -- it leaves all others
     pub placed_leaves : LeavesAll
-    placed_leaves some more x is = grind (arith, is_member, other_leaves, with_it, get_or_append_left, has_place, size, there, append_assoc)
+    placed_leaves some more x is = grind (arith, other_leaves, with_it, get_or_append_left, has_place, size, there, append_assoc)
 
     -- and is laid itself as the last of its group
     pub laid_last : laid_spot setting (all ++ s ∷ []) all s ≡ s'
@@ -108,7 +108,7 @@ module _ (setting : LineFill) (sign : SignData) (items : List Meaning) where
 
   -- the spots of the area in which the next item stands are filled as it would be
   pub same_fill : HasFill setting (fill_at setting (standing sign items)) (standing sign items).area (spots sign items)
-  same_fill = grind (arith, All-weaker, IsBehind, fill_same, spots_placed)
+  same_fill = grind (arith, spots_placed)
 
   -- a placing item behind whose group goes this spot, as it is filled, is laid as this spot
   pub laid_placing : (x : Meaning) (put : Put) (y : Spot) → put_at sign.defaults (standing sign items) x ≡ Some put → is_member (standing sign items).area (page_number (standing sign items).page_just) (spot_of put) ≡ true

@@ -89,7 +89,7 @@ module _ (sign : SignData) where
 -- the characters of a segment are at least one column wide
 wide_segment : (just : ℕ) (line : List Spot) → All (λ (s : Spot). is_glyph s ≡ true → 1 ≤ glyph_width s) line → All (λ (s : Spot). 1 ≤ glyph_width s) (segment just line)
 wide_segment just [] all = All-nil (λ (s : Spot). 1 ≤ glyph_width s)
-wide_segment just (s ∷ line) all = grind (arith, All-tail, All-cons, All-head, and_parts, wide_segment just line (All-tail (λ (s : Spot). is_glyph s ≡ true → 1 ≤ glyph_width s) s line all))
+wide_segment just (s ∷ line) all = grind (arith, All-head, wide_segment just line (All-tail (λ (s : Spot). is_glyph s ≡ true → 1 ≤ glyph_width s) s line all))
 
 module _ (sign : SignData) (sound : IsSound sign) (items : List Meaning) (fits : LinesFit (standing sign items).rectangle.width (present_area sign items))
     (high : area_fits (standing sign items).rectangle.height (present_area sign items) ≡ true) (across : (standing sign items).rectangle.width ≤ sign.width) (down : (standing sign items).rectangle.height ≤ sign.height) where
@@ -111,7 +111,7 @@ module _ (sign : SignData) (sound : IsSound sign) (items : List Meaning) (fits :
 
   -- and no group is higher than a sign
   height : (just : ℕ) → 2 ≤ just → just ≤ 4 → height_of (lines_of (in_group just (present_area sign items))) ≤ 1024
-  height just low top = grind (arith, part_most, fit_each)
+  height just low top = grind (arith, fit_each)
 
   pub narrow_of : IsNarrowArea (present_area sign items)
   narrow_of = λ just low top. (narrow just, height just low top)

@@ -50,7 +50,7 @@ module _ (setting : LineFill) (all : List Spot) (a j : ℕ) (p : Spot → Bool) 
   any_other xs x e = ap (λ l. list_any p (after_last is_break l)) (members_push a j xs x false e ∙ append-nil (members a j xs))
 
   joins : (b c : Bool) (x y : Spot) → LaidAs x y → (b ≡ false → c ≡ false) → cond (is_break x) false (b || (p x || false)) ≡ false → cond (is_break y) false (c || (p y || false)) ≡ false
-  joins b c x y v4 ih none = grind (arith, or_parts)
+  joins b c x y v4 ih none = grind arith
 
   none_laid : (some more : List Spot) → all ≡ some ++ more → None_of some
   none_laid = front_ind all None_of (λ none. none) (λ some more x is ih none.

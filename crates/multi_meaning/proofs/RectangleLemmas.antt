@@ -14,7 +14,7 @@ use Rattle.multi_meaning.proofs.WordLemmas.{push_ind}
 
 -- an item that begins no area gives no rectangle
 given_none : (sign : SignData) (x : Meaning) → begins_area x ≡ false → given_rectangle sign x ≡ None
-given_none sign x e = grind (arith, false≢true)
+given_none sign x e = grind arith
 
 module _ (sign : SignData) where
   pub area_push : (items : List Meaning) (x : Meaning) → (standing sign (items ++ x ∷ [])).area ≡ (standing sign items).area + cond (begins_area x) 1 0
@@ -33,7 +33,7 @@ module _ (sign : SignData) where
   IsBehind area r items = (area ≤ (standing sign items).area) × (area ≡ (standing sign items).area → r ≡ (standing sign items).rectangle)
 
   behind_push : (area : ℕ) (r : Rectangle) (items : List Meaning) (x : Meaning) → IsBehind area r items → IsBehind area r (items ++ x ∷ [])
-  behind_push area r items x (least, same) = grind (arith, area_push, rectangle_stays, given_none)
+  behind_push area r items x (least, same) = grind (arith, area_push, rectangle_stays)
 
   none_placed : All (λ s. IsBehind s.at.area s.at.rectangle []) (spots sign [])
   unfolding spots

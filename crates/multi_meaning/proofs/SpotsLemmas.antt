@@ -41,7 +41,7 @@ spots_more sign before x put is = spots_push sign before x ∙ rw is refl
 -- all items, with one of them that puts something
 pub spots_with : (sign : SignData) (before : List Meaning) (x : Meaning) (rest : List Meaning) (put : Put) → put_at sign.defaults (standing sign before) x ≡ Some put
     → spots sign (before ++ x ∷ rest) ≡ spots sign before ++ record { at = standing sign before; put = put } ∷ spots_behind sign (before ++ x ∷ []) rest
-spots_with sign before x rest put is = grind (arith, nat_tests, append_assoc, append-nil, spots_split, spots_more)
+spots_with sign before x rest put is = grind (arith, append_assoc, append-nil, spots_split)
 
 -- an item that is no new page leaves the page
 pub same_page_behind : (sign : SignData) (before : List Meaning) (x : Meaning) → is_new_page x ≡ false → (standing sign (before ++ x ∷ [])).page ≡ (standing sign before).page
@@ -58,7 +58,7 @@ same_back sign before = ap (λ (s : Standing). s.back) (standing_push sign befor
 -- what f makes of each of some items has a property
 pub some_all : {X Y : Type 0} (P : X → Type 0) (Q : Y → Type 0) (f : List X → X → Option Y) (xs : List X) → All P xs → ((before : List X) (x : X) → P x → IfSome (f before x) Q) → All Q (some_after f xs)
 some_all P Q f [] h each = All-nil Q
-some_all P Q f (x ∷ xs) h each = grind (arith, All-tail, All-cons, All-head, some_all P Q (λ before. f (x ∷ before)) xs (All-tail P x xs h) (λ before. each (x ∷ before)))
+some_all P Q f (x ∷ xs) h each = grind (arith, All-head, some_all P Q (λ before. f (x ∷ before)) xs (All-tail P x xs h) (λ before. each (x ∷ before)))
 
 -- the page of what is put
 abbrev pub page_put : Standing → Put → ℕ

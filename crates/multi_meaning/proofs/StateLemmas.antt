@@ -44,8 +44,8 @@ module _ (sign : SignData) (items : List Meaning) (x : Meaning) where
 
   -- another area stays
   pub other_area : (k : ℕ) → ((standing sign items).area ≡ k → ⊥) → in_area k (spots sign (items ++ x ∷ [])) ≡ in_area k (spots sign items)
-  other_area k apart = grind (arith, grown, append-nil, and_right, ne_eqb)
+  other_area k apart = grind (arith, grown, append-nil)
 
   -- a new area has none
   pub present_area-new : begins_area x ≡ true → present_area sign (items ++ x ∷ []) ≡ []
-  present_area-new begins = grind (arith, area_push, other_area, filter_none, All-weaker, IsBehind, and_right, ne_eqb, spots_placed)
+  present_area-new begins = grind (arith, area_push, other_area, filter_none, spots_placed)

@@ -107,7 +107,7 @@ module _ (pages before after : List Times) (here : Times) (is : pages ≡ before
   -- in its off time nothing is shown
   pub shown_off : (t : ℕ) → cycle before + here.on ≤ t → t < cycle before + here.on + here.off → shown_within pages t ≡ Off
   unfolding shown_within
-  shown_off t from until = grind (arith, off_behind, stands, begins, none_before, none_after, find_none)
+  shown_off t from until = grind (arith, stands, begins, none_before, none_after, find_none)
 
 -- THE TIMES OF PAGES
 

@@ -91,7 +91,7 @@ largest_most {X} f = push_ind (λ xs. All (λ x. f x ≤ largest f xs) xs) (All-
 -- what holds of each holds around one of them, and of it
 pub All-around : {X : Type 0} (P : X → Type 0) (xs : List X) (x : X) (ys : List X) → All P (xs ++ x ∷ ys) → All P xs × P x × All P ys
 All-around P [] x ys h = (All-nil P, All-head P x ys h, All-tail P x ys h)
-All-around P (z ∷ xs) x ys h = grind (arith, All-tail, All-cons, All-head, All-around P xs x ys (All-tail P z (xs ++ x ∷ ys) h))
+All-around P (z ∷ xs) x ys h = grind (arith, All-head, All-around P xs x ys (All-tail P z (xs ++ x ∷ ys) h))
 
 pub All-split : {X : Type 0} (P : X → Type 0) (xs : List X) (x : X) → All P (xs ++ x ∷ []) → All P xs × P x
 All-split P xs x h = let parts = All-around P xs x [] h in (parts.0, parts.1)
