@@ -1,15 +1,15 @@
 -- What an accepted string is, by its one reading.
 use native.Mathlib.Omega.{arith}
-use Rattle.std.proofs.Common.{◌≡◌, ℕ, ◌^◌, ◌<◌, List, [], ◌∷◌, ◌++◌, map, length, refl, sym, ap, ◌∙◌, append-nil}
+use Rattle.std.proofs.Common.{◌≡◌, ℕ, ◌^◌, ◌<◌, List, [], map, length, ap, ◌∙◌, append-nil}
 use Rattle.multi_token.specs.Reading.{reading}
-use Rattle.multi_token.specs.Spelling.{Item, spell}
+use Rattle.multi_token.specs.Spelling.{Item}
 use Rattle.multi_token.proofs.SpellingLemmas.{one_reading}
 use Rattle.multi_token.proofs.ReadingLemmas.{each_string_has_a_reading}
 use Rattle.sign_font.specs.Sign.{SignData}
 use Rattle.multi_meaning.specs.LaidItems.{laid_out}
 use Rattle.multi_meaning.specs.Meaning.{meaning, meanings}
 use Rattle.multi_meaning.specs.Times.{cycle, page_times}
-use Rattle.multi_meaning.specs.Verdict.{Accepted, IsVerdict, IsCycle, broken, of_first, offences, pages_of, verdict_on}
+use Rattle.multi_meaning.specs.Verdict.{Accepted, IsVerdict, IsCycle, broken, of_first, pages_of, verdict_on}
 use Rattle.multi_meaning.specs.kept.Fine.{IsAccepted, IsOrderly}
 use Rattle.multi_meaning.proofs.OrderlyLemmas.{orderly_out}
 use Rattle.multi_meaning.proofs.WordLemmas.{left_nil, right_nil}
@@ -28,16 +28,7 @@ unfolding verdict_on
 accepted_is sign octets pages (items, rest, read, is) short =
     let all = each_string_has_a_reading octets in
     let same = one_reading octets items (reading octets).items rest (reading octets).rest read all in
-    let none = no_fault pages (pages_of (map meaning items)) (offences sign items ++ broken items rest) is in
-    let whole : (reading octets).rest ≡ [] = sym same.1 ∙ not_broken items rest (right_nil (offences sign items) (broken items rest) none.1) in (
-      record {
-        each = all.each;
-        spelled = all.spelled ∙ ap (λ l. spell (reading octets).items ++ l) whole ∙ append-nil (spell (reading octets).items);
-        none = ap (offences sign) (sym same.0) ∙ left_nil (offences sign items) (broken items rest) none.1;
-        short = short;
-      },
-      none.0 ∙ ap (λ l. pages_of (map meaning l)) same.0,
-    )
+    grind (arith, all, same, is, no_fault, not_broken, left_nil, right_nil, append-nil)
 
 -- the cycle of a string is that of its reading
 pub cycle_is : (sign : SignData) (octets : List ℕ) (tenths : ℕ) → IsCycle sign octets tenths

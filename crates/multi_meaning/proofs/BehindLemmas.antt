@@ -1,11 +1,9 @@
 -- What stands behind the last item that passes a test, and the parts that such an item ends.
-use Rattle.std.proofs.Common.{◌≡◌, inl, inr, ◌+◌, ◌-◌, ◌≤◌, Bool, false, cond, not, length, drop, List, [], ◌∷◌, ◌++◌, refl, ap, ◌∙◌, arith, length-append}
-use Rattle.std.specs.List.{filter, list_any, after_last, prefix_len, suffix_len}
-use Rattle.std.proofs.lemmas.Bool.{cases_Bool}
+use Rattle.std.proofs.Common.{◌≡◌, Bool, false, cond, List, [], ◌∷◌, ◌++◌, refl, ◌∙◌, arith, length-append}
+use Rattle.std.specs.List.{filter, list_any, after_last}
 use Rattle.std.proofs.lemmas.List.{append-nil, reverse-append, drop_all, drop-append-le}
 use Rattle.std.proofs.lemmas.List.Elements.{filter-append}
 use Rattle.std.proofs.lemmas.List.Folds.{list_any-append}
-use Rattle.std.proofs.lemmas.List.Sums.{suffix_len-le-length}
 use Rattle.multi_meaning.specs.Words.{cut_behind}
 use Rattle.multi_meaning.proofs.CutLemmas.{Cut, cut, part, cut_behind_is, cut_ind}
 
@@ -27,11 +25,8 @@ module _ {X : Type 0} (p : X → Bool) where
 
   ends : (xs : List X) → Ends (cut p xs)
   ends = cut_ind p (λ xs c. Ends c) (record { closed = refl; open' = refl })
-      (λ xs c x e h. record {
-        closed = filter-append (list_any p) c.closed ((c.open' ++ x ∷ []) ∷ []) ∙ rw (h.closed, list_any-append p c.open' (x ∷ []), h.open', e) refl;
-        open' = refl;
-      })
-      (λ xs c x e h. record { closed = h.closed; open' = list_any-append p c.open' (x ∷ []) ∙ rw (h.open', e) refl })
+      (λ xs c x e h. record { closed = grind (arith, filter-append, list_any-append, h.closed, h.open', e); open' = refl })
+      (λ xs c x e h. record { closed = h.closed; open' = grind (arith, list_any-append p c.open' (x ∷ []), h.open', e) })
 
   filter_part : (l : List X) → list_any p l ≡ false → filter (list_any p) (part p l) ≡ []
   filter_part v0 h = grind arith

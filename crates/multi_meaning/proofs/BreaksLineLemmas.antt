@@ -2,18 +2,18 @@
 use Rattle.std.proofs.Common.{◌≡◌, ◌⊎◌, inl, inr, ℕ, ◌<◌, ◌≤◌, Bool, true, false, cond, List, [], ◌∷◌, ◌++◌, length, take, Some, None, zero, suc, refl, sym, ap, ◌∙◌, arith, append_assoc, append-nil, length-append, slice_index_or, option_map}
 use Rattle.std.specs.List.{AllPass, count_by}
 use Rattle.std.proofs.Math.Seq.{take-append_seam}
-use Rattle.std.proofs.lemmas.Bool.{both_ways, cases_Bool, cases_eq, eqb-true}
+use Rattle.std.proofs.lemmas.Bool.{cases_Bool, cases_eq}
 use Rattle.std.proofs.lemmas.List.{get_or_append_left, get_or_at, length_push}
 use Rattle.std.proofs.lemmas.List.Elements.{All-head}
 use Rattle.std.proofs.lemmas.List.Sums.{length-filter, sum_by-append}
-use Rattle.multi_tag.specs.declared.tag.Tag.TheVariants.{Back, NewLine, NewPage}
+use Rattle.multi_tag.specs.declared.tag.Tag.TheVariants.{NewLine}
 use Rattle.multi_tag.specs.Just.{page_number}
 use Rattle.multi_tag.proofs.JustLemmas.{same_page_just}
 use Rattle.sign_font.specs.declared.parts.Defaults.{Defaults}
 use Rattle.sign_font.specs.declared.parts.LineFill.{LineFill}
 use Rattle.sign_font.specs.declared.parts.LineFill.TheVariants.{Words}
 use Rattle.sign_font.specs.Sign.{SignData, CellData, cell_numbered}
-use Rattle.multi_meaning.specs.Address.{Break, Cover, Glyph, Put, Spot, Standing, is_break, is_glyph, put_at, spots, standing}
+use Rattle.multi_meaning.specs.Address.{Glyph, Put, Spot, Standing, is_break, is_glyph, put_at, spots, standing}
 use Rattle.multi_meaning.specs.Filling.{dropped, filled, is_space}
 use Rattle.multi_meaning.specs.Laid.{fill_at, laid_spot}
 use Rattle.multi_meaning.specs.LaidItems.{laid_items, laid_of}
@@ -140,27 +140,19 @@ module _ (sign : SignData) (items : List Meaning) (number : ℕ) (cell : CellDat
             | inl m ↦
                 let n = count_is true m ∙ length_push (own front) t in
                 let within = has_place all s.at.area (page_number s.at.page_just) front rest t split m in
+                let old_at = laid_old front rest t split m in
+                let new_at = laid_new front (rest ++ s ∷ []) t longer m in
                 elim (cases_eq (length (own front)) (length closed)) [
                   | inr other ↦
-                      let stays = laid_new front (rest ++ s ∷ []) t longer m ∙ get_other closed open' (s ∷ []) space (dropped space) t (length (own front)) other (omega (arith, within, size)) ∙ sym (laid_old front rest t split m) in
+                      let stays = new_at ∙ get_other closed open' (s ∷ []) space (dropped space) t (length (own front)) other (omega (arith, within, size)) ∙ sym old_at in
                       inl (record { same' = rw puts (shown _ _ stays); least = omega (arith, n); most = λ h. omega (arith, h, n, other) })
                   | inl e ↦
-                      let old_at = laid_old front rest t split m ∙ get_or_at closed space open' t (length (own front)) (sym e) in
-                      let new_at = laid_new front (rest ++ s ∷ []) t longer m ∙ get_or_at closed (dropped space) (open' ++ s ∷ []) t (length (own front)) (sym e) in
-                      let is_t : space ≡ t = elim (laid_as Words all front rest t split) [
-                        | inl itself ↦ sym old_at ∙ itself
-                        | inr (glyph, drop) ↦ absurd (both_ways (is_space space) (ap is_space (sym old_at ∙ drop)) is_sp)
-                      ] in
-                      let item = space_shown sign.defaults (standing sign some) x put puts (ap is_space (sym is_t) ∙ is_sp) in
+                      let old_is = old_at ∙ get_or_at closed space open' t (length (own front)) (sym e) in
+                      let new_is = new_at ∙ get_or_at closed (dropped space) (open' ++ s ∷ []) t (length (own front)) (sym e) in
+                      let is_t : is_space t ≡ true = grind (arith, laid_as Words all front rest t split, old_is, is_sp) in
                       let (area, just) = member_at s.at.area (page_number s.at.page_just) t m in
-                      inr (record {
-                        place = e;
-                        next = omega (arith, n, e);
-                        area = area;
-                        just = just;
-                        was = rw puts (shown _ _ old_at ∙ rw (glyph_put space.at space.put (All-head (λ x. is_glyph x ≡ true) space open' glyphs)).0 item);
-                        ends = rw puts (shown _ _ new_at);
-                      })
+                      let was = shown _ _ old_is ∙ rw (glyph_put space.at space.put (All-head (λ x. is_glyph x ≡ true) space open' glyphs)).0 (space_shown sign.defaults (standing sign some) x put puts is_t) in
+                      inr (record { place = e; next = omega (arith, n, e); area = area; just = just; was = rw puts was; ends = rw puts (shown _ _ new_is) })
                 ]
           ]
     ]
@@ -181,36 +173,32 @@ module _ (sign : SignData) (items : List Meaning) (number : ℕ) (cell : CellDat
     SoFar some = ((count some ≤ length closed) × (each_after after' some ≡ each_after before' some)) ⊎ Broken some
 
     one_more : (some behind : List Meaning) (x : Meaning) → items ≡ some ++ x ∷ behind → SoFar some → SoFar (some ++ x ∷ [])
-    one_more some behind x is so_far = let before = each_after_push before' some x in let after = each_after_push after' some x in elim (one_item some behind x is) [
-      | inl stays ↦ elim so_far [
-        | inl (early, alike) ↦ inl (stays.most early, after ∙ (λ i. alike i ++ stays.same' i ∷ []) ∙ sym before)
-        | inr b ↦ inr (record {
-          late = omega (arith, b.late, stays.least);
-          front = b.front;
-          item = b.item;
-          more = b.more ++ x ∷ [];
-          behind = b.behind ++ before' some x ∷ [];
-          is = ap (λ l. l ++ x ∷ []) b.is ∙ append_assoc b.front (b.item ∷ b.more) (x ∷ []);
-          breaks = b.breaks;
-          was_all = before ∙ ap (λ l. l ++ before' some x ∷ []) b.was_all ∙ append_assoc (each_after before' b.front) (Shows 32 ∷ b.behind) (before' some x ∷ []);
-          are = after ∙ (λ i. b.are i ++ stays.same' i ∷ []) ∙ append_assoc (each_after before' b.front) (Does (NewLine None) ∷ b.behind) (before' some x ∷ []);
-        })
-      ]
-      | inr breaks ↦ elim so_far [
-        | inl (early, alike) ↦ inr (record {
-          late = breaks.next;
-          front = some;
-          item = x;
-          more = [];
-          behind = [];
-          is = refl;
-          breaks = breaks;
-          was_all = before ∙ ap (λ y. each_after before' some ++ y ∷ []) breaks.was;
-          are = after ∙ (λ i. alike i ++ breaks.ends i ∷ []);
-        })
-        | inr b ↦ absurd (omega (arith, b.late, breaks.place))
-      ]
-    ]
+    one_more some behind x is so_far =
+        let before = each_after_push before' some x in
+        let after = each_after_push after' some x in
+        elim (one_item some behind x is) [
+          | inl stays ↦ elim so_far [
+            | inl (early, alike) ↦ inl (stays.most early, after ∙ (λ i. alike i ++ stays.same' i ∷ []) ∙ sym before)
+            | inr b ↦ inr (record {
+              late = omega (arith, b.late, stays.least);
+              front = b.front;
+              item = b.item;
+              more = b.more ++ x ∷ [];
+              behind = b.behind ++ before' some x ∷ [];
+              is = ap (λ l. l ++ x ∷ []) b.is ∙ append_assoc b.front (b.item ∷ b.more) (x ∷ []);
+              breaks = b.breaks;
+              was_all = before ∙ ap (λ l. l ++ before' some x ∷ []) b.was_all ∙ append_assoc (each_after before' b.front) (Shows 32 ∷ b.behind) (before' some x ∷ []);
+              are = after ∙ (λ i. b.are i ++ stays.same' i ∷ []) ∙ append_assoc (each_after before' b.front) (Does (NewLine None) ∷ b.behind) (before' some x ∷ []);
+            })
+          ]
+          | inr breaks ↦ elim so_far [
+            | inl (early, alike) ↦
+                let was = before ∙ ap (λ y. each_after before' some ++ y ∷ []) breaks.was in
+                let are = after ∙ (λ i. alike i ++ breaks.ends i ∷ []) in
+                inr (record { late = breaks.next; front = some; item = x; more = []; behind = []; is = refl; breaks = breaks; was_all = was; are = are })
+            | inr b ↦ absurd (omega (arith, b.late, breaks.place))
+          ]
+        ]
 
     none_yet : SoFar []
     unfolding spots
@@ -225,12 +213,8 @@ module _ (sign : SignData) (items : List Meaning) (number : ℕ) (cell : CellDat
     -- the character itself stands
     last_stands : after' items (Shows number) ≡ Shows number
     last_stands =
-        let place : length (closed ++ dropped space ∷ open') ≡ length (own all) = omega (arith, size, length-append closed (dropped space ∷ open'), length-append closed (space ∷ open')) in
-        let itself : laid_spot Words (all ++ s ∷ []) all s ≡ s =
-        laid_new all [] s refl (own_member s refl)
-        ∙ ap (λ l. slice_index_or l (length (own all)) s) (sym (append_assoc closed (dropped space ∷ open') (s ∷ [])))
-        ∙ get_or_at (closed ++ dropped space ∷ open') s [] s (length (own all)) place in
-        rw found (ap (λ y. laid_of (Shows number) (Some y)) itself)
+        let size' = length-append closed (space ∷ open') in
+        grind (arith, found, laid_new all [] s refl (own_member s refl), get_or_at (closed ++ dropped space ∷ open') s [] s (length (own all)), size, size', length-append closed (dropped space ∷ open'), append_assoc)
 
     pub breaks_line : BreaksLine Words sign items (Shows number)
     breaks_line =

@@ -1,8 +1,8 @@
 -- A cell that is put on a plane.
-use Rattle.std.proofs.Common.{◌≡◌, ℕ, ◌+◌, ◌-◌, ◌<◌, ◌≤◌, Bool, ◌&&◌, ◌==◌, nat_le, nat_lt, min, List, length, take, refl, inl, inr, arith, slice_index, get_or-take, length-take-le}
-use Rattle.std.proofs.lemmas.Bool.{lt-ltb, le-ltb, le-leb, lt-leb, eq-eqb, ne_eqb, cases_lt, cases_eq}
+use Rattle.std.proofs.Common.{◌≡◌, ℕ, ◌+◌, ◌-◌, ◌<◌, ◌≤◌, Bool, ◌&&◌, ◌==◌, nat_le, nat_lt, min, List, length, take, arith, slice_index, get_or-take, length-take-le}
 use Rattle.page_plane.specs.Put.{is_put, is_first_put, is_block_put}
 use Rattle.sign_font.specs.Cell as cells
+use Rattle.std.proofs.lemmas.Bool.Decides.{nat_tests}
 
 -- of a row of a cell, the columns that are left of the plane come to the pixels that the row has lit there
 pub put_row_of : (cell : cells.SizedCell) (r word column row left shown x y : ℕ) → cells.IsRowOf cell r word → cell.width ≤ 64 → shown ≡ min cell.width left → x < column + left
@@ -21,24 +21,6 @@ pub put_rows_of : (cell : cells.SizedCell) (rows : List ℕ) (column row wide hi
     → is_block_put column row shown (take count rows) x y ≡ covers cell column row x y
 unfolding is_first_put
 put_rows_of cell rows column row wide high shown count x y narrow all each shown_is count_is inside above =
-    let long : length (take count rows) ≡ count = length-take-le count rows (omega (arith, all, count_is)) in
-    elim (cases_lt y row) [
-      | inl l ↦ elim (cases_lt x column) [
-        | inl m ↦ rw (lt-leb row y l, lt-leb column x m) refl
-        | inr m ↦ rw (lt-leb row y l, le-leb column x m) refl
-      ]
-      | inr g ↦ elim (cases_lt y (row + count)) [
-        | inl l ↦
-            let r : y - row < cell.height = omega arith in
-            let one = put_row_of cell (y - row) (slice_index rows (y - row)) column y wide shown x y (each (y - row) r) narrow shown_is inside in
-            let word : slice_index (take count rows) (y - row) ≡ slice_index rows (y - row) = get_or-take count rows (y - row) 0 (omega arith) in
-            elim (cases_lt x column) [
-              | inl k ↦ rw (long, word, le-leb row y g, lt-ltb y (row + count) l, lt-ltb y (row + cell.height) (omega arith), one, eq-eqb y y refl, lt-leb column x k) refl
-              | inr k ↦ rw (long, word, le-leb row y g, lt-ltb y (row + count) l, lt-ltb y (row + cell.height) (omega arith), one, eq-eqb y y refl, le-leb column x k) refl
-            ]
-        | inr m ↦ elim (cases_lt x column) [
-          | inl k ↦ rw (long, le-leb row y g, le-ltb y (row + count) m, lt-leb column x k) refl
-          | inr k ↦ rw (long, le-leb row y g, le-ltb y (row + count) m, le-ltb y (row + cell.height) (omega arith), le-leb column x k) refl
-        ]
-      ]
-    ]
+    let long = length-take-le count rows (omega (arith, all, count_is)) in
+    let one = λ (h : y - row < cell.height). put_row_of cell (y - row) (slice_index rows (y - row)) column y wide shown x y (each (y - row) h) narrow shown_is inside in
+    grind (arith, nat_tests, long, one, get_or-take count rows (y - row) 0)

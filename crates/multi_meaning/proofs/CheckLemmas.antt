@@ -2,7 +2,6 @@
 use Rattle.std.proofs.Common.{◌≡◌, ℕ, ◌≤◌, max, false, ◌||◌, List, [], ◌∷◌, ◌++◌, sym, ap, ◌∙◌, arith, nat_lt, append_assoc, append-nil}
 use Rattle.std.specs.List.{list_any}
 use Rattle.std.proofs.lemmas.List.Folds.{list_any-append}
-use Rattle.std.proofs.lemmas.Bool.Decides.{nat_tests}
 use Rattle.multi_tag.specs.Just.{page_number}
 use Rattle.multi_meaning.specs.Words.{extent, largest}
 use Rattle.multi_meaning.specs.Address.{Spot}

@@ -1,6 +1,6 @@
 -- What a whole string shows at a clock.
-use Rattle.std.proofs.Common.{◌≡◌, ℕ, ◌%◌, ◌^◌, ◌<◌, ◌==◌, List, length, refl, sym, ap, ◌∙◌, eq-eqb, arith}
-use Rattle.std.proofs.lemmas.Bool.{ne_eqb, or_left, or_right}
+use Rattle.std.proofs.Common.{◌≡◌, ℕ, ◌%◌, ◌^◌, ◌<◌, ◌==◌, List, length, sym, ◌∙◌, eq-eqb, arith}
+use Rattle.std.proofs.lemmas.Bool.{or_left, or_right}
 use Rattle.sign_font.specs.Sign.{SignData}
 use Rattle.multi_meaning.specs.declared.times.Shown.TheVariants.{Page}
 use Rattle.multi_meaning.specs.Meaning.{meanings}

@@ -1,27 +1,22 @@
 -- A pixel of a page at one more item, where a page begins and where it ends.
-use Rattle.std.proofs.Common.{◌≡◌, ℕ, ◌+◌, ◌-◌, ◌<◌, Bool, false, cond, ◌&&◌, ◌==◌, List, [], ◌∷◌, ◌++◌, Option, Some, None, refl, sym, ap, ◌∙◌, arith, append-nil, subst, ◌⊎◌, inl, inr, nat_le, nat_lt, IfSome, option_map, unwrap_or}
-use Rattle.std.specs.List.{filter_map, last_or, cons_option, All}
-use Rattle.std.proofs.lemmas.Bool.{cases_Bool, eq-eqb, ne_eqb}
-use Rattle.std.proofs.lemmas.List.Elements.{All-cons, All-head, All-tail, All-weaker, filter_map-append}
+use Rattle.std.proofs.Common.{◌≡◌, ℕ, ◌+◌, ◌-◌, ◌<◌, Bool, false, cond, ◌&&◌, ◌==◌, List, [], ◌∷◌, ◌++◌, Option, Some, None, refl, ap, ◌∙◌, arith, append-nil, subst, ◌⊎◌, inl, inr, nat_le, nat_lt, IfSome, option_map, unwrap_or}
+use Rattle.std.specs.List.{filter_map, cons_option, All}
+use Rattle.std.proofs.lemmas.Bool.{cases_Bool, eq-eqb}
+use Rattle.std.proofs.lemmas.List.Elements.{All-cons, All-head, All-tail, filter_map-append}
 use Rattle.multi_tag.specs.declared.tag.Tag.TheVariants.{NewPage, Back}
 use Rattle.sign_font.specs.declared.parts.Defaults.{Defaults}
 use Rattle.sign_font.specs.Cell as cells
 use Rattle.sign_font.specs.Sign.{SignData, CellData, cell_numbered, sized}
-use Rattle.multi_meaning.specs.Address.{Standing, standing, Put, Glyph, Break, Cover, Spot, put_at, spots}
+use Rattle.multi_meaning.specs.Address.{standing, Put, Glyph, Break, Cover, Spot, put_at, spots}
 use Rattle.multi_meaning.specs.declared.place.Place.{Place}
 use Rattle.multi_meaning.specs.Place.{place_of}
 use Rattle.multi_meaning.specs.Picture.{Thing, thing_at, things_among, things, colour_of, shown_colour, is_lit_at, in_plane}
 use Rattle.multi_meaning.specs.Drawn.{has_colour}
 use Rattle.multi_meaning.specs.Meaning.{Meaning, Shows, Does, BeginsPage, EndsPage}
 use Rattle.multi_meaning.specs.Words.{some_after}
-use Rattle.multi_meaning.proofs.WordLemmas.{last_or-append, some_after_push, some_after-append}
+use Rattle.multi_meaning.proofs.WordLemmas.{last_or-append, some_after_push, some_after-append, cases_Option}
 use Rattle.multi_meaning.proofs.SpotsLemmas.{spots_behind, spots_nothing, spots_more, spots_with, same_back, next_page_behind, some_all, page_put, IsFrom, pages_behind}
-
-module _ (phase : ℕ) (all : List Spot) where
-  -- one more spot, one that is no thing, and one that is
-  things_push : (some : List Spot) (s : Spot) → things_among phase all (some ++ s ∷ []) ≡ things_among phase all some ++ cons_option (thing_at phase (place_of some all s) s s.put) []
-  unfolding things_among
-  things_push some s = some_after_push (λ before spot. thing_at phase (place_of before all spot) spot spot.put) some s
+use Rattle.std.specs.Option.{option_map_or}
 
 -- a pixel has the colour of one more thing, if it covers the pixel, else the colour it had
 abbrev covers_at : Thing → ℕ → ℕ → ℕ → Bool
@@ -30,25 +25,24 @@ covers_at t page column row = (t.page == page) && t.covers column row
 colour_push : (defaults : Defaults) (things : List Thing) (t : Thing) (page column row : ℕ) → colour_of defaults (things ++ t ∷ []) page column row ≡ cond (covers_at t page column row) t.colour (colour_of defaults things page column row)
 colour_push defaults things t page column row = grind (arith, filter_map-append, last_or-append)
 
-module _ (sign : SignData) (page phase colour : ℕ) (all : List Spot) (column row : ℕ) where
-  -- a pixel after one more spot that is no thing
-  covered_nothing : (some : List Spot) (s : Spot) → thing_at phase (place_of some all s) s s.put ≡ None
-      → has_colour sign page phase colour all (some ++ s ∷ []) column row ≡ has_colour sign page phase colour all some column row
-  unfolding has_colour
-  covered_nothing some s is = grind (arith, things_push, append-nil)
-
-  -- a pixel after one more spot that is a thing
-  covered_more : (some : List Spot) (s : Spot) (t : Thing) → thing_at phase (place_of some all s) s s.put ≡ Some t
-      → has_colour sign page phase colour all (some ++ s ∷ []) column row
-      ≡ cond (covers_at t page column row) (shown_colour sign t.colour == colour) (has_colour sign page phase colour all some column row)
-  unfolding has_colour
-  covered_more some s t is = grind (arith, things_push, colour_push)
-
-  -- a pixel of the page of one more spot that covers a page
-  covered_whole : (some : List Spot) (at : Standing) (back : ℕ)
-      → has_colour sign page phase colour all (some ++ record { at = at; put = Cover page back } ∷ []) column row ≡ (shown_colour sign back == colour)
-  covered_whole some at back =
-      covered_more some (record { at = at; put = Cover page back }) _ refl ∙ rw (eq-eqb page page refl) refl
+-- a pixel after one more item that puts something: the colour of the thing, if it is one that covers the pixel, else as before
+covered_put : (sign : SignData) (page phase colour : ℕ) (all : List Spot) (column row : ℕ) (before : List Meaning) (x : Meaning) (put : Put) → put_at sign.defaults (standing sign before) x ≡ Some put →
+    let old = has_colour sign page phase colour all (spots sign before) column row in
+    let s : Spot = record { at = standing sign before; put = put } in
+    has_colour sign page phase colour all (spots sign (before ++ x ∷ [])) column row
+    ≡ option_map_or (λ (t : Thing). cond (covers_at t page column row) (shown_colour sign t.colour == colour) old) (thing_at phase (place_of (spots sign before) all s) s put) old
+unfolding has_colour things_among
+covered_put sign page phase colour all column row before x put puts =
+    let s : Spot = record { at = standing sign before; put = put } in
+    let old = things_among phase all (spots sign before) in
+    let push = some_after_push (λ before spot. thing_at phase (place_of before all spot) spot spot.put) (spots sign before) s in
+    ap (λ l. shown_colour sign (colour_of sign.defaults (things_among phase all l) page column row) == colour) (spots_more sign before x put puts)
+    ∙ ap (λ l. shown_colour sign (colour_of sign.defaults l page column row) == colour) push
+    ∙ elim (cases_Option (thing_at phase (place_of (spots sign before) all s) s put)) [
+      | inl none ↦ rw none (ap (λ l. shown_colour sign (colour_of sign.defaults l page column row) == colour) (append-nil old))
+      | inr (t, is) ↦ rw is (ap (λ c. shown_colour sign c == colour) (colour_push sign.defaults old t page column row)
+        ∙ elim (cases_Bool (covers_at t page column row)) [ inl e ↦ rw e refl | inr e ↦ rw e refl ])
+    ]
 
 module _ (sign : SignData) (phase colour : ℕ) (all : List Spot) (column row : ℕ) where
   -- a pixel has the background in force behind some items
@@ -62,10 +56,7 @@ module _ (sign : SignData) (phase colour : ℕ) (all : List Spot) (column row : 
   begins_next : (earlier : List Meaning) → HasBackground (earlier ++ Does NewPage ∷ [])
   begins_next earlier =
       let at = standing sign earlier in
-      ap (λ page. has_colour sign page phase colour all (spots sign (earlier ++ Does NewPage ∷ [])) column row) (next_page_behind sign earlier)
-      ∙ ap (λ l. has_colour sign (at.page + 1) phase colour all l column row) (spots_more sign earlier (Does NewPage) (Cover (at.page + 1) at.back) refl)
-      ∙ covered_whole sign (at.page + 1) phase colour all column row (spots sign earlier) at at.back
-      ∙ ap (λ c. shown_colour sign c == colour) (sym (same_back sign earlier))
+      grind (arith, next_page_behind sign earlier, covered_put sign (at.page + 1) phase colour all column row earlier (Does NewPage) (Cover (at.page + 1) at.back) refl, same_back sign earlier, eq-eqb)
 
   -- where a page begins, every pixel has it
   pub covered_begins : (before : List Meaning) → BeginsPage before
@@ -83,25 +74,21 @@ module _ (sign : SignData) (phase colour : ℕ) (all : List Spot) (column row : 
       (has_colour sign at.page phase colour all (spots sign before) column row)
   covered_glyph before number cell found =
       let at = standing sign before in
-      ap (λ l. has_colour sign at.page phase colour all l column row) (spots_more sign before (Shows number) (Glyph cell) (ap (option_map Glyph) found))
-      ∙ covered_more sign at.page phase colour all column row (spots sign before) (record { at = at; put = Glyph cell }) _ refl ∙ rw (eq-eqb at.page at.page refl) refl
+      grind (arith, covered_put sign at.page phase colour all column row before (Shows number) (Glyph cell) (ap (option_map Glyph) found), eq-eqb at.page at.page refl)
 
   -- after a background every pixel of its page has it
   pub covered_cover : (before : List Meaning) (given : Option ℕ)
       → has_colour sign (standing sign before).page phase colour all (spots sign (before ++ Does (Back given) ∷ [])) column row ≡ (shown_colour sign (unwrap_or given sign.defaults.back) == colour)
   covered_cover before given =
       let at = standing sign before in
-      ap (λ l. has_colour sign at.page phase colour all l column row) (spots_more sign before (Does (Back given)) (Cover at.page (unwrap_or given sign.defaults.back)) refl)
-      ∙ covered_whole sign at.page phase colour all column row (spots sign before) at (unwrap_or given sign.defaults.back)
+      grind (arith, covered_put sign at.page phase colour all column row before (Does (Back given)) (Cover at.page (unwrap_or given sign.defaults.back)) refl, eq-eqb at.page at.page refl)
 
   -- an item that puts nothing, or ends a line, leaves every pixel of every page
   pub covered_same : (before : List Meaning) (x : Meaning) (page : ℕ)
       → (put_at sign.defaults (standing sign before) x ≡ None) ⊎ ((gap : Option ℕ) × (put_at sign.defaults (standing sign before) x ≡ Some (Break gap)))
       → has_colour sign page phase colour all (spots sign (before ++ x ∷ [])) column row ≡ has_colour sign page phase colour all (spots sign before) column row
   covered_same before x page (inl none) = ap (λ l. has_colour sign page phase colour all l column row) (spots_nothing sign before x none)
-  covered_same before x page (inr (gap, ends)) =
-      ap (λ l. has_colour sign page phase colour all l column row) (spots_more sign before x (Break gap) ends)
-      ∙ covered_nothing sign page phase colour all column row (spots sign before) (record { at = standing sign before; put = Break gap }) refl
+  covered_same before x page (inr (gap, ends)) = covered_put sign page phase colour all column row before x (Break gap) ends
 
 -- where h gives nothing of each item it gives none
 maps_none : {X Y : Type 0} (h : X → Option Y) (xs : List X) → All (λ x. h x ≡ None) xs → filter_map h xs ≡ []
@@ -127,10 +114,8 @@ module _ (sign : SignData) (page phase colour : ℕ) (all : List Spot) (column r
   unfolding has_colour things_among
   covered_later some more later =
       let f = λ (next : List Spot) (spot : Spot). thing_at phase (place_of (some ++ next) all spot) spot spot.put in
-      let beside : All (IsBeside page) (some_after f more) =
-      some_all (IsFrom (page + 1)) (IsBeside page) f more later (λ next s h. thing_beside page phase (place_of (some ++ next) all s) s s.put (omega arith)) in
-      ap (λ l. shown_colour sign (colour_of sign.defaults l page column row) == colour) (some_after-append (λ before spot. thing_at phase (place_of before all spot) spot spot.put) some more)
-      ∙ ap (λ c. shown_colour sign c == colour) (colour_beside sign.defaults (things_among phase all some) (some_after f more) page column row beside)
+      let beside = some_all (IsFrom (page + 1)) (IsBeside page) f more later (λ next s h. thing_beside page phase (place_of (some ++ next) all s) s s.put (omega arith)) in
+      grind (arith, some_after-append (λ before spot. thing_at phase (place_of before all spot) spot spot.put) some more, colour_beside sign.defaults (things_among phase all some) (some_after f more) page column row beside)
 
 -- a pixel of a string is that of all its spots
 plane_is : (sign : SignData) (items : List Meaning) (page phase colour column row : ℕ)
@@ -153,17 +138,5 @@ module _ (sign : SignData) (before : List Meaning) where
   pub covered_ends : (behind : List Meaning) (phase colour column row : ℕ) → EndsPage behind
       → in_plane sign (before ++ behind) (standing sign before).page phase colour column row
       ≡ has_colour sign (standing sign before).page phase colour (spots sign (before ++ behind)) (spots sign before) column row
-  covered_ends behind phase colour column row (inl last) =
-      let page = (standing sign before).page in
-      let all = spots sign (before ++ behind) in
-      let same : before ++ behind ≡ before = ap (λ l. before ++ l) last ∙ append-nil before in
-      plane_is sign (before ++ behind) page phase colour column row
-      ∙ ap (λ items. has_colour sign page phase colour all (spots sign items) column row) same
-  covered_ends behind phase colour column row (inr (rest, next)) =
-      let page = (standing sign before).page in
-      let all = spots sign (before ++ behind) in
-      let later = later_behind rest in
-      plane_is sign (before ++ behind) page phase colour column row
-      ∙ ap (λ l. has_colour sign page phase colour all (spots sign (before ++ l)) column row) next
-      ∙ ap (λ l. has_colour sign page phase colour all l column row) later.1
-      ∙ covered_later sign page phase colour all column row (spots sign before) later.0 later.2
+  covered_ends behind phase colour column row (inl last) = grind (arith, last, append-nil, plane_is)
+  covered_ends behind phase colour column row (inr (rest, next)) = grind (arith, next, plane_is, later_behind rest, covered_later)

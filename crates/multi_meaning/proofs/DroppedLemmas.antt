@@ -1,5 +1,5 @@
 -- The second reading knows a dropped space: the segment in which it would stand is as wide on its line as it was before it.
-use Rattle.std.proofs.Common.{◌≡◌, inl, inr, ℕ, ◌<◌, ◌≤◌, true, cond, ◌&&◌, ◌==◌, List, [], ◌∷◌, ◌++◌, sym, ap, ◌∙◌, arith, append_assoc, append-nil, slice_index_or, eq-eqb, ne_eqb}
+use Rattle.std.proofs.Common.{◌≡◌, ℕ, ◌<◌, ◌≤◌, true, ◌&&◌, ◌==◌, List, [], ◌∷◌, ◌++◌, arith, append_assoc, append-nil, slice_index_or}
 use Rattle.std.specs.List.{after_last, count_by}
 use Rattle.std.proofs.lemmas.List.{get_or_at}
 use Rattle.std.proofs.lemmas.List.Elements.{filter-append}
@@ -9,10 +9,10 @@ use Rattle.multi_meaning.specs.Line.{char_gap, glyph_width, width_of}
 use Rattle.multi_meaning.specs.kept.Present.{IsPlacing}
 use Rattle.multi_meaning.proofs.WordLemmas.{extent_push}
 use Rattle.multi_meaning.proofs.CheckLemmas.{extent-append-le}
-use Rattle.multi_meaning.proofs.CutLemmas.{cut, cut_with_item, first_part}
+use Rattle.multi_meaning.proofs.CutLemmas.{cut_with_item, first_part}
 use Rattle.multi_meaning.proofs.BehindLemmas.{after_last_is}
 use Rattle.multi_meaning.proofs.EndedLemmas.{closed_count}
-use Rattle.multi_meaning.proofs.GroupLemmas.{glyph_put, break_put}
+use Rattle.std.proofs.lemmas.Bool.Decides.{nat_tests}
 
 -- an item's line in a group is what stands open before it, it, and some items
 line_of : (front : List Spot) (y : Spot) (back : List Spot)
@@ -22,12 +22,7 @@ line_of front y back = grind (arith, cut_with_item, get_or_at, closed_count, aft
 -- what stands behind an item of a segment makes it no narrower
 wider : (j : ℕ) (open' rest : List Spot) (y : Spot) → is_glyph y ≡ true → line_number y.at.line_just ≡ j → 1 ≤ glyph_width y → width_of (segment j open') < width_of (segment j (open' ++ y ∷ rest))
 wider j open' rest y glyph just wide =
-    let own : (is_glyph y && (line_number y.at.line_just == j)) ≡ true = ap (λ b. b && (line_number y.at.line_just == j)) glyph ∙ eq-eqb (line_number y.at.line_just) j just in
-    let split : segment j (open' ++ y ∷ rest) ≡ segment j open' ++ y ∷ segment j rest =
-    filter-append (λ t. is_glyph t && (line_number t.at.line_just == j)) open' (y ∷ rest) ∙ ap (λ b. segment j open' ++ cond b (y ∷ segment j rest) (segment j rest)) own in
-    let more = extent-append-le glyph_width char_gap (segment j rest) (segment j open' ++ y ∷ []) in
-    let one = extent_push glyph_width char_gap (segment j open') y in
-    omega (arith, wide, one, more, ap width_of split, ap width_of (append_assoc (segment j open') (y ∷ []) (segment j rest)))
+    grind (arith, nat_tests, filter-append (λ t. is_glyph t && (line_number t.at.line_just == j)) open' (y ∷ rest), extent_push glyph_width char_gap (segment j open') y, extent-append-le glyph_width char_gap (segment j rest) (segment j open' ++ y ∷ []), append_assoc)
 
 -- an item of a laid group ends its line exactly where the segment in which it would stand is as wide before it as on that line
 pub full_known : (j : ℕ) (front : List Spot) (y : Spot) (back : List Spot) → IsPlacing y → (is_glyph y ≡ true → (line_number y.at.line_just ≡ j) × (1 ≤ glyph_width y))

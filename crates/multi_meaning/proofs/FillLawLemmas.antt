@@ -15,7 +15,7 @@ use Rattle.multi_meaning.specs.Filling.{CutAt, cut_at_last, dropped, filled, is_
 use Rattle.multi_meaning.specs.Fit.{line_fits}
 use Rattle.multi_meaning.specs.Laid.{fill_at}
 use Rattle.multi_meaning.specs.LaidItems.{laid_items, laid_of}
-use Rattle.multi_meaning.specs.Meaning.{Does, Faulty, Meaning, Shows, meaning}
+use Rattle.multi_meaning.specs.Meaning.{Does, Meaning, Shows, meaning}
 use Rattle.multi_meaning.specs.kept.Present.{IsPlacing}
 use Rattle.multi_meaning.proofs.FillListLemmas.{is_cut}
 use Rattle.multi_meaning.proofs.GroupLemmas.{glyphs_around}
@@ -55,17 +55,16 @@ module _ (sign : SignData) (items : List Meaning) (number : ℕ) (cell : CellDat
   -- it is a space, and is dropped
   dropped_itself : is_space c ≡ true → laid_items Words sign (items ++ Shows number ∷ []) (items ++ Shows number ∷ []) ≡ laid_items Words sign items items ++ Does (NewLine None) ∷ [] → Kept Words sign items (Shows number)
   dropped_itself space new =
-      let old = laid_items Words sign items items in
       let here = (are_laid Words sign items items [] (sym (append-nil items))).0 in
       let is : number ≡ 32 = eqb-true number 32 (sym (spaces_is sign items number cell found) ∙ space) in
-      inr (old, [], ap (λ n. old ++ Shows n ∷ []) is, new, ap (λ (h : Standing). h.area) here, ap (λ (h : Standing). h.page_just) here, refl)
+      inr (laid_items Words sign items items, [], ap (λ n. laid_items Words sign items items ++ Shows n ∷ []) is, new, ap (λ (h : Standing). h.area) here, ap (λ (h : Standing). h.page_just) here, refl)
 
   -- the line is broken at its last space
   broken : line_fits w (open_line w g) ≡ true → (k : CutAt Spot) → line_fits w (open_line w g ++ c ∷ []) ≡ false → is_space c ≡ false → cut_at_last is_space (open_line w g) ≡ Some k → Kept Words sign items (Shows number)
   broken fits k wide word cut =
       let at = is_cut is_space (open_line w g) k cut in
       let closed = ended w g ++ k.before in
-      let old : filled (Some w) g ≡ closed ++ k.item ∷ k.behind = filled_is w g placing ∙ ap (λ l. ended w g ++ l) at.parts ∙ sym (append_assoc (ended w g) k.before (k.item ∷ k.behind)) in
+      let old : filled (Some w) g ≡ closed ++ k.item ∷ k.behind = grind (arith, filled_is w g placing, at.parts, append_assoc) in
       let own = members_push c.at.area (page_number c.at.page_just) (spots sign items) c true (own_member c refl) in
       let new = ap (filled (Some w)) own ∙ breaks w g c placing refl fits k wide word cut ∙ append_assoc closed (dropped k.item ∷ []) (k.behind ++ c ∷ []) in
       let around = glyphs_around k.before k.item k.behind (subst (AllPass is_glyph) at.parts (open_line_glyphs w g placing)) in

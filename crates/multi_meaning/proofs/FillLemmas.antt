@@ -1,13 +1,11 @@
 -- Filling at one more character: every break is kept, and at most one is added, in the last line.
-use Rattle.std.proofs.Common.{◌≡◌, inl, inr, ℕ, ◌+◌, ◌<◌, ◌≤◌, true, false, cond, ◌&&◌, ◌==◌, List, [], ◌∷◌, ◌++◌, length, take, drop, Option, Some, None, zero, suc, refl, sym, ap, subst, ◌∙◌, arith, length-append, append_assoc, append-nil, nat_le, option_map}
-use Rattle.std.proofs.lemmas.Bool.{and_from, and_parts, cases_Bool, false≢true, false_from_ne_true}
+use Rattle.std.proofs.Common.{◌≡◌, inl, inr, ℕ, ◌+◌, ◌<◌, ◌≤◌, true, false, cond, ◌&&◌, List, [], ◌∷◌, ◌++◌, length, take, drop, Option, Some, None, zero, suc, refl, sym, ap, ◌∙◌, arith, length-append, append_assoc, append-nil, nat_le, option_map}
+use Rattle.std.proofs.lemmas.Bool.{false≢true, false_from_ne_true}
 use Rattle.std.proofs.lemmas.Bool.Decides.{nat_tests}
 use Rattle.std.proofs.lemmas.List.{take_all, drop_all, take-append-le, drop-append-le, take-append-drop}
-use Rattle.multi_tag.specs.Just.{line_number}
-use Rattle.multi_meaning.specs.Address.{Spot, is_glyph, segment}
-use Rattle.multi_meaning.specs.Line.{char_gap, glyph_width, width_of}
+use Rattle.multi_meaning.specs.Address.{Spot, segment}
+use Rattle.multi_meaning.specs.Line.{width_of}
 use Rattle.multi_meaning.specs.Fit.{fit, line_fits}
-use Rattle.multi_meaning.proofs.FitLemmas.{smaller_fits}
 use Rattle.multi_meaning.proofs.CheckLemmas.{extent-append-le}
 use Rattle.std.proofs.lemmas.List.Elements.{filter-append}
 use Rattle.multi_meaning.proofs.WordLemmas.{cases_Option}
@@ -67,16 +65,7 @@ module _ (width : ℕ) where
 
   -- what is broken off are the characters, less nothing
   pub broken_parts : (cs : List Spot) (c : CutAt Spot) → soft_break width cs ≡ Some c → cs ≡ c.before ++ c.item ∷ c.behind
-  broken_parts cs c e =
-      let n = most cs in
-      let cut = sym (broken_wide cs (broken_is_wide cs c e)) ∙ e in
-      elim (cases_Option (cut_at_last is_space (take n cs))) [
-        | inl none ↦ absurd (cc (rw none at cut))
-        | inr (d, found) ↦
-            let is : longer (drop n cs) d ≡ c = cc (rw found at cut) in
-            subst (λ (c : CutAt Spot). cs ≡ c.before ++ c.item ∷ c.behind) is
-            (sym (take-append-drop n cs) ∙ ap (λ l. l ++ drop n cs) (is_cut is_space (take n cs) d found).parts ∙ append_assoc d.before (d.item ∷ d.behind) (drop n cs))
-      ]
+  broken_parts cs c e = grind (arith, broken_wide cs (broken_is_wide cs c e), is_cut is_space (take (most cs) cs), take-append-drop (most cs) cs, append_assoc)
 
   shorter : (cs : List Spot) (c : CutAt Spot) → soft_break width cs ≡ Some c → length c.behind + 1 ≤ length cs
   shorter cs c e = omega (arith, ap length (broken_parts cs c e), length-append c.before (c.item ∷ c.behind))
@@ -102,10 +91,7 @@ module _ (width : ℕ) where
 
   pub fill_is : (n : ℕ) (cs : List Spot) → fill n width cs ≡ (parts n cs).closed ++ (parts n cs).open'
   fill_is zero cs = refl
-  fill_is (suc n) cs = elim (cases_Option (soft_break width cs)) [
-    | inl none ↦ rw none refl
-    | inr (c, some) ↦ rw some (rw (fill_is n c.behind) (sym (append_assoc c.before (dropped c.item ∷ (parts n c.behind).closed) (parts n c.behind).open')))
-  ]
+  fill_is (suc n) cs = grind (arith, fill_is n, append_assoc)
 
   -- breaks beyond the characters make no difference
   pub parts_more : (n : ℕ) (cs : List Spot) → length cs ≤ n → parts (suc n) cs ≡ parts n cs
@@ -113,9 +99,7 @@ module _ (width : ℕ) where
   parts_more zero (s ∷ cs) h = absurd (omega (arith, h))
   parts_more (suc n) cs h = elim (cases_Option (soft_break width cs)) [
     | inl none ↦ rw none refl
-    | inr (c, some) ↦
-        let same = parts_more n c.behind (omega (arith, shorter cs c some, h)) in
-        rw some (λ i. record { closed = c.before ++ dropped c.item ∷ (same i).closed; open' = (same i).open' })
+    | inr (c, some) ↦ grind (arith, some, parts_more n c.behind (omega (arith, shorter cs c some, h)))
   ]
 
   -- ONE MORE CHARACTER
@@ -128,16 +112,10 @@ module _ (width : ℕ) where
   relaid line = broken_off (λ l. l) line (broken_here line)
 
   rest_still : (n : ℕ) (line : List Spot) → broken_off (fill n width) line (cut_at_last is_space line) ≡ broken_off (λ l. l) line (cut_at_last is_space line)
-  rest_still n line = elim (cases_Option (cut_at_last is_space line)) [
-    | inl none ↦ rw none refl
-    | inr (c, some) ↦ rw some (ap (λ l. c.before ++ dropped c.item ∷ l) (fill_still n c.behind (is_cut is_space line c some).last))
-  ]
+  rest_still n line = grind (arith, fill_still n, is_cut is_space line)
 
   last_line : (n : ℕ) (cs : List Spot) (s : Spot) → line_fits width cs ≡ true → broken_off (fill n width) (cs ++ s ∷ []) (soft_break width (cs ++ s ∷ [])) ≡ relaid (cs ++ s ∷ [])
-  last_line n cs s fits = let more = cs ++ s ∷ [] in elim (cases_Bool (line_fits width more)) [
-    | inl same ↦ ap (broken_off (fill n width) more) (broken_fits more same) ∙ rw same refl
-    | inr wide ↦ ap (broken_off (fill n width) more) (broken_first cs s fits wide) ∙ rest_still n more ∙ rw wide refl
-  ]
+  last_line n cs s fits = grind (arith, broken_fits (cs ++ s ∷ []), broken_first cs s, rest_still n (cs ++ s ∷ []))
 
   -- one more character behind characters whose last line fits: every break is kept, and the last line is broken at its last space
   -- where it no longer fits
@@ -147,8 +125,6 @@ module _ (width : ℕ) where
   fill_push (suc n) cs s h fits = elim (cases_Option (soft_break width cs)) [
     | inl none ↦ rw none (last_line n cs s (rw none at fits))
     | inr (c, some) ↦
-        let last = parts n c.behind in
-        rw some (ap (broken_off (fill n width) (cs ++ s ∷ [])) (broken_later cs s (broken_is_wide cs c some) ∙ ap (option_map (longer (s ∷ []))) some)
-        ∙ ap (λ l. c.before ++ dropped c.item ∷ l) (fill_push n c.behind s (omega (arith, shorter cs c some, h)) (rw some at fits))
-        ∙ sym (append_assoc c.before (dropped c.item ∷ last.closed) (relaid (last.open' ++ s ∷ []))))
+        let rest = fill_push n c.behind s (omega (arith, shorter cs c some, h)) (rw some at fits) in
+        grind (arith, some, broken_later cs s (broken_is_wide cs c some), rest, append_assoc)
   ]

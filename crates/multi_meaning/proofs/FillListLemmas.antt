@@ -1,8 +1,7 @@
 -- The words on lists, at one more item.
-use Rattle.std.proofs.Common.{◌≡◌, ℕ, ◌+◌, ◌≤◌, Bool, inl, inr, zero, suc, true, false, cond, List, [], ◌∷◌, ◌++◌, length, take, Option, Some, None, refl, ap, subst, ◌∙◌, arith, length-append}
-use Rattle.std.specs.List.{filter, last_or}
-use Rattle.std.specs.Option.{unwrap_or, option_map, option_map_or}
-use Rattle.std.proofs.lemmas.Bool.{both_ways, cases_Bool, cond_both}
+use Rattle.std.proofs.Common.{◌≡◌, ℕ, ◌+◌, ◌≤◌, Bool, inl, inr, zero, suc, true, false, cond, List, [], ◌∷◌, ◌++◌, length, take, Option, Some, None, refl, ap, ◌∙◌, arith, length-append}
+use Rattle.std.specs.Option.{option_map, option_map_or}
+use Rattle.std.proofs.lemmas.Bool.{both_ways, cases_Bool}
 use Rattle.std.proofs.lemmas.List.Elements.{filter-append}
 use Rattle.multi_meaning.proofs.WordLemmas.{cases_Option, each_after_push, last_or-append, push_ind}
 use Rattle.multi_meaning.specs.Filling.{CutAt, prefixes, longest_prefix, cut_at_last, longer}
@@ -61,18 +60,7 @@ module _ {X : Type 0} (p : X → Bool) where
 
   pub is_cut : (xs : List X) (c : CutAt X) → cut_at_last p xs ≡ Some c → IsCut xs c
   is_cut [] c e = absurd cc
-  is_cut (x ∷ xs) c e = elim (cases_Option (cut_at_last p xs)) [
-    | inr (d, found) ↦
-        let h = is_cut xs d found in
-        let same : record d { before = x ∷ d.before } ≡ c = cc (rw found at e) in
-        subst (IsCut (x ∷ xs)) same (record { parts = ap (λ l. x ∷ l) h.parts; passes = h.passes; last = h.last })
-    | inl none ↦ elim (cases_Bool (p x)) [
-      | inl passes ↦
-          let same : ◌≡◌ {A = CutAt X} (record { before = []; item = x; behind = xs }) c = cc (rw (none, passes) at e) in
-          subst (IsCut (x ∷ xs)) same (record { parts = refl; passes = passes; last = none })
-      | inr fails ↦ absurd (cc (rw (none, fails) at e))
-    ]
-  ]
+  is_cut (x ∷ xs) c e = grind (arith, is_cut xs)
 
   -- a list without an item that passes has no cut, nor have its first items
   none_parts : (x : X) (xs : List X) → cut_at_last p (x ∷ xs) ≡ None → (p x ≡ false) × (cut_at_last p xs ≡ None)

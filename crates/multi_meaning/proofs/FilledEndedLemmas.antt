@@ -1,6 +1,6 @@
 -- The ended lines of a filled group at one more character: the same, or one more.
-use Rattle.std.proofs.Common.{◌≡◌, ℕ, true, false, List, [], ◌∷◌, ◌++◌, Some, refl, sym, ap, subst, ◌∙◌}
-use Rattle.std.specs.List.{after_last, All, AllPass}
+use Rattle.std.proofs.Common.{◌≡◌, ℕ, true, false, List, [], ◌∷◌, ◌++◌, Some, refl, sym, ap, subst, ◌∙◌, arith}
+use Rattle.std.specs.List.{All, AllPass}
 use Rattle.std.proofs.lemmas.List.Elements.{All-push}
 use Rattle.multi_meaning.specs.Address.{Spot, is_glyph, is_break}
 use Rattle.multi_meaning.specs.Fit.{line_fits}
@@ -26,11 +26,5 @@ broken_line width g s placing glyph fits c wide word found =
     let front = ended width g in
     let glyphs = open_line_glyphs width g placing in
     let (before, behind) = glyphs_around c.before c.item c.behind (subst (AllPass is_glyph) (is_cut is_space (open_line width g) c found).parts glyphs) in
-    let same : ended_lines (front ++ c.before) ≡ ended_lines (filled (Some width) g) =
-    ended_glyphs front c.before before ∙ sym (ap ended_lines (filled_is width g placing) ∙ ended_glyphs front (open_line width g) glyphs) in
-    let open' : after_last is_break (front ++ c.before) ≡ c.before =
-    after_last_is is_break (front ++ c.before) ∙ ap (λ (d : Cut Spot). d.open') (cut_with c.before front before) ∙ ap (λ l. l ++ c.before) (ends_open width front (ended_ends width g placing)) in
-    ap ended_lines (breaks width g s placing glyph fits c wide word found)
-    ∙ ended_glyphs ((front ++ c.before) ++ dropped c.item ∷ []) (c.behind ++ s ∷ []) (All-push (λ x. is_glyph x ≡ true) c.behind s behind glyph)
-    ∙ ended_break (front ++ c.before) (dropped c.item) refl
-    ∙ (λ i. same i ++ (open' i ++ dropped c.item ∷ []) ∷ [])
+    grind (arith, breaks width g s placing glyph fits c wide word found, ended_glyphs front c.before before, filled_is width g placing, ended_glyphs front (open_line width g) glyphs, after_last_is, cut_with c.before front before, ends_open width front (ended_ends width g placing),
+    ended_glyphs ((front ++ c.before) ++ dropped c.item ∷ []) (c.behind ++ s ∷ []) (All-push (λ x. is_glyph x ≡ true) c.behind s behind glyph), ended_break (front ++ c.before) (dropped c.item) refl)

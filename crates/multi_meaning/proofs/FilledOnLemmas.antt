@@ -1,6 +1,6 @@
 -- The laid items of an area at one more character of its string.
-use Rattle.std.proofs.Common.{◌≡◌, inl, inr, ℕ, ◌≤◌, max, true, false, cond, ◌==◌, List, [], ◌∷◌, ◌++◌, Some, refl, sym, ap, ◌∙◌, arith, append-nil}
-use Rattle.std.proofs.lemmas.Bool.{and_parts, cases_Bool, false_from_ne_true}
+use Rattle.std.proofs.Common.{◌≡◌, ℕ, ◌≤◌, max, true, false, cond, ◌==◌, List, [], ◌∷◌, ◌++◌, Some, refl, sym, ap, ◌∙◌, arith, append-nil}
+use Rattle.std.proofs.lemmas.Bool.{and_parts, false_from_ne_true}
 use Rattle.std.proofs.lemmas.List.Elements.{filter-append}
 use Rattle.multi_tag.specs.Just.{page_number}
 use Rattle.sign_font.specs.declared.parts.LineFill.{LineFill}
@@ -37,10 +37,8 @@ module _ (setting : LineFill) (width : ℕ) (a : ℕ) where
   largest_laid all =
       let f = largest (λ (t : Spot). page_number t.at.page_just) in
       front_ind all (λ some. f (in_area a (laid setting all some)) ≡ f (in_area a some)) refl (λ some more x is ih.
-      let y = laid_spot setting all some x in
-      let (member, just) = same_at x y (laid_as setting all some more x is) in
-      ap (λ l. f (in_area a l)) (each_after_push (laid_spot setting all) some x) ∙ largest_more (laid setting all some) y
-      ∙ (λ i. cond (member i) (max (ih i) (just i)) (ih i)) ∙ sym (largest_more some x))
+      let (member, just) = same_at x (laid_spot setting all some x) (laid_as setting all some more x is) in
+      ap (λ l. f (in_area a l)) (each_after_push (laid_spot setting all) some x) ∙ grind (arith, largest_more, member, just, ih))
 
 -- one more character: its group grows, and the others stay
 module _ (setting : LineFill) (width : ℕ) (all : List Spot) (s : Spot) (glyph : is_glyph s ≡ true) (same : HasWidth setting width s.at.area (all ++ s ∷ []))
@@ -58,14 +56,13 @@ module _ (setting : LineFill) (width : ℕ) (all : List Spot) (s : Spot) (glyph 
       let first = (All-split (λ (x : Spot). x.at.area ≡ s.at.area → fill_at setting x.at ≡ Some width) all s same).0 in
       let before = groups_laid setting width s.at.area all s refl first in
       let after = groups_laid setting width s.at.area (all ++ s ∷ []) s refl same in
+      let members = members_push s.at.area (page_number s.at.page_just) all s true own in
+      let most = largest_laid setting width s.at.area (all ++ s ∷ []) (all ++ s ∷ []) [] (sym (append-nil (all ++ s ∷ []))) in
+      let placed = (and_parts (in_areas s.at.area s) (page_number s.at.page_just == page_number s.at.page_just) own).0 in
       record {
         own = refl;
         before = before (page_number s.at.page_just);
-        after = after (page_number s.at.page_just) ∙ ap (filled (Some width)) (members_push s.at.area (page_number s.at.page_just) all s true own);
+        after = after (page_number s.at.page_just) ∙ ap (filled (Some width)) members;
         others = λ j other. after j ∙ ap (filled (Some width)) (others_stay j other) ∙ sym (before j);
-        last =
-            largest_laid setting width s.at.area (all ++ s ∷ []) (all ++ s ∷ []) [] (sym (append-nil (all ++ s ∷ [])))
-            ∙ ap (largest (λ (t : Spot). page_number t.at.page_just)) (one_more setting width s.at.area all s ∙ ap (λ b. in_area s.at.area all ++ cond b (s ∷ []) []) (and_parts (in_areas s.at.area s) (page_number s.at.page_just == page_number s.at.page_just) own).0)
-            ∙ largest_push (λ t. page_number t.at.page_just) (in_area s.at.area all) s
-            ∙ omega (arith, order);
+        last = most ∙ grind (arith, largest_more setting width s.at.area all s, placed, order);
       }

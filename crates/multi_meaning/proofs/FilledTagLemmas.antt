@@ -1,19 +1,17 @@
 -- A tag offends behind some items, where lines are filled, just where it does behind the items as they are laid out.
 use native.Mathlib.Omega.{arith}
-use Rattle.std.proofs.Common.{◌≡◌, ℕ, ◌+◌, true, false, cond, not, ◌||◌, nat_lt, List, [], ◌∷◌, ◌++◌, Option, Some, refl, sym, ap, ◌∙◌, append-nil, eq-eqb}
+use Rattle.std.proofs.Common.{◌≡◌, ℕ, true, List, [], ◌∷◌, ◌++◌, Option, Some, refl, sym, ap, append-nil, eq-eqb}
 use Rattle.std.specs.List.{count_by, list_any}
 use Rattle.std.proofs.lemmas.List.Elements.{All-push}
 use Rattle.multi_tag.specs.declared.tag.Tag.{Tag}
-use Rattle.multi_tag.specs.declared.tag.Tag.TheVariants.{NewPage, NewLine, Font}
-use Rattle.multi_tag.specs.Just.{page_number}
+use Rattle.multi_tag.specs.declared.tag.Tag.TheVariants.{NewLine}
 use Rattle.sign_font.specs.declared.parts.LineFill.TheVariants.{Off, Words}
 use Rattle.sign_font.specs.Sign.{SignData}
-use Rattle.multi_meaning.specs.Address.{Break, Put, Spot, Standing, area_of, in_area, spots, standing}
-use Rattle.multi_meaning.specs.Fit as plain
+use Rattle.multi_meaning.specs.Address.{Break, Put, Spot, Standing, area_of, spots, standing}
 use Rattle.multi_meaning.specs.Laid.{fill_at, laid, too_big}
 use Rattle.multi_meaning.specs.LaidItems.{laid_items}
 use Rattle.multi_meaning.specs.Meaning.{Meaning, Does, is_new_page}
-use Rattle.multi_meaning.specs.Offence.{first_code, goes_back, offence, offence_by, placing_cases}
+use Rattle.multi_meaning.specs.Offence.{goes_back, offence, offence_by}
 use Rattle.multi_meaning.proofs.CheckLemmas.{group_goes_back}
 use Rattle.multi_meaning.proofs.FilledOnLemmas.{HasWidth, largest_laid, one_more}
 use Rattle.multi_meaning.proofs.GroupLaidLemmas.{in_areas}
@@ -47,26 +45,17 @@ module _ (sign : SignData) (items : List Meaning) where
 
     -- it goes back among the laid spots just where it does among these
     goes_back_laid : list_any (goes_back nl) (area_of nl all) ≡ list_any (goes_back nl) (area_of nl (laid Words all all))
-    goes_back_laid =
-        group_goes_back nl (area_of nl all)
-        ∙ ap (λ n. nat_lt (page_number nl.at.page_just) n) (sym (largest_laid Words nl.at.rectangle.width nl.at.area all all [] (sym (append-nil all))))
-        ∙ sym (group_goes_back nl (area_of nl (laid Words all all)))
+    goes_back_laid = grind (arith, group_goes_back, largest_laid Words nl.at.rectangle.width nl.at.area all all [] (sym (append-nil all)))
 
     -- the spots with it are laid as those before it, and it
     laid_with : laid Words (all ++ nl ∷ []) (all ++ nl ∷ []) ≡ laid Words all all ++ nl ∷ []
     laid_with =
         let more = items ++ Does (NewLine gap) ∷ [] in
-        ap (λ l. laid Words l l) (sym (spots_more sign items (Does (NewLine gap)) (Break gap) refl))
-        ∙ sym (are_laid Words sign more more [] (sym (append-nil more))).1
-        ∙ ap (spots sign) (laid_tag Words sign items (NewLine gap))
-        ∙ spots_more sign laid_before (Does (NewLine gap)) (Break gap) refl
-        ∙ (λ i. here.1 i ++ record { at = here.0 i; put = Break gap } ∷ [])
+        grind (arith, spots_more sign items (Does (NewLine gap)) (Break gap) refl, are_laid Words sign more more [] (sym (append-nil more)), laid_tag Words sign items (NewLine gap), spots_more sign laid_before (Does (NewLine gap)) (Break gap) refl, here)
 
     too_big_laid_break : too_big Words all nl ≡ too_big Off (laid Words all all) nl
     too_big_laid_break =
-        too_big_laid Words nl.at.rectangle.width all nl placed (same_width (Break gap))
-        ∙ ap (λ l. not (plain.area_fits nl.at.rectangle.height (in_area nl.at.area l))) laid_with
-        ∙ ap (λ l. not (plain.area_fits nl.at.rectangle.height l)) (one_more Words nl.at.rectangle.width nl.at.area (laid Words all all) nl ∙ ap (λ b. in_area nl.at.area (laid Words all all) ++ cond b (nl ∷ []) []) placed)
+        grind (arith, too_big_laid Words nl.at.rectangle.width all nl placed (same_width (Break gap)), laid_with, one_more Words nl.at.rectangle.width nl.at.area (laid Words all all) nl, placed)
 
   same_pages : count_by is_new_page items ≡ count_by is_new_page laid_before
   unfolding standing

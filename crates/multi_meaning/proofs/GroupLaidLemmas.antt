@@ -1,11 +1,11 @@
 -- The laid spots of a group are the group, filled.
-use Rattle.std.proofs.Common.{◌≡◌, inl, inr, ℕ, ◌<◌, Bool, true, false, cond, ◌&&◌, ◌||◌, ◌==◌, List, [], ◌∷◌, ◌++◌, length, take, Option, refl, sym, ap, subst, ◌∙◌, arith, length-append, append_assoc, append-nil, slice_index_or, All}
-use Rattle.std.proofs.lemmas.Bool.{and_parts, both_ways, cases_Bool, eqb-true, eq-eqb}
+use Rattle.std.proofs.Common.{◌≡◌, inl, inr, ℕ, ◌<◌, Bool, true, cond, ◌&&◌, ◌||◌, ◌==◌, List, [], ◌∷◌, ◌++◌, length, take, Option, refl, sym, ap, subst, ◌∙◌, arith, length-append, append-nil, slice_index_or, All}
+use Rattle.std.proofs.lemmas.Bool.{cases_Bool, eq-eqb}
 use Rattle.std.proofs.lemmas.List.{get_or_at, take_all, take_more, length_push}
 use Rattle.std.proofs.lemmas.List.Elements.{AllZip-get_or, filter-append, length_all_zip}
 use Rattle.multi_tag.specs.Just.{page_number}
 use Rattle.sign_font.specs.declared.parts.LineFill.{LineFill}
-use Rattle.multi_meaning.specs.Address.{Spot, is_glyph, is_break, in_group, in_area, group_of}
+use Rattle.multi_meaning.specs.Address.{Spot, is_glyph, is_break, in_group, in_area}
 use Rattle.multi_meaning.specs.kept.Present.{IsPlacing}
 use Rattle.multi_meaning.proofs.WordLemmas.{All-around, each_after_push, front_ind}
 use Rattle.multi_meaning.proofs.GroupLemmas.{placing_group, in_area_placing}
@@ -92,16 +92,9 @@ module _ (setting : LineFill) (all : List Spot) where
     pub group_laid : (some more : List Spot) → all ≡ some ++ more → members a j (laid setting all some) ≡ take (length (members a j some)) (filled fill (members a j all))
     group_laid = front_ind all (λ some. members a j (laid setting all some) ≡ take (length (members a j some)) whole) refl (λ some more x is ih.
         let y = laid_spot setting all some x in
-        let same : is_member a j y ≡ is_member a j x = same_member a j x y (laid_as some more x is) in
-        ap (members a j) (each_after_push (laid_spot setting all) some x) ∙ elim (cases_Bool (is_member a j x)) [
-          | inl e ↦
-              members_push a j (laid setting all some) y true (same ∙ e) ∙ (λ i. ih i ++ there some more x is e i ∷ [])
-              ∙ sym (take_more whole (length (members a j some)) x (omega (arith, has_place all a j some more x is e, whole_length)))
-              ∙ ap (λ n. take n whole) (sym (length_push (members a j some) x)) ∙ ap (λ l. take (length l) whole) (sym (members_push a j some x true e))
-          | inr e ↦
-              members_push a j (laid setting all some) y false (same ∙ e) ∙ append-nil (members a j (laid setting all some)) ∙ ih
-              ∙ ap (λ l. take (length l) whole) (sym (members_push a j some x false e ∙ append-nil (members a j some)))
-        ])
+        let push = members_push a j (laid setting all some) y (is_member a j y) refl in
+        ap (members a j) (each_after_push (laid_spot setting all) some x) ∙ grind (arith, push, same_member a j x y (laid_as some more x is), ih, there some more x is, take_more whole (length (members a j some)) x,
+        has_place all a j some more x is, whole_length, length_push (members a j some) x, members_push a j some x (is_member a j x) refl, append-nil))
 
     -- all of them are the group, filled
     pub group_whole : members a j (laid setting all all) ≡ filled fill (members a j all)

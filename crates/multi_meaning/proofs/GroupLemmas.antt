@@ -1,11 +1,11 @@
 -- Placing items, and the groups of an area.
 use native.Mathlib.Omega.{arith}
 use Rattle.std.proofs.Common.{◌≡◌, ℕ, Bool, true, false, ◌&&◌, ◌||◌, ◌==◌, List, [], ◌∷◌, ◌++◌, None, refl, ◌∙◌, append-nil}
-use Rattle.std.proofs.lemmas.Bool.{and_parts, eq-eqb, false≢true, ne_eqb, or_cases}
+use Rattle.std.proofs.lemmas.Bool.{and_parts, eq-eqb, ne_eqb, or_cases}
 use Rattle.std.proofs.lemmas.List.Elements.{All-weaker, filter-append, All-filter, filter_passes}
 use Rattle.std.specs.List.{filter, AllPass, All}
 use Rattle.multi_tag.specs.Just.{page_number}
-use Rattle.multi_meaning.specs.Address.{Spot, is_glyph, Standing, Put, Glyph, Break, Cover, is_break, in_area, in_group, area_of}
+use Rattle.multi_meaning.specs.Address.{Spot, is_glyph, Standing, Put, is_break, in_area, in_group, area_of}
 use Rattle.multi_meaning.specs.Line.{given_gap}
 use Rattle.multi_meaning.specs.kept.Present.{IsPlacing}
 use Rattle.multi_meaning.proofs.WordLemmas.{All-around}

@@ -1,16 +1,15 @@
 -- What is in force behind the items of an accepted string: the rectangle is inside the sign, and every font is at least one
 -- pixel high, with characters at least one column wide.
-use Rattle.std.proofs.Common.{◌≡◌, ℕ, ◌+◌, ◌-◌, ◌≤◌, Bool, true, cond, ◌&&◌, ◌||◌, ◌==◌, List, [], ◌∷◌, ◌++◌, Option, Some, None, sym, subst, ◌∙◌, arith, inl, inr, IsSome, IfSome, unwrap_or}
+use Rattle.std.proofs.Common.{◌≡◌, ℕ, ◌+◌, ◌-◌, ◌≤◌, Bool, true, cond, ◌&&◌, ◌||◌, ◌==◌, List, [], ◌∷◌, ◌++◌, Option, None, sym, subst, ◌∙◌, arith, inl, inr, IsSome, IfSome, unwrap_or}
 use Rattle.std.specs.List.{All, cons_option, find}
-use Rattle.std.proofs.lemmas.Bool.{cases_Bool, false≢true, true_from_ne_false}
+use Rattle.std.proofs.lemmas.Bool.{cases_Bool}
 use Rattle.std.proofs.lemmas.Bool.Decides.{nat_tests}
 use Rattle.std.proofs.lemmas.List.Elements.{All-nil, All-head, All-tail, All-filter, All-weaker}
-use Rattle.multi_tag.specs.declared.tag.Tag.TheVariants.{NewPage, NewLine, Font, Back, Rect}
 use Rattle.sign_font.specs.declared.parts.Defaults.{Defaults}
-use Rattle.sign_font.specs.Sign.{SignData, CellData, FontData, font_numbered, cell_numbered}
-use Rattle.sign_font.specs.Sound.{IsSound, IsSoundCell, IsSoundFont}
+use Rattle.sign_font.specs.Sign.{SignData, CellData, FontData, font_numbered}
+use Rattle.sign_font.specs.Sound.{IsSound}
 use Rattle.multi_meaning.specs.declared.attributes.Rectangle.{Rectangle}
-use Rattle.multi_meaning.specs.Meaning.{Meaning, Shows, Does}
+use Rattle.multi_meaning.specs.Meaning.{Meaning}
 use Rattle.multi_meaning.specs.Attributes.{default_font, given_font, given_rectangle, is_inside, rectangle, whole_sign}
 use Rattle.multi_meaning.specs.Address.{Standing, standing, Spot, put_at, spots, is_glyph, is_break}
 use Rattle.multi_meaning.specs.Line.{glyph_width}
@@ -20,7 +19,7 @@ use Rattle.multi_meaning.specs.Words.{some_after}
 use Rattle.multi_meaning.proofs.LayoutLemmas.{spots_all}
 use Rattle.multi_meaning.proofs.OffenceLemmas.{offence-rectangle}
 use Rattle.multi_meaning.proofs.StandingLemmas.{standing_push}
-use Rattle.multi_meaning.proofs.WordLemmas.{cases_Option, left_nil, none_of, push_ind, right_nil, some_after_push, some_after-append}
+use Rattle.multi_meaning.proofs.WordLemmas.{left_nil, none_of, push_ind, right_nil, some_after_push, some_after-append}
 
 -- ---- the items of an accepted string, from the end
 
@@ -55,10 +54,7 @@ inside_side : (x w size : ℕ) → 1 ≤ x → x ≤ size → x - 1 + w ≤ size
 inside_side x w size some at room = elim (cases_Bool (w == 0)) [ inl rest ↦ rw rest (omega arith) | inr given ↦ rw given room ]
 
 rectangle_in_sign : (sign : SignData) (x y w h : ℕ) → is_inside sign x y w h ≡ true → IsInSign sign (rectangle sign x y w h)
-rectangle_in_sign sign x y w h passes = record {
-  across = inside_side x w sign.width (grind (arith, nat_tests)) (grind (arith, nat_tests)) (grind (arith, nat_tests));
-  down = inside_side y h sign.height (grind (arith, nat_tests)) (grind (arith, nat_tests)) (grind (arith, nat_tests));
-}
+rectangle_in_sign sign x y w h passes = record { across = grind (arith, nat_tests); down = grind (arith, nat_tests) }
 
 whole_in_sign : (sign : SignData) → IsInSign sign (whole_sign sign)
 whole_in_sign sign = record { across = omega arith; down = omega arith }
@@ -114,13 +110,7 @@ high_default v0 font some high = grind arith
 
 -- what an item puts where the font in force is high
 high_put : (defaults : Defaults) (here : Standing) (x : Meaning) → HighFont here.font → IfSome (put_at defaults here x) (λ put. let spot : Spot = record { at = here; put = put } in High spot)
-high_put defaults here (Shows number) high =
-    let wide = found_each IsWideCell (λ cell. cell.number == number) here.font.cells high.1 in
-    elim (cases_Option (cell_numbered here.font number)) [ inl none ↦ rw none tt | inr (cell, found) ↦ rw found (high.0, λ glyph. rw found at wide) ]
-high_put defaults here (Does NewPage) high = (high.0, λ glyph. absurd (false≢true glyph))
-high_put defaults here (Does (NewLine gap)) high = (high.0, λ glyph. absurd (false≢true glyph))
-high_put defaults here (Does (Back colour)) high = (high.0, λ glyph. absurd (false≢true glyph))
-high_put defaults here x high = tt
+high_put defaults here x high = grind (arith, found_each IsWideCell, high.0, high.1)
 
 -- the font in force and all that is put are high
 record IsHigh (sign : SignData) (items : List Meaning) : Type 0 where

@@ -1,7 +1,6 @@
 -- What stands at an offset of a string, from what was read there.
-use Rattle.std.proofs.Common.{◌≡◌, ℕ, ◌+◌, ◌-◌, ◌*◌, ◌^◌, ◌<◌, ◌≤◌, true, false, List, length, slice_get, inr, ◌⊎◌, Option, Ok, Err, Some, None, refl, sym, ap, ◌∙◌, arith, min, nat_eq}
+use Rattle.std.proofs.Common.{◌≡◌, ℕ, ◌+◌, ◌-◌, ◌*◌, ◌^◌, ◌<◌, ◌≤◌, true, false, List, length, slice_get, inr, ◌⊎◌, Option, Err, Some, refl, ◌∙◌, arith, min, nat_eq}
 use Rattle.std.specs.Option.{option_eq}
-use Rattle.std.proofs.lemmas.Bool.{eq-eqb, eqb-true, false≢true}
 use Rattle.multi_token.specs.declared.token.Token.{Token}
 use Rattle.multi_token.specs.declared.token.Kind.TheVariants as kinds
 use Rattle.multi_token.specs.Tokens.{IsTagOf, body_of}
@@ -39,11 +38,9 @@ module _ (octets : List ℕ) (at : ℕ) where
   pub ahead_steps : (tag : Tag) (len steps : ℕ) → IsTagAt octets at tag len → steps ≡ 1 + min 26 (length octets - (at + 1)) → (len - 1 ≤ steps) × (steps ≤ 9 * len - 9)
   ahead_steps tag len steps (is, spells) e =
       let t : Token = record { at = at; len = len; kind = kinds.Tag } in
-      let size = length-tag octets t is in
       let long = body_long (body_of octets t) tag spells in
       let short = (short_body (body_of octets t) tag spells).few in
-      let within = is.is.within in
-      (omega (arith, e, size, short, within), omega (arith, e, size, long))
+      (omega (arith, e, length-tag octets t is, short, is.is.within), omega (arith, e, length-tag octets t is, long))
 
   -- a tag at fault
   pub fault_at : (len code : ℕ) (fault : TagFault) → IsTagOf octets (record { at = at; len = len; kind = kinds.Tag })

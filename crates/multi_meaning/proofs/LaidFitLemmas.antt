@@ -1,13 +1,12 @@
 -- Whether a placing item is too big, by the laid items of its area.
-use Rattle.std.proofs.Common.{◌≡◌, ℕ, Bool, true, not, cond, ◌&&◌, ◌||◌, List, [], ◌∷◌, ◌++◌, Some, refl, sym, ap, ◌∙◌}
+use Rattle.std.proofs.Common.{◌≡◌, ℕ, Bool, true, not, ◌&&◌, ◌||◌, List, [], ◌∷◌, ◌++◌, Some, refl, arith}
 use Rattle.std.specs.List.{after_last}
 use Rattle.multi_tag.specs.Just.{page_number}
 use Rattle.sign_font.specs.declared.parts.LineFill.{LineFill}
-use Rattle.multi_meaning.specs.Address.{Spot, area_of, in_area, in_group, is_break, is_glyph, lines_of}
-use Rattle.multi_meaning.specs.Filling.{filled}
+use Rattle.multi_meaning.specs.Address.{Spot, in_area, in_group, is_break, is_glyph, lines_of}
 use Rattle.multi_meaning.specs.Fit as plain
 use Rattle.multi_meaning.specs.Fit.{fit, line_fits}
-use Rattle.multi_meaning.specs.Laid.{fill_at, laid, laid_group, too_big}
+use Rattle.multi_meaning.specs.Laid.{fill_at, laid, too_big}
 use Rattle.multi_meaning.specs.Line.{height_of}
 use Rattle.multi_meaning.proofs.FilledOnLemmas.{HasWidth, groups_laid, one_more}
 use Rattle.multi_meaning.proofs.GroupLaidLemmas.{in_areas}
@@ -28,8 +27,4 @@ module _ (setting : LineFill) (width : ℕ) (all : List Spot) (s : Spot) (placed
   pub too_big_laid : too_big setting all s ≡ ((is_glyph s && not (line_fits s.at.rectangle.width (after_last is_break (in_group (page_number s.at.page_just) laid_with)))) || not (plain.area_fits s.at.rectangle.height laid_with))
   too_big_laid =
       let fill = (All-split (λ (x : Spot). x.at.area ≡ s.at.area → fill_at setting x.at ≡ Some width) all s same).1 refl in
-      let area = one_more setting width s.at.area all s ∙ ap (λ b. area_of s all ++ cond b (s ∷ []) []) placed in
-      let groups : (j : ℕ) → filled (Some width) (in_group j (in_area s.at.area (all ++ s ∷ []))) ≡ in_group j laid_with = λ j. sym (groups_laid setting width s.at.area (all ++ s ∷ []) s refl same j) in
-      ap (λ o. by_groups (λ j. laid_group o j (area_of s all ++ s ∷ []))) fill
-      ∙ ap (λ l. by_groups (λ j. laid_group (Some width) j l)) (sym area)
-      ∙ (λ i. by_groups (λ j. groups j i))
+      grind (arith, fill, one_more setting width s.at.area all s, placed, groups_laid setting width s.at.area (all ++ s ∷ []) s refl same)

@@ -1,13 +1,12 @@
 -- The items of a string as they are laid out: a space that is dropped is the end of its line, as an `nl` is.
 use native.Mathlib.Omega.{arith}
-use Rattle.std.proofs.Common.{◌≡◌, ◌||◌, ℕ, true, List, [], ◌∷◌, ◌++◌, Option, Some, None, inl, inr, refl, sym, ap, subst, ◌∙◌, append-nil, option_map}
+use Rattle.std.proofs.Common.{◌≡◌, ◌||◌, ℕ, true, List, [], ◌∷◌, ◌++◌, Option, Some, inl, inr, refl, sym, ap, ◌∙◌, append-nil}
 use Rattle.std.specs.List.{cons_option}
-use Rattle.std.proofs.lemmas.Bool.{false≢true}
 use Rattle.multi_tag.specs.declared.tag.Tag.TheVariants.{NewLine}
 use Rattle.sign_font.specs.Sign.{SignData}
 use Rattle.sign_font.specs.declared.parts.LineFill.{LineFill}
-use Rattle.multi_meaning.specs.Address.{Spot, Put, Glyph, Break, Cover, Standing, standing, spots, spot_at, put_at, is_break, is_glyph}
-use Rattle.multi_meaning.specs.Meaning.{Does, Meaning, Shows}
+use Rattle.multi_meaning.specs.Address.{Spot, Put, Standing, standing, spots, spot_at, put_at, is_break, is_glyph}
+use Rattle.multi_meaning.specs.Meaning.{Does, Meaning}
 use Rattle.multi_meaning.specs.kept.Present.{standing_behind}
 use Rattle.multi_meaning.specs.Laid.{laid_spot, laid}
 use Rattle.multi_meaning.specs.LaidItems.{laid_item, laid_items, laid_of}
@@ -47,7 +46,7 @@ module _ (setting : LineFill) (sign : SignData) where
       (standing_behind sign (standing sign some) y ≡ standing_behind sign (standing sign some) x)
       × (laid setting (spots sign all) (spots sign some) ++ cons_option (spot_at sign.defaults (standing sign some) y) [] ≡ laid setting (spots sign all) (spots sign some ++ cons_option (spot_at sign.defaults (standing sign some) x) []))
   one_laid all some more x is = elim (cases_Option (put_at sign.defaults (standing sign some) x)) [
-    | inl none ↦ rw none (refl, rw none (append-nil (laid setting (spots sign all) (spots sign some)) ∙ ap (laid setting (spots sign all)) (sym (append-nil (spots sign some)))))
+    | inl none ↦ rw none (refl, rw none (simp append-nil))
     | inr (put, e) ↦
         let s : Spot = record { at = standing sign some; put = put } in
         let as' = laid_as setting (spots sign all) (spots sign some) _ s (ap (spots sign) is ∙ spots_with sign some x more put e) in

@@ -1,5 +1,5 @@
 -- A filled group at one more placing item, and the line that is open at its end.
-use Rattle.std.proofs.Common.{◌≡◌, ◌⊎◌, inl, inr, ℕ, true, false, List, [], ◌∷◌, ◌++◌, length, Option, Some, None, zero, suc, refl, sym, ap, subst, ◌∙◌, arith, append_assoc, append-nil}
+use Rattle.std.proofs.Common.{◌≡◌, ◌⊎◌, inl, inr, ℕ, true, false, List, [], ◌∷◌, ◌++◌, length, Option, Some, zero, suc, refl, sym, ap, subst, ◌∙◌, arith, append_assoc, append-nil}
 use Rattle.std.specs.List.{filter, flat_map, after_last, All, AllPass}
 use Rattle.std.proofs.lemmas.List.{length_push}
 use Rattle.std.proofs.lemmas.List.Concat.{flat_map-append}
@@ -77,9 +77,7 @@ module _ (width : ℕ) where
       let steady = parts_more width n o (omega arith) in
       let fits' : line_fits width (parts width (suc n) o).open' ≡ true = ap (λ (f : Filled width). line_fits width f.open') steady ∙ fits in
       let line = line_of_glyphs (o ++ s ∷ []) (All-push (λ x. is_glyph x ≡ true) o s (open_glyphs g placing) is) ∙ ap (λ k. fill k width (o ++ s ∷ [])) size ∙ fill_push width (suc n) o s (omega arith) fits' in
-      more_filled g s ∙ ap (λ l. front g ++ l) line
-      ∙ ap (λ (f : Filled width). front g ++ (f.closed ++ relaid width (f.open' ++ s ∷ []))) steady
-      ∙ sym (append_assoc (front g) (last_parts g).closed (relaid width (open_line g ++ s ∷ [])))
+      more_filled g s ∙ grind (arith, line, steady, append_assoc)
 
   -- THE OPEN LINE OF A FILLED GROUP
 
@@ -143,7 +141,4 @@ ends_open width xs v2 = grind (arith, cut_push)
 -- the open line of a filled group stands behind its last end of a line
 pub open_line_is : (width : ℕ) (g : List Spot) → All IsPlacing g → after_last is_break (filled (Some width) g) ≡ open_line width g
 open_line_is width g placing =
-    after_last_is is_break (filled (Some width) g)
-    ∙ ap (λ l. (cut is_break l).open') (filled_is width g placing)
-    ∙ ap (λ (c : Cut Spot). c.open') (cut_with (open_line width g) (ended width g) (open_line_glyphs width g placing))
-    ∙ ap (λ l. l ++ open_line width g) (ends_open width (ended width g) (ended_ends width g placing))
+    grind (arith, after_last_is, filled_is width g placing, cut_with (open_line width g) (ended width g) (open_line_glyphs width g placing), ends_open width (ended width g) (ended_ends width g placing))

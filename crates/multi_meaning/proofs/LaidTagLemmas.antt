@@ -1,26 +1,25 @@
 -- One more spot, and one more item, behind a string: the others are laid as they were, where it only goes behind its filled group;
 -- and a tag is laid as itself.
-use Rattle.std.proofs.Common.{◌≡◌, inl, inr, true, false, cond, List, [], ◌∷◌, ◌++◌, length, Some, None, refl, sym, ap, ◌∙◌, arith, append_assoc, append-nil, slice_index_or, option_map}
-use Rattle.std.proofs.lemmas.Bool.{both_ways, cases_Bool, false_from_ne_true, eq-eqb}
+use Rattle.std.proofs.Common.{◌≡◌, inl, inr, true, false, cond, List, [], ◌∷◌, ◌++◌, length, Some, None, refl, ap, ◌∙◌, arith, append_assoc, append-nil, slice_index_or, option_map}
+use Rattle.std.proofs.lemmas.Bool.{eq-eqb}
 use Rattle.std.proofs.lemmas.List.{get_or_at, get_or_append_left}
-use Rattle.std.proofs.lemmas.List.Elements.{All-push, All-weaker}
+use Rattle.std.proofs.lemmas.List.Elements.{All-push}
 use Rattle.multi_tag.specs.Just.{page_number}
 use Rattle.multi_tag.specs.declared.tag.Tag.{Tag}
 use Rattle.multi_tag.specs.declared.tag.Tag.TheVariants.{NewPage, NewLine, Back}
 use Rattle.sign_font.specs.Sign.{SignData}
 use Rattle.sign_font.specs.declared.parts.LineFill.{LineFill}
-use Rattle.sign_font.specs.declared.parts.LineFill.TheVariants.{Off, Words}
 use Rattle.multi_meaning.specs.Address.{Spot, Put, is_glyph, is_break, group_of, put_at, spot_at, spots, standing, Break, Standing}
 use Rattle.multi_meaning.specs.Filling.{filled}
 use Rattle.multi_meaning.specs.Laid.{fill_at, laid_spot}
 use Rattle.multi_meaning.specs.LaidItems.{laid_item, laid_items, laid_of}
 use Rattle.multi_meaning.specs.Meaning.{Meaning, Does}
 use Rattle.multi_meaning.specs.Words.{each_after}
-use Rattle.multi_meaning.proofs.GroupLaidLemmas.{HasFill, has_place, is_member, member_at, members_placing, members_push, own_member, there, whole_length}
+use Rattle.multi_meaning.proofs.GroupLaidLemmas.{HasFill, has_place, is_member, members_placing, members_push, there, whole_length}
 use Rattle.multi_meaning.proofs.SpotsLemmas.{spots_more, spots_nothing, spots_with}
 use Rattle.multi_meaning.proofs.WordLemmas.{cases_Option, each_after_push, each_same}
 use Rattle.multi_meaning.proofs.LaidLemmas.{filled_behind}
-use Rattle.multi_meaning.proofs.RectangleLemmas.{IsBehind, spots_placed}
+use Rattle.multi_meaning.proofs.RectangleLemmas.{spots_placed}
 
 -- ONE MORE SPOT
 
@@ -87,14 +86,13 @@ module _ (setting : LineFill) (sign : SignData) where
       → laid_items setting sign (items ++ x ∷ []) (items ++ x ∷ []) ≡ laid_items setting sign items items ++ laid_of x (Some y) ∷ []
   laid_behind items x put y puts leaves last =
       let all = spots sign items ++ record { at = standing sign items; put = put } ∷ [] in
-      let stay : each_after (among all) items ≡ laid_items setting sign items items = each_same (among all) (among (spots sign items)) items (λ some more z is. elim (cases_Option (put_at sign.defaults (standing sign some) z)) [
+      let stay = each_same (among all) (among (spots sign items)) items (λ some more z is. elim (cases_Option (put_at sign.defaults (standing sign some) z)) [
         | inl none ↦ rw none refl
         | inr (p, e) ↦ rw e (ap (λ y. laid_of z (Some y)) (leaves (spots sign some) _ (record { at = standing sign some; put = p }) (ap (spots sign) is ∙ spots_with sign some z more p e)))
       ]) in
       each_after_push (laid_item setting sign (items ++ x ∷ [])) items x
       ∙ ap (λ l. each_after (among l) items ++ among l items x ∷ []) (spots_more sign items x put puts)
-      ∙ ap (λ l. l ++ among all items x ∷ []) stay
-      ∙ rw puts (ap (λ y. laid_items setting sign items items ++ laid_of x (Some y) ∷ []) last)
+      ∙ (λ i. stay i ++ among all items x ∷ []) ∙ rw puts (ap (λ y. laid_items setting sign items items ++ laid_of x (Some y) ∷ []) last)
 
 -- ONE MORE TAG
 
@@ -126,8 +124,9 @@ module _ (setting : LineFill) (sign : SignData) (items : List Meaning) where
   pub laid_tag : (tag : Tag) → LaidAsItself tag
   laid_tag (NewLine gap) =
       let here = standing sign items in
-      let member : is_member here.area (page_number here.page_just) (spot_of (Break gap)) ≡ true = rw (eq-eqb here.area here.area refl, eq-eqb (page_number here.page_just) (page_number here.page_just) refl) refl in
-      laid_placing (Does (NewLine gap)) (Break gap) (spot_of (Break gap)) refl member (filled_behind (fill_at setting here) (group_of (spot_of (Break gap)) (spots sign items)) (spot_of (Break gap)) (members_placing here.area (page_number here.page_just) (spots sign items)) refl)
+      let group = group_of (spot_of (Break gap)) (spots sign items) in
+      let member : is_member here.area (page_number here.page_just) (spot_of (Break gap)) ≡ true = grind (arith, eq-eqb) in
+      laid_placing (Does (NewLine gap)) (Break gap) (spot_of (Break gap)) refl member (filled_behind (fill_at setting here) group (spot_of (Break gap)) (members_placing here.area (page_number here.page_just) (spots sign items)) refl)
   laid_tag NewPage = laid_behind setting sign items (Does NewPage) _ _ refl (unplaced_leaves setting (spots sign items) _ refl refl) refl
   laid_tag (Back colour) = laid_behind setting sign items (Does (Back colour)) _ _ refl (unplaced_leaves setting (spots sign items) _ refl refl) refl
   laid_tag tag = laid_nothing setting sign items (Does tag) refl

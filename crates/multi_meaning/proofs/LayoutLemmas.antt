@@ -1,6 +1,6 @@
 -- What one more item does to the values in force, the spots, the widths and the heights.
-use Rattle.std.proofs.Common.{◌≡◌, inl, inr, ◌+◌, List, [], ◌∷◌, ◌++◌, Option, Some, None, refl, ap, ◌∙◌, unwrap_or, append-nil}
-use Rattle.std.specs.List.{All, filter_map, last_or, cons_option}
+use Rattle.std.proofs.Common.{◌≡◌, inl, inr, ◌+◌, List, [], ◌∷◌, ◌++◌, Option, Some, unwrap_or, append-nil, arith}
+use Rattle.std.specs.List.{All, cons_option}
 use Rattle.std.proofs.lemmas.List.Elements.{All-push, filter_map-append}
 use Rattle.sign_font.specs.Sign.{SignData}
 use Rattle.multi_meaning.specs.Meaning.{Meaning}
@@ -11,10 +11,7 @@ use Rattle.multi_meaning.proofs.WordLemmas.{cases_Option, some_after_push, last_
 
 -- one more item gives the attribute its value, or leaves it
 pub in_force_push : {A : Type 0} (given : Meaning → Option A) (default : A) (before : List Meaning) (x : Meaning) → in_force given default (before ++ x ∷ []) ≡ unwrap_or (given x) (in_force given default before)
-in_force_push given default before x =
-    ap (λ l. unwrap_or (last_or None l) default) (filter_map-append given before (x ∷ []))
-    ∙ ap (λ o. unwrap_or o default) (last_or-append None (filter_map given before) (cons_option (given x) []))
-    ∙ elim (cases_Option (given x)) [ inl none ↦ rw none refl | inr (value, some) ↦ rw some refl ]
+in_force_push given default before x = grind (arith, filter_map-append, last_or-append)
 
 pub spots_push : (sign : SignData) (items : List Meaning) (x : Meaning) → spots sign (items ++ x ∷ []) ≡ spots sign items ++ cons_option (spot_at sign.defaults (standing sign items) x) []
 unfolding spots

@@ -1,39 +1,17 @@
 -- How many lines fit a height, and how much of it each group may have.
-use Rattle.std.proofs.Common.{◌≡◌, inl, inr, ℕ, ◌+◌, ◌<◌, ◌≤◌, ⊎_elim, Bool, true, ◌==◌, length, List, [], ◌∷◌, sym, subst, arith}
-use Rattle.std.proofs.lemmas.Bool.{cases_Bool, cases_eq, false≢true}
-use Rattle.std.proofs.lemmas.Bool.Decides.{nat_tests}
-use Rattle.std.proofs.lemmas.List.Elements.{All-nil, All-cons, All-head, All-tail, All-filter, All-weaker}
+use Rattle.std.proofs.Common.{◌≡◌, inl, inr, ℕ, ◌+◌, ◌<◌, ◌≤◌, ⊎_elim, Bool, true, ◌==◌, length, List, [], ◌∷◌, sym, subst, arith, ◌++◌}
+use Rattle.std.proofs.lemmas.Bool.{cases_Bool, false≢true}
+use Rattle.std.proofs.lemmas.List.Elements.{All-nil, All-cons, All-head, All-tail, All-filter, All-append, All-push}
 use Rattle.std.proofs.lemmas.List.Sums.{sum_by-cons}
-use Rattle.std.specs.List.{filter, list_any, onto_first, sum_by, All}
+use Rattle.std.specs.List.{filter, list_any, sum_by, All}
 use Rattle.multi_tag.specs.Just.{page_number}
-use Rattle.multi_meaning.specs.Words.{cut_behind, largest}
+use Rattle.multi_meaning.specs.Words.{largest}
 use Rattle.multi_meaning.specs.Address.{Spot, is_glyph, is_break, in_group, lines_of}
-use Rattle.multi_meaning.specs.Line.{bearers, line_height, height_of}
+use Rattle.multi_meaning.specs.Line.{line_height, height_of}
 use Rattle.multi_meaning.specs.Fit.{fit, area_fits}
 use Rattle.multi_meaning.proofs.WordLemmas.{largest_most}
-
--- a list with an item, each of which passes
-record Filled {X : Type 0} (P : X → Type 0) (xs : List X) : Type 0 where
-  some : 0 < length xs
-  each : All P xs
-
-module _ {X : Type 0} (P : X → Type 0) where
-  filled_onto : (x : X) (parts : List (List X)) → P x → All (Filled P) parts → All (Filled P) (onto_first x parts)
-  filled_onto x [] h all = All-cons (Filled P) (x ∷ []) [] (record { some = omega arith; each = All-cons P x [] h (All-nil P) }) (All-nil (Filled P))
-  filled_onto x (part ∷ parts) h all =
-      let head : Filled P part = All-head (Filled P) part parts all in
-      All-cons (Filled P) (x ∷ part) parts (record { some = omega arith; each = All-cons P x part h head.each }) (All-tail (Filled P) part parts all)
-
-  -- no part of a cut list is empty
-  filled_parts : (p : X → Bool) (xs : List X) → All P xs → All (Filled P) (cut_behind p xs)
-  filled_parts p [] all = All-nil (Filled P)
-  filled_parts p (x ∷ xs) all =
-      let here = All-head P x xs all in
-      let rest = filled_parts p xs (All-tail P x xs all) in
-      elim (cases_Bool (p x)) [
-        | inl e ↦ rw e (All-cons (Filled P) (x ∷ []) (cut_behind p xs) (record { some = omega arith; each = All-cons P x [] here (All-nil P) }) rest)
-        | inr e ↦ rw e (filled_onto x (cut_behind p xs) here rest)
-      ]
+use Rattle.multi_meaning.proofs.CutLemmas.{cut, cut_behind_is, cut_ind_all, part}
+use Rattle.std.proofs.lemmas.List.{length_push}
 
 -- an item of a font of at least one pixel
 abbrev High : Spot → Type 0
@@ -48,13 +26,26 @@ filter_some p [] h = absurd (false≢true h)
 filter_some p (x ∷ xs) h = ⊎_elim (λ yes. rw yes (omega arith)) (λ no. rw no (filter_some p xs (rw no at h))) (cases_Bool (p x))
 
 -- a line with an item has at least one pixel
-line_high : (line : List Spot) → Filled High line → 1 ≤ line_height line
-line_high line h =
-    let from : Filled High (bearers line) = elim (cases_Bool (list_any is_glyph line)) [
-      | inl e ↦ rw e (record { some = filter_some is_glyph line e; each = All-filter is_glyph High line h.each })
-      | inr e ↦ rw e h
-    ] in
-    largest_some (λ t. t.at.font.height) (bearers line) from.some from.each
+abbrev IsHigh : List Spot → Type 0
+IsHigh line = 1 ≤ line_height line
+
+line_high : (line : List Spot) → 0 < length line → All High line → IsHigh line
+line_high line some high = elim (cases_Bool (list_any is_glyph line)) [
+  | inl e ↦ rw e (largest_some (λ t. t.at.font.height) (filter is_glyph line) (filter_some is_glyph line e) (All-filter is_glyph High line high))
+  | inr e ↦ rw e (largest_some (λ t. t.at.font.height) line some high)
+]
+
+part_high : (line : List Spot) → All High line → All IsHigh (part is_break line)
+part_high [] high = All-nil IsHigh
+part_high (s ∷ line) high = All-cons IsHigh (s ∷ line) [] (line_high (s ∷ line) (omega arith) high) (All-nil IsHigh)
+
+-- and so has each line of a group
+lines_high : (g : List Spot) → All High g → All IsHigh (lines_of g)
+lines_high g all =
+    let (closed, last) = cut_ind_all is_break High (λ c. All IsHigh c.closed × All High c.open') (All-nil IsHigh, All-nil High)
+    (λ c s h e (lines, line). (All-push IsHigh c.closed (c.open' ++ s ∷ []) lines (line_high (c.open' ++ s ∷ []) (omega (arith, length_push c.open' s)) (All-push High c.open' s line h)), All-nil High))
+    (λ c s h e (lines, line). (lines, All-push High c.open' s line h)) g all in
+    subst (All IsHigh) (sym (cut_behind_is is_break g)) (All-append IsHigh (cut is_break g).closed (part is_break (cut is_break g).open') closed (part_high (cut is_break g).open' last))
 
 pub sum_least : {X : Type 0} (f : X → ℕ) (xs : List X) → All (λ x. 1 ≤ f x) xs → length xs ≤ sum_by f xs
 sum_least f [] all = omega arith
@@ -62,11 +53,7 @@ sum_least f (x ∷ xs) all = omega (arith, sum_by-cons f x xs, All-head (λ x. 1
 
 -- a group has no more lines than pixels
 pub lines_most : (g : List Spot) → All (λ (s : Spot). 1 ≤ s.at.font.height) g → length (lines_of g) ≤ height_of (lines_of g)
-lines_most g all =
-    let lines = lines_of g in
-    let high : All (λ line. 1 ≤ line_height line) lines = All-weaker (Filled High) (λ line. 1 ≤ line_height line) line_high lines (filled_parts High is_break g all) in
-    let most : length lines ≤ sum_by line_height lines = sum_least line_height lines high in
-    omega (arith, most)
+lines_most g all = omega (arith, sum_least line_height (lines_of g) (lines_high g all))
 
 pub fit_each : (a b c height : ℕ) → fit a b c height ≡ true → a + b + c ≤ height
 fit_each a b c height h = grind arith

@@ -6,7 +6,6 @@ use Rattle.multi_token.specs.declared.token.Kind.TheVariants as kinds
 use Rattle.multi_token.specs.Spelling as items
 use Rattle.multi_token.specs.Tokens.{body_of, item_of}
 use Rattle.multi_tag.specs.declared.tag.Tag.{Tag}
-use Rattle.multi_tag.specs.declared.tag.Tag.TheVariants.{HexChar}
 use Rattle.multi_tag.specs.declared.tag.TagFault.{TagFault}
 use Rattle.multi_tag.specs.TagOf.{tag_of}
 use Rattle.multi_meaning.specs.Meaning.{Does, meaning, meaning_of_tag, said_by}

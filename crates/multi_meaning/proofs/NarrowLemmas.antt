@@ -1,10 +1,10 @@
 -- The lines of an accepted string are no wider than the sign, and its groups no higher.
-use Rattle.std.proofs.Common.{◌≡◌, ℕ, ◌≤◌, true, false, ◌&&◌, ◌||◌, ◌==◌, length, map, List, [], Option, Some, None, ◌∷◌, ◌++◌, refl, sym, ap, subst, ◌∙◌, arith, inl, inr, length-append}
-use Rattle.std.specs.List.{All, after_last, sum_by}
-use Rattle.std.proofs.lemmas.Bool.{and_parts, cases_Bool, cases_eq, not-false, or_parts, leb-true}
+use Rattle.std.proofs.Common.{◌≡◌, ℕ, ◌≤◌, true, false, ◌||◌, ◌==◌, map, List, [], Option, Some, None, ◌∷◌, ◌++◌, refl, sym, ap, subst, ◌∙◌, arith, inl, inr, length-append}
+use Rattle.std.specs.List.{All, after_last}
+use Rattle.std.proofs.lemmas.Bool.{cases_Bool, cases_eq, not-false, or_parts}
 use Rattle.std.proofs.lemmas.List.{map-append}
-use Rattle.std.proofs.lemmas.List.Elements.{All-cons, All-drop, All-filter, All-head, All-nil, All-tail, filter-append}
-use Rattle.multi_tag.specs.Just.{line_number, page_number}
+use Rattle.std.proofs.lemmas.List.Elements.{All-drop, All-filter, All-head, All-nil, All-tail, filter-append}
+use Rattle.multi_tag.specs.Just.{page_number}
 use Rattle.sign_font.specs.Sign.{SignData}
 use Rattle.sign_font.specs.Sound.{IsSound}
 use Rattle.sign_font.specs.declared.parts.LineFill.{LineFill}
@@ -27,10 +27,11 @@ use Rattle.multi_meaning.proofs.FillLemmas.{nothing_fits, segment_front}
 use Rattle.multi_meaning.proofs.WordLemmas.{push_ind}
 use Rattle.multi_meaning.proofs.GroupLemmas.{area_placing, in_group_other, own_group, placing_group}
 use Rattle.multi_meaning.proofs.InForceLemmas.{area_wide, rectangle_width_within, rectangle_within}
-use Rattle.multi_meaning.proofs.LinesFitLemmas.{each_just, fit_each, part_most, sum_least}
+use Rattle.multi_meaning.proofs.LinesFitLemmas.{each_just, fit_each, sum_least}
 use Rattle.multi_meaning.proofs.RoomLemmas.{area_fits_always, first_holds, holds_always, next_holds}
 use Rattle.multi_meaning.proofs.LaidLemmas.{filled_behind, filled_none}
 use Rattle.multi_meaning.proofs.UnplacedLemmas.{last_fine}
+use Rattle.std.proofs.lemmas.Bool.Decides.{nat_tests}
 
 -- the present line of each group fits a width
 abbrev pub LinesFit : ℕ → List Spot → Type 0
@@ -97,17 +98,10 @@ module _ (sign : SignData) (sound : IsSound sign) (items : List Meaning) (fits :
   narrow : (just : ℕ) → IsNarrow (after_last is_break (in_group just (present_area sign items)))
   narrow just =
       let line = after_last is_break (in_group just (present_area sign items)) in
-      let (three, four) = and_parts _ _ (fits just) in
-      let parts = fit_each (width_of (segment 2 line)) (width_of (segment 3 line)) (width_of (segment 4 line)) (standing sign items).rectangle.width three in
-      let full = leb-true (width_of (segment 5 line)) (standing sign items).rectangle.width four in
       let P = λ (s : Spot). is_glyph s ≡ true → 1 ≤ glyph_width s in
       let wide : All P line = All-drop P _ (in_group just (present_area sign items)) (All-filter (λ t. page_number t.at.page_just == just) P (present_area sign items) (area_wide sign sound sound.font items)) in
-      let many : length (segment 5 line) ≤ sum_by glyph_width (segment 5 line) = sum_least glyph_width (segment 5 line) (wide_segment 5 line wide) in
-      let widest = sound.width.1 in
-      record {
-        width = each_just (λ just. width_of (segment just line) ≤ 1024) (omega (arith, parts, across, widest)) (omega (arith, parts, across, widest)) (omega (arith, parts, across, widest)) (omega (arith, full, across, widest));
-        characters = omega (arith, many, full, across, widest);
-      }
+      let many = sum_least glyph_width (segment 5 line) (wide_segment 5 line wide) in
+      record { width = each_just (λ just. width_of (segment just line) ≤ 1024) (grind (arith, nat_tests, fits just, across, sound.width.1)) (grind (arith, nat_tests, fits just, across, sound.width.1)) (grind (arith, nat_tests, fits just, across, sound.width.1)) (grind (arith, nat_tests, fits just, across, sound.width.1)); characters = grind (arith, nat_tests, many, fits just, across, sound.width.1) }
 
   -- and no group is higher than a sign
   height : (just : ℕ) → 2 ≤ just → just ≤ 4 → height_of (lines_of (in_group just (present_area sign items))) ≤ 1024

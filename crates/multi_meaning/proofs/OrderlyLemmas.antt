@@ -1,20 +1,20 @@
 -- The items of a string as they are laid out offend by nothing but their size, where those of the string don't.
 use native.Mathlib.Omega.{arith}
-use Rattle.std.proofs.Common.{◌≡◌, ℕ, ◌+◌, Bool, true, false, cond, ◌&&◌, ◌||◌, nat_lt, inl, inr, List, [], ◌∷◌, ◌++◌, map, Option, Some, None, refl, sym, ap, subst, ◌∙◌, append_assoc, append-nil, option_map}
-use Rattle.std.proofs.lemmas.Bool.{cases_Bool, or_from, or_parts}
+use Rattle.std.proofs.Common.{◌≡◌, ℕ, Bool, true, false, cond, ◌&&◌, ◌||◌, inl, inr, List, [], ◌∷◌, ◌++◌, map, Option, Some, None, refl, sym, ap, subst, ◌∙◌, append_assoc, append-nil, option_map, arith}
+use Rattle.std.proofs.lemmas.Bool.{cases_Bool, or_parts}
 use Rattle.std.specs.List.{after_last, count_by, list_any}
 use Rattle.std.proofs.lemmas.List.{map-append}
 use Rattle.std.proofs.lemmas.List.Folds.{list_any-append}
 use Rattle.multi_token.specs.Spelling.{Item}
-use Rattle.multi_tag.specs.declared.tag.Tag.TheVariants.{NewPage, NewLine, Font}
+use Rattle.multi_tag.specs.declared.tag.Tag.TheVariants.{NewLine}
 use Rattle.multi_tag.specs.Just.{page_number}
 use Rattle.sign_font.specs.declared.parts.LineFill.{LineFill}
 use Rattle.sign_font.specs.Sign.{SignData, CellData, cell_numbered}
-use Rattle.multi_meaning.specs.Address.{Break, Glyph, Put, Spot, Standing, area_of, in_area, is_break, is_glyph, line_before, put_at, spots, standing}
+use Rattle.multi_meaning.specs.Address.{Break, Glyph, Put, Spot, Standing, area_of, is_break, is_glyph, line_before, put_at, spots, standing}
 use Rattle.multi_meaning.specs.Laid.{laid, laid_spot, too_big}
-use Rattle.multi_meaning.specs.LaidItems.{laid_item, laid_items, laid_of, laid_out}
+use Rattle.multi_meaning.specs.LaidItems.{laid_item, laid_items, laid_out}
 use Rattle.multi_meaning.specs.Meaning.{Does, Meaning, Shows, has_place, is_new_page, meaning}
-use Rattle.multi_meaning.specs.Offence.{clashes, conflicts, first_code, goes_back, never_big, offence, offence_by, unsized_offence}
+use Rattle.multi_meaning.specs.Offence.{clashes, conflicts, goes_back, never_big, offence, offence_by, unsized_offence}
 use Rattle.multi_meaning.specs.Verdict.{offences}
 use Rattle.multi_meaning.specs.kept.Fine.{IsOrderly}
 use Rattle.multi_meaning.specs.Words.{some_after}
@@ -29,6 +29,7 @@ use Rattle.multi_meaning.proofs.OffenceLemmas.{offence-break, offence-character,
 use Rattle.multi_meaning.proofs.UnplacedLemmas.{unplaced_item, no_conflict, sized, last_fine}
 use Rattle.multi_meaning.proofs.SpotsLemmas.{spots_with}
 use Rattle.multi_meaning.proofs.WordLemmas.{cases_Option, each_after_push, front_ind, none_more, push_ind}
+use Rattle.std.proofs.lemmas.Option.{none-some}
 
 -- THE LINE OF A CHARACTER
 
@@ -41,10 +42,7 @@ module _ (setting : LineFill) (all : List Spot) (a j : ℕ) (p : Spot → Bool) 
   None_of spots = list_any p (line spots) ≡ false → list_any p (line (laid setting all spots)) ≡ false
 
   any_more : (xs : List Spot) (x : Spot) → is_member a j x ≡ true → list_any p (line (xs ++ x ∷ [])) ≡ cond (is_break x) false (list_any p (line xs) || (p x || false))
-  any_more xs x e = ap (list_any p) (ap (after_last is_break) (members_push a j xs x true e) ∙ after_last_push is_break (members a j xs) x) ∙ elim (cases_Bool (is_break x)) [
-    | inl ends ↦ rw ends refl
-    | inr stays ↦ rw stays (list_any-append p (line xs) (x ∷ []))
-  ]
+  any_more xs x e = grind (arith, members_push a j xs x true e, after_last_push, list_any-append)
 
   any_other : (xs : List Spot) (x : Spot) → is_member a j x ≡ false → list_any p (line (xs ++ x ∷ [])) ≡ list_any p (line xs)
   any_other xs x e = ap (λ l. list_any p (after_last is_break l)) (members_push a j xs x false e ∙ append-nil (members a j xs))
@@ -69,18 +67,11 @@ module _ (setting : LineFill) (all some more : List Spot) (is : all ≡ some ++ 
 
   -- its group doesn't go back among what is laid out
   pub goes_on : (t : Spot) → t.at ≡ s.at → list_any (goes_back t) (area_of t (laid setting all some)) ≡ false
-  goes_on t at =
-      ap (λ (h : Standing). list_any (λ (u : Spot). nat_lt (page_number h.page_just) (page_number u.at.page_just)) (in_area h.area (laid setting all some))) at
-      ∙ group_goes_back s (area_of s (laid setting all some))
-      ∙ ap (λ n. nat_lt (page_number s.at.page_just) n) (largest_laid setting 0 s.at.area all some more is)
-      ∙ sym (group_goes_back s (area_of s some)) ∙ parts.0
+  goes_on t at = grind (arith, at, group_goes_back, largest_laid setting 0 s.at.area all some more is, parts.0)
 
   -- and neither does its segment
   pub stays_apart : conflicts (laid setting all some) s ≡ false
-  stays_apart = or_from (list_any (goes_back s) (area_of s (laid setting all some))) _ (goes_on s refl) (elim (cases_Bool (is_glyph s)) [
-    | inl e ↦ rw e (none_laid setting all s.at.area (page_number s.at.page_just) (clashes s) some more is (rw e at parts.1))
-    | inr e ↦ rw e refl
-  ])
+  stays_apart = grind (arith, goes_on s refl, none_laid setting all s.at.area (page_number s.at.page_just) (clashes s) some more is, parts.1)
 
 -- THE ITEMS
 
@@ -114,19 +105,15 @@ module _ (setting : LineFill) (sign : SignData) (all : List Meaning) where
 
   laid_character : (some more : List Meaning) (number : ℕ) → all ≡ some ++ Shows number ∷ more → unsized_offence sign some (Shows number) ≡ None → Fine some (laid_item setting sign all some (Shows number))
   laid_character some more number is fine = elim (cases_Option (cell_numbered (standing sign some).font number)) [
-    | inl none ↦ let wrong : ◌≡◌ {A = Option ℕ} (Some 7) None = sym (offence-undefined never_big sign some number none) ∙ fine in absurd cc
+    | inl none ↦ grind (arith, offence-undefined, none, fine)
     | inr (cell, found) ↦
         let s : Spot = record { at = standing sign some; put = Glyph cell } in
         let S = spots sign all in
-        let P = spots sign some in
         let (rest, split) = put_split some more (Shows number) is (Glyph cell) (ap (option_map Glyph) found) in
-        let apart = no_conflict (conflicts P s) false (sym (offence-character never_big sign some number cell found) ∙ fine) in
-        rw found (elim (laid_as setting S P rest s split) [
-          | inl same ↦ ap (λ z. unsized_offence sign (before some) (laid_of (Shows number) (Some z))) same ∙ character_fine some more (Shows number) is number cell found (stays_apart setting S P (s ∷ rest) split s apart)
-          | inr (glyph, drop) ↦
-              ap (λ z. unsized_offence sign (before some) (laid_of (Shows number) (Some z))) drop
-              ∙ break_fine some more (Shows number) is None (ap (λ b. b || false) (goes_on setting S P (s ∷ rest) split s apart (record { at = standing sign some; put = Break None }) refl))
-        ])
+        let apart = no_conflict (conflicts (spots sign some) s) false (sym (offence-character never_big sign some number cell found) ∙ fine) in
+        let stays = character_fine some more (Shows number) is number cell found (stays_apart setting S (spots sign some) (s ∷ rest) split s apart) in
+        let ends = break_fine some more (Shows number) is None (ap (λ b. b || false) (goes_on setting S (spots sign some) (s ∷ rest) split s apart (record { at = standing sign some; put = Break None }) refl)) in
+        grind (arith, found, laid_as setting S (spots sign some) rest s split, stays, ends)
   ]
 
   -- an item that places nothing offends by its page alone
@@ -143,7 +130,7 @@ module _ (setting : LineFill) (sign : SignData) (all : List Meaning) where
   laid_fine some more (Does (NewLine gap)) is fine =
       let s : Spot = record { at = standing sign some; put = Break gap } in
       let (rest, split) = put_split some more (Does (NewLine gap)) is (Break gap) refl in
-      let apart = no_conflict (conflicts (spots sign some) s) false (sym (offence-break never_big sign some gap) ∙ fine) in
+      let apart : conflicts (spots sign some) s ≡ false = grind (arith, offence-break never_big sign some gap, fine) in
       break_fine some more (Does (NewLine gap)) is gap (stays_apart setting (spots sign all) (spots sign some) (s ∷ rest) split s apart)
   laid_fine some more x is fine = ap (unsized_offence sign (before some)) (unplaced_item setting sign all some x refl) ∙ same_offence (before some) some (pages_same some (x ∷ more) is) x refl ∙ fine
 
@@ -158,10 +145,10 @@ module _ (setting : LineFill) (sign : SignData) (all : List Meaning) where
 pub unsized_if : (setting : LineFill) (sign : SignData) (ms : List Meaning) (x : Meaning) → offence setting sign ms x ≡ None → (b : Bool) → has_place x ≡ b → unsized_offence sign ms x ≡ None
 unsized_if setting sign ms x fine false e = sym (sized setting sign ms x e) ∙ fine
 unsized_if setting sign ms (Shows number) fine true e = elim (cases_Option (cell_numbered (standing sign ms).font number)) [
-  | inl none ↦ let wrong : ◌≡◌ {A = Option ℕ} (Some 7) None = sym (offence-undefined (too_big setting) sign ms number none) ∙ fine in absurd cc
+  | inl none ↦ absurd (none-some 7 (sym fine ∙ offence-undefined (too_big setting) sign ms number none))
   | inr (cell, found) ↦ offence-character never_big sign ms number cell found ∙ rw (no_conflict _ _ (sym (offence-character (too_big setting) sign ms number cell found) ∙ fine)) refl
 ]
-unsized_if setting sign ms (Does (NewLine gap)) fine true e = offence-break never_big sign ms gap ∙ rw (no_conflict _ _ (sym (offence-break (too_big setting) sign ms gap) ∙ fine)) refl
+unsized_if setting sign ms (Does (NewLine gap)) fine true e = grind (arith, offence-break never_big sign ms gap, offence-break (too_big setting) sign ms gap, fine)
 unsized_if setting sign ms _ fine true e = absurd cc
 
 pub orderly_items : (sign : SignData) (items : List Item) → offences sign items ≡ [] → IsOrderly sign (map meaning items)

@@ -1,6 +1,6 @@
 -- What things give a pixel of a page.
 use native.Mathlib.Omega.{arith}
-use Rattle.std.proofs.Common.{◌≡◌, ℕ, cond, ◌&&◌, ◌==◌, List, [], ◌∷◌, Option, Some, None, refl, sym, ◌∙◌}
+use Rattle.std.proofs.Common.{◌≡◌, ℕ, cond, ◌&&◌, ◌==◌, List, [], ◌∷◌, Option, Some, None, refl}
 use Rattle.std.specs.List.{AllByRecursion, cons_option, filter_map}
 use Rattle.multi_meaning.specs.Picture.{Thing}
 use Rattle.multi_meaning.specs.Words.{some_after}
@@ -24,8 +24,4 @@ pub all_same : {X : Type 0} (page column row : ℕ) (f g : List X → X → Opti
     → filter_map (pick page column row) (some_after f xs) ≡ filter_map (pick page column row) (some_after g xs)
 all_same page column row f g Holds same [] hold = refl
 all_same page column row f g Holds same (x ∷ xs) hold =
-    let f_rest = some_after (λ before. f (x ∷ before)) xs in
-    let g_rest = some_after (λ before. g (x ∷ before)) xs in
-    pick_cons page column row (f [] x) f_rest
-    ∙ (λ i. cons_option (same [] x hold.0 i) (all_same page column row (λ before. f (x ∷ before)) (λ before. g (x ∷ before)) Holds (λ before. same (x ∷ before)) xs hold.1 i))
-    ∙ sym (pick_cons page column row (g [] x) g_rest)
+    grind (arith, pick_cons, same [] x hold.0, all_same page column row (λ before. f (x ∷ before)) (λ before. g (x ∷ before)) Holds (λ before. same (x ∷ before)) xs hold.1)

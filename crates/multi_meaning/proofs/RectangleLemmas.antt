@@ -1,12 +1,10 @@
 -- All spots of an area have the same rectangle in force.
-use Rattle.std.proofs.Common.{◌≡◌, inl, inr, ℕ, ◌+◌, ◌≤◌, false, cond, List, [], ◌∷◌, ◌++◌, None, refl, sym, ap, subst, ◌∙◌, arith, append-nil, append_assoc, All}
-use Rattle.std.proofs.lemmas.Bool.{cases_Bool, false≢true}
+use Rattle.std.proofs.Common.{◌≡◌, ℕ, ◌+◌, ◌≤◌, false, cond, List, [], ◌∷◌, ◌++◌, None, refl, sym, ap, subst, ◌∙◌, arith, append-nil, append_assoc, All}
 use Rattle.std.proofs.lemmas.List.Elements.{All-nil, All-weaker}
-use Rattle.multi_tag.specs.declared.tag.Tag.TheVariants.{NewPage, Rect}
 use Rattle.sign_font.specs.Sign.{SignData}
 use Rattle.multi_meaning.specs.declared.attributes.Rectangle.{Rectangle}
 use Rattle.multi_meaning.specs.Attributes.{given_rectangle}
-use Rattle.multi_meaning.specs.Meaning.{Meaning, Does, begins_area}
+use Rattle.multi_meaning.specs.Meaning.{Meaning, begins_area}
 use Rattle.multi_meaning.specs.Address.{Spot, Standing, spots, standing}
 use Rattle.multi_meaning.proofs.LayoutLemmas.{spots_all}
 use Rattle.multi_meaning.proofs.StandingLemmas.{standing_push}
@@ -49,8 +47,7 @@ module _ (sign : SignData) where
   stays_behind : (items behind : List Meaning) → IsBehind (standing sign items).area (standing sign items).rectangle (items ++ behind)
   stays_behind items =
       let here = standing sign items in
-      push_ind (λ behind. IsBehind here.area here.rectangle (items ++ behind)) (subst (IsBehind here.area here.rectangle) (sym (append-nil items)) (omega arith, λ is. refl))
-      (λ behind x ih. subst (IsBehind here.area here.rectangle) (append_assoc items behind (x ∷ [])) (behind_push here.area here.rectangle (items ++ behind) x ih))
+      push_ind (λ behind. IsBehind here.area here.rectangle (items ++ behind)) (grind (arith, append-nil)) (λ behind x ih. grind (arith, append_assoc items behind (x ∷ []), behind_push here.area here.rectangle (items ++ behind) x ih))
 
   -- all spots of a string in the area behind some items have the rectangle in force there
   pub same_rectangle : (items behind : List Meaning) → All (SameRectangle items) (spots sign (items ++ behind))

@@ -1,17 +1,16 @@
 -- What the items behind some others put: they leave what was put before, go on with its page and its area, and put nothing into
 -- an area that ended.
-use Rattle.std.proofs.lemmas.Bool.Decides.{nat_tests}
-use Rattle.std.proofs.Common.{◌≡◌, ℕ, ◌+◌, ◌≤◌, true, false, cond, List, [], ◌∷◌, ◌++◌, Option, Some, None, refl, sym, ap, ◌∙◌, arith, append-nil, append_assoc, inl, inr, IfSome, option_map, eq-eqb}
+use Rattle.std.proofs.Common.{◌≡◌, ℕ, ◌+◌, ◌≤◌, true, false, cond, List, [], ◌∷◌, ◌++◌, Option, Some, None, refl, sym, ap, ◌∙◌, arith, append-nil, append_assoc, IfSome, eq-eqb}
 use Rattle.std.specs.List.{cons_option, All, Contains}
-use Rattle.std.proofs.lemmas.List.Elements.{All-contains_itself, All-weaker, All-nil, All-cons, All-head, All-tail}
+use Rattle.std.proofs.lemmas.List.Elements.{All-contains_itself, All-weaker, All-nil, All-head, All-tail}
 use Rattle.std.proofs.lemmas.List.Sums.{sum_by-append}
-use Rattle.multi_tag.specs.declared.tag.Tag.TheVariants.{NewPage, NewLine, Back, Rect}
+use Rattle.multi_tag.specs.declared.tag.Tag.TheVariants.{NewPage}
 use Rattle.sign_font.specs.declared.parts.Defaults.{Defaults}
 use Rattle.sign_font.specs.Sign.{SignData, CellData, cell_numbered}
 use Rattle.multi_meaning.specs.Address.{Standing, standing, Put, Glyph, Cover, Spot, spot_at, put_at, spots, in_area}
 use Rattle.multi_meaning.specs.Meaning.{Meaning, Shows, Does, is_new_page, begins_area, EndsArea}
 use Rattle.multi_meaning.specs.Words.{some_after}
-use Rattle.multi_meaning.proofs.WordLemmas.{cases_Option, push_ind, some_after-append}
+use Rattle.multi_meaning.proofs.WordLemmas.{push_ind, some_after-append}
 use Rattle.multi_meaning.proofs.LayoutLemmas.{spots_push}
 use Rattle.multi_meaning.proofs.StandingLemmas.{standing_push}
 use Rattle.multi_meaning.proofs.StateLemmas.{in_area-append, other_area}
@@ -105,9 +104,7 @@ module _ (sign : SignData) (before : List Meaning) where
       let next = before ++ x ∷ [] in
       let later = push_ind (λ rest. in_area k (spots sign (next ++ rest)) ≡ in_area k (spots sign next)) (ap (λ l. in_area k (spots sign l)) (append-nil next)) (λ rest y ih.
       ap (λ l. in_area k (spots sign l)) (sym (append_assoc next rest (y ∷ []))) ∙ other_area sign (next ++ rest) y k (λ e. omega (arith, e, area_on sign next rest, area_next x begins)) ∙ ih) in
-      ap (λ l. in_area k (spots sign l)) (sym (append_assoc before (x ∷ []) rest)) ∙ later rest
-      ∙ ap (in_area k) (spots_push sign before x) ∙ in_area-append k (spots sign before) (cons_option (spot_at sign.defaults (standing sign before) x) [])
-      ∙ rw (begins_none k sign.defaults (standing sign before) x begins) (append-nil (in_area k (spots sign before)))
+      grind (arith, later rest, spots_push sign before x, in_area-append, begins_none k sign.defaults (standing sign before) x begins, append_assoc before (x ∷ []) rest, append-nil)
 
   -- where an area ends, the rest of the string puts nothing into it
   pub area_ends : (behind : List Meaning) → EndsArea behind
@@ -121,10 +118,4 @@ module _ (sign : SignData) (before : List Meaning) where
       (more : List Spot) × (in_area at.area (spots sign (before ++ Shows number ∷ rest)) ≡ in_area at.area (spots sign before) ++ spot ∷ more)
   area_with_glyph number cell rest found =
       let at = standing sign before in
-      let spot : Spot = record { at = at; put = Glyph cell } in
-      let more = spots_behind sign (before ++ Shows number ∷ []) rest in
-      let is : in_area at.area (spots sign (before ++ Shows number ∷ rest)) ≡ in_area at.area (spots sign before) ++ spot ∷ in_area at.area more =
-      ap (in_area at.area) (spots_with sign before (Shows number) rest (Glyph cell) (ap (option_map Glyph) found))
-      ∙ in_area-append at.area (spots sign before) (spot ∷ more)
-      ∙ ap (λ b. in_area at.area (spots sign before) ++ cond b (spot ∷ in_area at.area more) (in_area at.area more)) (eq-eqb at.area at.area refl) in
-      (in_area at.area more, is)
+      (in_area at.area (spots_behind sign (before ++ Shows number ∷ []) rest), grind (arith, spots_with sign before (Shows number) rest (Glyph cell), found, in_area-append, eq-eqb at.area at.area refl))

@@ -1,15 +1,14 @@
 -- The present area at one more item.
-use Rattle.std.proofs.Common.{◌≡◌, inl, inr, ℕ, ◌+◌, Bool, true, false, ◌&&◌, ◌||◌, ◌==◌, List, [], ◌∷◌, ◌++◌, Some, None, refl, ap, ◌∙◌, arith, append-nil}
+use Rattle.std.proofs.Common.{◌≡◌, ℕ, Bool, true, false, ◌&&◌, ◌||◌, ◌==◌, List, [], ◌∷◌, ◌++◌, Some, None, refl, ap, ◌∙◌, arith, append-nil}
 use Rattle.std.specs.List.{cons_option}
-use Rattle.std.proofs.lemmas.List.Elements.{All-weaker, filter-append}
-use Rattle.std.proofs.lemmas.Bool.{eq-eqb, ne_eqb, and_right}
+use Rattle.std.proofs.lemmas.List.Elements.{filter-append}
+use Rattle.std.proofs.lemmas.Bool.{eq-eqb}
 use Rattle.sign_font.specs.Sign.{SignData}
 use Rattle.multi_meaning.specs.Meaning.{Meaning, begins_area}
 use Rattle.multi_meaning.specs.Address.{Put, Spot, is_break, is_glyph, put_at, spot_at, spots, standing, in_area}
 use Rattle.multi_meaning.specs.kept.Present.{present_area}
 use Rattle.multi_meaning.proofs.AreaLemmas.{filter_none}
-use Rattle.multi_meaning.proofs.RectangleLemmas.{IsBehind, area_push, spots_placed}
-use Rattle.multi_meaning.proofs.WordLemmas.{cases_Option}
+use Rattle.multi_meaning.proofs.RectangleLemmas.{area_push, spots_placed}
 use Rattle.multi_meaning.proofs.LayoutLemmas.{spots_push}
 
 -- a placing item

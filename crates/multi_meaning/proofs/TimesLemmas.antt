@@ -1,7 +1,7 @@
 -- The times of pages, and the page at a clock.
 use Rattle.std.proofs.Common.{◌≡◌, ℕ, zero, suc, ◌+◌, ◌-◌, ◌%◌, ◌<◌, ◌≤◌, Bool, true, false, ◌||◌, ◌==◌, cond, nat_le, length, take, get_or, List, [], ◌∷◌, ◌++◌, Option, Some, None, refl, sym, ap, ◌∙◌, inl, inr, arith, append_assoc, append-nil, length-append, take-take}
 use Rattle.std.specs.List.{find, position_or_len, range_with_len, slice_get, count_by}
-use Rattle.std.proofs.lemmas.Bool.{lt-ltb, le-ltb, le-leb, lt-leb, and_left, and_right, and_from, cases_Bool, cases_eq, cases_order}
+use Rattle.std.proofs.lemmas.Bool.{le-ltb, lt-leb, and_left, and_right, cases_eq}
 use Rattle.std.proofs.lemmas.List.Sums.{sum_by-append, sum_by-cons, sum_by_push, sum_by_more, sum_by-take-le}
 use Rattle.std.proofs.lemmas.List.Folds.{find_at}
 use Rattle.std.proofs.lemmas.List.FromFn.{get_or-range_with_len, length-range_with_len}
@@ -15,7 +15,7 @@ use Rattle.multi_meaning.specs.declared.times.Shown.TheVariants.{Page, Off}
 use Rattle.multi_meaning.specs.Times.{Times, begin, cycle, ended_times, is_on, page_times, shown, shown_at, shown_within, times_at}
 use Rattle.multi_meaning.specs.Verdict.{pages_of}
 use Rattle.multi_meaning.specs.Words.{some_after}
-use Rattle.multi_meaning.proofs.WordLemmas.{cases_Option, some_after-append}
+use Rattle.multi_meaning.proofs.WordLemmas.{some_after-append}
 
 -- THE CYCLE
 
@@ -100,8 +100,7 @@ module _ (pages before after : List Times) (here : Times) (is : pages ≡ before
   pub shown_on : (t : ℕ) → cycle before ≤ t → t < cycle before + here.on → shown_within pages t ≡ Page (length before) (t - cycle before)
   unfolding shown_within
   shown_on t from until =
-      let on : is_on pages t (length before) ≡ true = and_from (nat_le (begin pages (length before)) t) _ (le-leb (begin pages (length before)) t (omega (arith, begins))) (rw stands (lt-ltb t (begin pages (length before) + here.on) (omega (arith, begins)))) in
-      let found = find_first (is_on pages t) 0 (length pages) (length before) (omega arith) (omega (arith, within)) on (λ j _ below. none_before t j from below) in
+      let found = find_first (is_on pages t) 0 (length pages) (length before) (omega arith) (omega (arith, within)) (grind (arith, begins, stands)) (λ j _ below. none_before t j from below) in
       rw (found, begins) refl
 
   -- in its off time nothing is shown
@@ -124,24 +123,12 @@ unfolding page_times
 times_are sign before rest =
     let ends : List Meaning → Meaning → Option Times = λ ms m. cond (is_new_page m) (Some (times_at (standing sign ms))) None in
     let behind : List Times = some_after (λ ms. ends (before ++ Does NewPage ∷ ms)) rest in
-    let last : List Times = times_at (standing sign (before ++ Does NewPage ∷ rest)) ∷ [] in
-    let here : List Meaning → Times = λ ms. times_at (standing sign ms) in (
-      behind ++ last,
-      ap (λ l. l ++ last) (some_after-append ends before (Does NewPage ∷ rest))
-          ∙ append_assoc (some_after ends before) (here (before ++ []) ∷ behind) last
-          ∙ ap (λ ms. some_after ends before ++ here ms ∷ (behind ++ last)) (append-nil before),
-    )
+    (behind ++ times_at (standing sign (before ++ Does NewPage ∷ rest)) ∷ [], grind (arith, some_after-append ends before (Does NewPage ∷ rest), append_assoc, append-nil))
 
 -- there is one item for each that passes a test
 count_some : {X Y : Type 0} (p : X → Bool) (of : List X → Y) (xs : List X) → length (some_after (λ before x. cond (p x) (Some (of before)) None) xs) ≡ count_by p xs
 count_some p of [] = refl
-count_some p of (x ∷ xs) =
-    let more = count_some p (λ before. of (x ∷ before)) xs in
-    let all = sum_by-cons (λ y. cond (p y) 1 0) x xs in
-    elim (cases_Bool (p x)) [
-      | inl e ↦ rw e (omega (arith, more, rw e at all))
-      | inr e ↦ rw e (omega (arith, more, rw e at all))
-    ]
+count_some p of (x ∷ xs) = grind (arith, count_some p (λ before. of (x ∷ before)) xs, sum_by-cons (λ y. cond (p y) 1 0) x xs)
 
 -- as many pages have ended as new pages have begun
 pub ended_count : (sign : SignData) (before : List Meaning) → length (ended_times sign before) ≡ count_by is_new_page before
@@ -156,11 +143,9 @@ times_count sign items = grind (arith, times_are_all, length-append, ended_count
 -- what is found in a range is below its end
 found_below : (p : ℕ → Bool) (a n k : ℕ) → find p (range_with_len a n) ≡ Some k → k < a + n
 found_below p a n k is =
-    let range = range_with_len a n in
-    let i = position_or_len p range in
-    let at : slice_get range i ≡ Some k = sym (find_at p range) ∙ is in
-    let within : i < n = omega (arith, slice_get_within range i k at, length-range_with_len a n) in
-    omega (arith, within, get_or_from_slice_get range i k 0 at, get_or-range_with_len a n i 0 within)
+    let i = position_or_len p (range_with_len a n) in
+    let at : slice_get (range_with_len a n) i ≡ Some k = sym (find_at p (range_with_len a n)) ∙ is in
+    grind (arith, slice_get_within (range_with_len a n) i k at, length-range_with_len a n, get_or_from_slice_get (range_with_len a n) i k 0 at, get_or-range_with_len a n i 0)
 
 within_below : (pages : List Times) (time page phase : ℕ) → shown_within pages time ≡ Page page phase → page < length pages
 unfolding shown_within

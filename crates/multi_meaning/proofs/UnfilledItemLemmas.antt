@@ -23,9 +23,8 @@ pub unfilled_item : (sign : SignData) (all before more : List Meaning) (x : Mean
 unfilled_item sign all before more (Shows number) is = elim (cases_Option (cell_numbered (standing sign before).font number)) [
   | inl none ↦ rw none refl
   | inr (cell, found) ↦
-      let s : Spot = record { at = standing sign before; put = Glyph cell } in
-      let split = spots_with sign before (Shows number) more (Glyph cell) (ap (option_map Glyph) found) in
-      rw found (ap (λ y. laid_of (Shows number) (Some y)) (unfilled_glyph (spots sign all) (spots sign before) _ s refl (ap (spots sign) is ∙ split)))
+      let split = ap (spots sign) is ∙ spots_with sign before (Shows number) more (Glyph cell) (ap (option_map Glyph) found) in
+      rw found (ap (λ y. laid_of (Shows number) (Some y)) (unfilled_glyph (spots sign all) (spots sign before) _ (record { at = standing sign before; put = Glyph cell }) refl split))
 ]
 unfilled_item sign all before more (Does (NewLine gap)) is = refl
 unfilled_item sign all before more _ is = refl

@@ -1,12 +1,11 @@
 -- Items that have no place, and what none of some items offends says of each.
 use native.Mathlib.Omega.{arith}
-use Rattle.std.proofs.Common.{◌≡◌, ℕ, Bool, true, false, cond, List, [], ◌∷◌, ◌++◌, length, map, Option, Some, None, refl, sym, ◌∙◌}
-use Rattle.multi_token.specs.Spelling.{Item, spell}
-use Rattle.multi_tag.specs.declared.tag.Tag.TheVariants.{NewLine, Font}
+use Rattle.std.proofs.Common.{◌≡◌, ℕ, Bool, false, cond, List, [], ◌∷◌, ◌++◌, map, Option, Some, None}
+use Rattle.multi_token.specs.Spelling.{Item}
 use Rattle.sign_font.specs.declared.parts.LineFill.{LineFill}
 use Rattle.sign_font.specs.Sign.{SignData}
 use Rattle.multi_meaning.specs.LaidItems.{laid_item}
-use Rattle.multi_meaning.specs.Meaning.{Does, Meaning, Shows, has_place, meaning}
+use Rattle.multi_meaning.specs.Meaning.{Meaning, has_place, meaning}
 use Rattle.multi_meaning.specs.Offence.{offence, offence_by, unsized_offence}
 use Rattle.multi_meaning.specs.Verdict.{fault_at, offences}
 use Rattle.multi_meaning.proofs.WordLemmas.{left_nil, none_mapped, none_of, right_nil, some_after_push}
@@ -27,7 +26,4 @@ no_conflict v0 big e = grind arith
 -- none of some items offends, so the last doesn't, nor any before it
 pub last_fine : (sign : SignData) (items : List Item) (item : Item) → offences sign (items ++ item ∷ []) ≡ []
     → (offences sign items ≡ []) × (offence sign.line_fill sign (map meaning items) (meaning item) ≡ None)
-last_fine sign items item none =
-    let parts = sym (some_after_push (fault_at sign) items item) ∙ none in
-    let here = none_of (fault_at sign items item) [] (right_nil (offences sign items) _ parts) in
-    (left_nil (offences sign items) _ parts, none_mapped (λ code. (code, length (spell items))) (offence sign.line_fill sign (map meaning items) (meaning item)) here)
+last_fine sign items item none = grind (arith, some_after_push (fault_at sign) items item, left_nil, right_nil, none_of, none_mapped)

@@ -1,6 +1,6 @@
 -- Each string has one verdict, and a refusal for an item stands however the string goes on.
 use native.Mathlib.Omega.{arith}
-use Rattle.std.proofs.Common.{◌≡◌, ◌≢◌, inl, inr, ℕ, List, [], ◌∷◌, ◌++◌, map, length, drop, Option, Some, refl, sym, ap, subst, ◌∙◌, append_assoc, option_map}
+use Rattle.std.proofs.Common.{◌≡◌, ◌≢◌, ℕ, List, [], ◌∷◌, ◌++◌, map, length, drop, Option, Some, refl, ap, subst, ◌∙◌, append_assoc, option_map}
 use Rattle.std.proofs.Math.Seq.{drop-append_seam}
 use Rattle.std.specs.List.{All, cons_option}
 use Rattle.multi_token.specs.Broken.{IsOpen, StaysBroken}
@@ -13,7 +13,6 @@ use Rattle.sign_font.specs.Sign.{SignData}
 use Rattle.multi_meaning.specs.Meaning.{meaning}
 use Rattle.multi_meaning.specs.Offence.{offence}
 use Rattle.multi_meaning.specs.Verdict.{BrokenBracketStands, OneVerdict, RefusalStands, Refused, verdict, verdict_on, of_first, broken, fault_at, offences, pages_of}
-use Rattle.multi_meaning.specs.Words.{some_after}
 use Rattle.multi_meaning.proofs.WordLemmas.{some_after-append, some_after_push}
 
 pub one_verdict : OneVerdict
@@ -28,23 +27,14 @@ one_verdict sign octets v = (
 -- the offences behind one more item
 pub offences_push : (sign : SignData) (items : List Item) (item : Item) (o : Option ℕ) → offences sign items ≡ [] → offence sign.line_fill sign (map meaning items) (meaning item) ≡ o
     → offences sign (items ++ item ∷ []) ≡ cons_option (option_map (λ code. (code, length (spell items))) o) []
-offences_push sign items item o none is =
-    some_after_push (fault_at sign) items item
-    ∙ ap (λ l. l ++ cons_option (fault_at sign items item) []) none
-    ∙ ap (λ p. cons_option (option_map (λ code. (code, length (spell items))) p) []) is
+offences_push sign items item o none is = grind (arith, some_after_push (fault_at sign) items item)
 
 -- the first fault of these items is that of every string that goes on behind them
 first_stands : (sign : SignData) (items : List Item) (more : List ℕ) (fault : ℕ × ℕ) (faults : List (ℕ × ℕ)) → All IsItem items → offences sign items ≡ fault ∷ faults → verdict sign (spell items ++ more) ≡ Refused fault.0 fault.1
 unfolding verdict verdict_on
 first_stands sign items more fault faults each first =
-    let octets = spell items ++ more in
-    let all = each_string_has_a_reading octets in
-    let read = (reading octets).items in
-    let (ws, is, behind) = reading_begins items read more (reading octets).rest each all.each all.ends all.spelled in
-    let f = fault_at sign in
-    let whole : offences sign read ≡ fault ∷ (faults ++ some_after (λ before. f (items ++ before)) ws) =
-    ap (offences sign) is ∙ some_after-append f items ws ∙ ap (λ l. l ++ some_after (λ before. f (items ++ before)) ws) first in
-    ap (λ l. of_first (pages_of (map meaning read)) (l ++ broken read (reading octets).rest)) whole
+    let all = each_string_has_a_reading (spell items ++ more) in
+    grind (arith, reading_begins items (reading (spell items ++ more)).items more (reading (spell items ++ more)).rest each all.each all.ends all.spelled, some_after-append (fault_at sign), first)
 
 -- a refusal for an item stands for every string with the same octets up to the end of that item
 pub item_refused : (sign : SignData) (before : List Item) (item : Item) (code : ℕ) (rest : List ℕ)
@@ -66,41 +56,25 @@ broken_some (octet ∷ bracket) more stays e = cc
 pub broken_bracket_stands : BrokenBracketStands
 unfolding verdict
 broken_bracket_stands sign before bracket more each none stays =
-    let rest = bracket ++ more in
-    let octets = spell before ++ rest in
-    let read : IsReading octets before rest = record { each = each; spelled = refl; ends = stays more } in
-    let same = one_reading octets (reading octets).items before (reading octets).rest rest (each_string_has_a_reading octets) read in
-    ap (λ l. verdict_on sign l (reading octets).rest) same.0 ∙ ap (λ r. verdict_on sign before r) same.1
-    ∙ broken_refused sign before rest (broken_some bracket more stays) none
+    let octets = spell before ++ (bracket ++ more) in
+    let read : IsReading octets before (bracket ++ more) = record { each = each; spelled = refl; ends = stays more } in
+    grind (arith, one_reading octets (reading octets).items before (reading octets).rest (bracket ++ more) (each_string_has_a_reading octets) read, broken_refused sign before (bracket ++ more) (broken_some bracket more stays) none)
 
 -- a string of these items and this rest is refused
 stands_by : (sign : SignData) (items : List Item) (rest : List ℕ) (faults : List (ℕ × ℕ)) (code at : ℕ) → All IsItem items → HasNoItem rest → offences sign items ≡ faults
     → of_first (pages_of (map meaning items)) (faults ++ broken items rest) ≡ Refused code at → ¬ (IsOpen (drop at (spell items ++ rest)))
     → (more : List ℕ) → verdict sign ((spell items ++ rest) ++ more) ≡ Refused code at
-stands_by sign items rest (fault ∷ faults) code at each ends first e closed more =
-    let a : fault.0 ≡ code = cc in
-    let b : fault.1 ≡ at = cc in
-    ap (verdict sign) (append_assoc (spell items) rest more) ∙ first_stands sign items (rest ++ more) fault faults each first ∙ ap (λ c. Refused c fault.1) a ∙ ap (Refused code) b
+stands_by sign items rest (fault ∷ faults) code at each ends first e closed more = grind (arith, first_stands sign items (rest ++ more) fault faults each first, append_assoc)
 stands_by sign items [] [] code at each ends none e closed more = absurd cc
 stands_by sign items (octet ∷ rest) [] code at each ends none e closed more =
-    let a : 3 ≡ code = cc in
-    let b : length (spell items) ≡ at = cc in
-    let here : drop at (spell items ++ octet ∷ rest) ≡ octet ∷ rest = ap (λ n. drop n (spell items ++ octet ∷ rest)) (sym b) ∙ drop-append_seam (spell items) (octet ∷ rest) in
-    let stays : StaysBroken (octet ∷ rest) = elim (open_or_broken (octet ∷ rest) (λ e. cc) ends) [
-      | inl open' ↦ absurd (closed (subst IsOpen (sym here) open'))
-      | inr stays ↦ stays
-    ] in
-    ap (verdict sign) (append_assoc (spell items) (octet ∷ rest) more)
-    ∙ broken_bracket_stands sign items (octet ∷ rest) more each none stays ∙ ap (λ c. Refused c (length (spell items))) a ∙ ap (Refused code) b
+    let cases = open_or_broken (octet ∷ rest) (λ e. cc) ends in
+    grind (arith, broken_bracket_stands sign items (octet ∷ rest) more each none, cases, drop-append_seam (spell items) (octet ∷ rest), append_assoc, closed)
 
 pub refusal_stands : RefusalStands
 unfolding verdict verdict_on
 refusal_stands sign octets code at e closed more =
     let read = each_string_has_a_reading octets in
-    let items = (reading octets).items in
-    let rest = (reading octets).rest in
-    ap (λ l. verdict sign (l ++ more)) read.spelled
-    ∙ stands_by sign items rest (offences sign items) code at read.each read.ends refl e (subst (λ l. ¬ (IsOpen (drop at l))) read.spelled closed) more
+    grind (arith, stands_by sign (reading octets).items (reading octets).rest (offences sign (reading octets).items) code at read.each read.ends refl e (subst (λ l. ¬ (IsOpen (drop at l))) read.spelled closed) more, read.spelled)
 
 -- as many are meant as are read
 pub length-meanings : (items : List Item) → length (map meaning items) ≡ length items

@@ -2,7 +2,7 @@
 use Rattle.std.proofs.Common.{◌≡◌, ◌⊎◌, inl, inr, ℕ, ◌+◌, ◌≤◌, max, length, List, [], ◌∷◌, ◌++◌, Option, Some, None, suc, refl, sym, ap, subst, ◌∙◌, arith, append_assoc, append-nil}
 use Rattle.std.specs.List.{sum_by, filter_map, last_or, cons_option, All}
 use Rattle.std.specs.Option.{option_map, option_map_or}
-use Rattle.std.proofs.lemmas.List.Elements.{filter_map-append, All-nil, All-cons, All-head, All-push, All-tail, All-weaker}
+use Rattle.std.proofs.lemmas.List.Elements.{filter_map-append, All-nil, All-head, All-push, All-tail, All-weaker}
 use Rattle.std.proofs.lemmas.List.Sums.{sum_by_push, sum_by-cons, fold_push}
 use Rattle.multi_meaning.specs.Words.{each_after, some_after, successive, largest, extent}
 
@@ -79,14 +79,8 @@ each_same f g xs same =
 
 -- no value is more than the largest
 pub largest_most : {X : Type 0} (f : X → ℕ) (xs : List X) → All (λ x. f x ≤ largest f xs) xs
-largest_most {X} f = push_ind (λ xs. All (λ x. f x ≤ largest f xs) xs) (All-nil (λ x. f x ≤ 0)) step
-  where
-    step : (xs : List X) (x : X) → All (λ x. f x ≤ largest f xs) xs → All (λ y. f y ≤ largest f (xs ++ x ∷ [])) (xs ++ x ∷ [])
-    step xs x ih =
-        let more = largest_push f xs x in
-        All-push (λ y. f y ≤ largest f (xs ++ x ∷ [])) xs x
-        (All-weaker (λ y. f y ≤ largest f xs) (λ y. f y ≤ largest f (xs ++ x ∷ [])) (λ y h. omega (arith, h, more)) xs ih)
-        (omega (arith, more))
+largest_most {X} f = push_ind (λ xs. All (λ x. f x ≤ largest f xs) xs) (All-nil (λ x. f x ≤ 0)) (λ xs x ih.
+    All-push (λ y. f y ≤ largest f (xs ++ x ∷ [])) xs x (All-weaker (λ y. f y ≤ largest f xs) (λ y. f y ≤ largest f (xs ++ x ∷ [])) (λ y h. omega (arith, h, largest_push f xs x)) xs ih) (omega (arith, largest_push f xs x)))
 
 -- what holds of each holds around one of them, and of it
 pub All-around : {X : Type 0} (P : X → Type 0) (xs : List X) (x : X) (ys : List X) → All P (xs ++ x ∷ ys) → All P xs × P x × All P ys
