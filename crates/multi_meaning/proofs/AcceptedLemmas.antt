@@ -1,25 +1,17 @@
 -- What an accepted string is, by its one reading.
 use native.Mathlib.Omega.{arith}
-use Rattle.std.proofs.Common.{◌≡◌, ℕ, ◌^◌, ◌<◌, List, [], map, length, ap, ◌∙◌, append-nil}
+use Rattle.std.proofs.Common.{◌≡◌, ℕ, ◌^◌, ◌<◌, List, map, length, ap, ◌∙◌, append-nil}
 use Rattle.multi_token.specs.Reading.{reading}
-use Rattle.multi_token.specs.Spelling.{Item}
 use Rattle.multi_token.proofs.SpellingLemmas.{one_reading}
 use Rattle.multi_token.proofs.ReadingLemmas.{each_string_has_a_reading}
 use Rattle.sign_font.specs.Sign.{SignData}
 use Rattle.multi_meaning.specs.LaidItems.{laid_out}
 use Rattle.multi_meaning.specs.Meaning.{meaning, meanings}
 use Rattle.multi_meaning.specs.Times.{cycle, page_times}
-use Rattle.multi_meaning.specs.Verdict.{Accepted, IsVerdict, IsCycle, broken, of_first, pages_of, verdict_on}
+use Rattle.multi_meaning.specs.Verdict.{Accepted, IsVerdict, IsCycle, pages_of, verdict_on}
 use Rattle.multi_meaning.specs.kept.Fine.{IsAccepted, IsOrderly}
 use Rattle.multi_meaning.proofs.OrderlyLemmas.{orderly_out}
 use Rattle.multi_meaning.proofs.WordLemmas.{left_nil, right_nil}
-
--- accepted means that there is no fault
-no_fault : (pages number : ℕ) (faults : List (ℕ × ℕ)) → Accepted pages ≡ of_first number faults → (pages ≡ number) × (faults ≡ [])
-no_fault pages number v2 is = grind arith
-
-not_broken : (items : List Item) (rest : List ℕ) → broken items rest ≡ [] → rest ≡ []
-not_broken items v1 is = grind arith
 
 -- the items of an accepted string are those of its reading, and it has so many pages
 pub accepted_is : (sign : SignData) (octets : List ℕ) (pages : ℕ) → IsVerdict sign octets (Accepted pages) → length octets < 2 ^ 32
@@ -28,7 +20,7 @@ unfolding verdict_on
 accepted_is sign octets pages (items, rest, read, is) short =
     let all = each_string_has_a_reading octets in
     let same = one_reading octets items (reading octets).items rest (reading octets).rest read all in
-    grind (arith, all, same, is, no_fault, not_broken, left_nil, right_nil, append-nil)
+    grind (arith, all, same, is, left_nil, right_nil, append-nil)
 
 -- the cycle of a string is that of its reading
 pub cycle_is : (sign : SignData) (octets : List ℕ) (tenths : ℕ) → IsCycle sign octets tenths

@@ -52,19 +52,13 @@ flashes = refl
 rectangles_inside_the_sign : is_inside sample 1 1 12 7 ∷ is_inside sample 12 7 1 1 ∷ is_inside sample 5 4 1 1 ∷ [] ≡ true ∷ true ∷ true ∷ []
 rectangles_inside_the_sign = refl
 
-a_rectangle_begins_inside_the_sign : is_inside sample 0 1 1 1 ∷ is_inside sample 1 0 1 1 ∷ is_inside sample 13 1 0 1 ∷ is_inside sample 1 8 1 0 ∷ []
-    ≡ false ∷ false ∷ false ∷ false ∷ []
-a_rectangle_begins_inside_the_sign = refl
+a_rectangle_begins_and_ends_inside_the_sign :
+    is_inside sample 0 1 1 1 ∷ is_inside sample 1 0 1 1 ∷ is_inside sample 13 1 0 1 ∷ is_inside sample 1 8 1 0
+    ∷ is_inside sample 1 1 13 1 ∷ is_inside sample 12 1 2 1 ∷ is_inside sample 1 1 1 8 ∷ is_inside sample 1 7 1 2 ∷ []
+    ≡ false ∷ false ∷ false ∷ false ∷ false ∷ false ∷ false ∷ false ∷ []
+a_rectangle_begins_and_ends_inside_the_sign = refl
 
-a_rectangle_ends_inside_the_sign : is_inside sample 1 1 13 1 ∷ is_inside sample 12 1 2 1 ∷ is_inside sample 1 1 1 8 ∷ is_inside sample 1 7 1 2 ∷ []
-    ≡ false ∷ false ∷ false ∷ false ∷ []
-a_rectangle_ends_inside_the_sign = refl
-
-a_rectangle_is_counted_from_1 : rectangle sample 3 2 4 5 ≡ record { left = 2; top = 1; width = 4; height = 5 }
-a_rectangle_is_counted_from_1 = refl
-
-a_rectangle_of_1_pixel : rectangle sample 3 2 1 1 ≡ record { left = 2; top = 1; width = 1; height = 1 }
-a_rectangle_of_1_pixel = refl
-
-a_rectangle_of_all_that_remains : rectangle sample 3 2 0 0 ≡ record { left = 2; top = 1; width = 10; height = 6 }
-a_rectangle_of_all_that_remains = refl
+-- a rectangle is counted from 1, may be of 1 pixel, or of all that remains
+rectangles : rectangle sample 3 2 4 5 ∷ rectangle sample 3 2 1 1 ∷ rectangle sample 3 2 0 0 ∷ []
+    ≡ record { left = 2; top = 1; width = 4; height = 5 } ∷ record { left = 2; top = 1; width = 1; height = 1 } ∷ record { left = 2; top = 1; width = 10; height = 6 } ∷ []
+rectangles = refl

@@ -5,7 +5,7 @@ use Rattle.std.proofs.lemmas.List.{append-nil, reverse-append, drop_all, drop-ap
 use Rattle.std.proofs.lemmas.List.Elements.{filter-append}
 use Rattle.std.proofs.lemmas.List.Folds.{list_any-append}
 use Rattle.multi_meaning.specs.Words.{cut_behind}
-use Rattle.multi_meaning.proofs.CutLemmas.{Cut, cut, part, cut_behind_is, cut_ind}
+use Rattle.multi_meaning.proofs.CutLemmas.{Cut, cut, cut_behind_is, cut_ind}
 
 module _ {X : Type 0} (p : X → Bool) where
   pub after_last_push : (xs : List X) (x : X) → after_last p (xs ++ x ∷ []) ≡ cond (p x) [] (after_last p xs ++ x ∷ [])
@@ -27,9 +27,6 @@ module _ {X : Type 0} (p : X → Bool) where
   ends = cut_ind p (λ xs c. Ends c) (record { closed = refl; open' = refl })
       (λ xs c x e h. record { closed = grind (arith, filter-append, list_any-append, h.closed, h.open', e); open' = refl })
       (λ xs c x e h. record { closed = h.closed; open' = grind (arith, list_any-append p c.open' (x ∷ []), h.open', e) })
-
-  filter_part : (l : List X) → list_any p l ≡ false → filter (list_any p) (part p l) ≡ []
-  filter_part v0 h = grind arith
 
   -- the parts that an item ends are the closed ones
   pub ended_is : (xs : List X) → filter (list_any p) (cut_behind p xs) ≡ (cut p xs).closed

@@ -151,8 +151,9 @@ module _ (sign : SignData) (items : List Meaning) (number : ℕ) (cell : CellDat
                       let new_is = new_at ∙ get_or_at closed (dropped space) (open' ++ s ∷ []) t (length (own front)) (sym e) in
                       let is_t : is_space t ≡ true = grind (arith, laid_as Words all front rest t split, old_is, is_sp) in
                       let (area, just) = member_at s.at.area (page_number s.at.page_just) t m in
-                      let was = shown _ _ old_is ∙ rw (glyph_put space.at space.put (All-head (λ x. is_glyph x ≡ true) space open' glyphs)).0 (space_shown sign.defaults (standing sign some) x put puts is_t) in
-                      inr (record { place = e; next = omega (arith, n, e); area = area; just = just; was = rw puts was; ends = rw puts (shown _ _ new_is) })
+                          let next : length closed < count (some ++ x ∷ []) = omega (arith, n, e) in
+                  let was = shown _ _ old_is ∙ rw (glyph_put space.at space.put (All-head (λ x. is_glyph x ≡ true) space open' glyphs)).0 (space_shown sign.defaults (standing sign some) x put puts is_t) in
+                  inr (record { place = e; next = next; area = area; just = just; was = rw puts was; ends = rw puts (shown _ _ new_is) })
                 ]
           ]
     ]

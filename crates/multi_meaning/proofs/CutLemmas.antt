@@ -56,9 +56,6 @@ module _ {X : Type 0} (p : X → Bool) where
   abbrev Parts : List X → Cut X → Type 0
   Parts xs c = (cut_from c xs).closed ++ part (cut_from c xs).open' ≡ c.closed ++ onto c.open' (cut_behind p xs)
 
-  more : (xs : List X) (c : Cut X) (x : X) (d : Cut X) → cut_more c x ≡ d → (cut_from c (x ∷ xs)).closed ++ part (cut_from c (x ∷ xs)).open' ≡ (cut_from d xs).closed ++ part (cut_from d xs).open'
-  more xs c x d is = ap (λ (d : Cut X). (cut_from d xs).closed ++ part (cut_from d xs).open') is
-
   cut_parts : (xs : List X) (c : Cut X) → Parts xs c
   cut_parts [] c = ap (λ l. c.closed ++ l) (sym (onto-nil c.open'))
   cut_parts (x ∷ xs) c = grind (arith, onto-cons, onto_push, append_assoc, cut_parts xs (ends_part c x), cut_parts xs (longer_part c x))

@@ -9,15 +9,10 @@ use Rattle.multi_meaning.specs.Line.{char_gap, glyph_width, width_of}
 use Rattle.multi_meaning.specs.kept.Present.{IsPlacing}
 use Rattle.multi_meaning.proofs.WordLemmas.{extent_push}
 use Rattle.multi_meaning.proofs.CheckLemmas.{extent-append-le}
-use Rattle.multi_meaning.proofs.CutLemmas.{cut_with_item, first_part}
+use Rattle.multi_meaning.proofs.CutLemmas.{cut_with_item}
 use Rattle.multi_meaning.proofs.BehindLemmas.{after_last_is}
 use Rattle.multi_meaning.proofs.EndedLemmas.{closed_count}
 use Rattle.std.proofs.lemmas.Bool.Decides.{nat_tests}
-
--- an item's line in a group is what stands open before it, it, and some items
-line_of : (front : List Spot) (y : Spot) (back : List Spot)
-    → slice_index_or (lines_of (front ++ y ∷ back)) (count_by is_break front) [] ≡ after_last is_break front ++ y ∷ (first_part is_break y back).rest
-line_of front y back = grind (arith, cut_with_item, get_or_at, closed_count, after_last_is)
 
 -- what stands behind an item of a segment makes it no narrower
 wider : (j : ℕ) (open' rest : List Spot) (y : Spot) → is_glyph y ≡ true → line_number y.at.line_just ≡ j → 1 ≤ glyph_width y → width_of (segment j open') < width_of (segment j (open' ++ y ∷ rest))
@@ -27,4 +22,4 @@ wider j open' rest y glyph just wide =
 -- an item of a laid group ends its line exactly where the segment in which it would stand is as wide before it as on that line
 pub full_known : (j : ℕ) (front : List Spot) (y : Spot) (back : List Spot) → IsPlacing y → (is_glyph y ≡ true → (line_number y.at.line_just ≡ j) × (1 ≤ glyph_width y))
     → (width_of (segment j (after_last is_break front)) == width_of (segment j (slice_index_or (lines_of (front ++ y ∷ back)) (count_by is_break front) []))) ≡ is_break y
-full_known j front y back placing stands = grind (arith, line_of, wider, filter-append, append-nil)
+full_known j front y back placing stands = grind (arith, cut_with_item, get_or_at, closed_count, after_last_is, wider, filter-append, append-nil)

@@ -21,13 +21,6 @@ segment_front just line behind = grind (arith, extent-append-le, filter-append)
 pub le_test : (a b w : ℕ) → a ≤ b → nat_le b w ≡ true → nat_le a w ≡ true
 le_test a b w h k = grind arith
 
--- what fits one line still fits without its last character
-pub fits_front : (width : ℕ) (line : List Spot) (s : Spot) → line_fits width (line ++ s ∷ []) ≡ true → line_fits width line ≡ true
-fits_front width line s h = grind (arith, nat_tests, segment_front)
-
-pub stays_wide : (width : ℕ) (line : List Spot) (s : Spot) → line_fits width line ≡ false → line_fits width (line ++ s ∷ []) ≡ false
-stays_wide width line s h = false_from_ne_true (line_fits width (line ++ s ∷ [])) (λ fits. false≢true (sym h ∙ fits_front width line s fits))
-
 pub nothing_fits : (width : ℕ) → line_fits width [] ≡ true
 nothing_fits width = let none : (fit 0 0 0 width && nat_le 0 width) ≡ true = grind (arith, nat_tests) in none
 
@@ -43,29 +36,19 @@ module _ (width : ℕ) where
   pub broken_fits : (cs : List Spot) → line_fits width cs ≡ true → soft_break width cs ≡ None
   broken_fits cs h = rw h refl
 
-  broken_wide : (cs : List Spot) → line_fits width cs ≡ false → soft_break width cs ≡ cut_wide (most cs) cs
-  broken_wide cs h = rw h refl
-
-  longer_nil : (o : Option (CutAt Spot)) → option_map (longer []) o ≡ o
-  longer_nil v0 = grind (arith, append-nil)
-
   longer_twice : (xs ys : List Spot) (o : Option (CutAt Spot)) → option_map (longer (xs ++ ys)) o ≡ option_map (longer ys) (option_map (longer xs) o)
   longer_twice xs ys v2 = grind (arith, append_assoc)
 
-  -- the first character that no longer fits: the line is broken at its last space, which may be that character
-  pub broken_first : (cs : List Spot) (s : Spot) → line_fits width cs ≡ true → line_fits width (cs ++ s ∷ []) ≡ false → soft_break width (cs ++ s ∷ []) ≡ cut_at_last is_space (cs ++ s ∷ [])
-  broken_first cs s fits wide = grind (arith, longest_push, longest_all, length-append, drop_all, take_all, longer_nil)
-
   -- a later one leaves the break
   pub broken_later : (cs : List Spot) (s : Spot) → line_fits width cs ≡ false → soft_break width (cs ++ s ∷ []) ≡ option_map (longer (s ∷ [])) (soft_break width cs)
-  broken_later cs s wide = grind (arith, stays_wide, longest_push, longest_short, drop-append-le, take-append-le, longer_twice)
+  broken_later cs s wide = grind (arith, false_from_ne_true, false≢true, nat_tests, segment_front, longest_push, longest_short, drop-append-le, take-append-le, longer_twice)
 
   pub broken_is_wide : (cs : List Spot) (c : CutAt Spot) → soft_break width cs ≡ Some c → line_fits width cs ≡ false
   broken_is_wide cs c e = false_from_ne_true (line_fits width cs) (λ fits. let wrong : ◌≡◌ {A = Option (CutAt Spot)} None (Some c) = sym (broken_fits cs fits) ∙ e in cc)
 
   -- what is broken off are the characters, less nothing
   pub broken_parts : (cs : List Spot) (c : CutAt Spot) → soft_break width cs ≡ Some c → cs ≡ c.before ++ c.item ∷ c.behind
-  broken_parts cs c e = grind (arith, broken_wide cs (broken_is_wide cs c e), is_cut is_space (take (most cs) cs), take-append-drop (most cs) cs, append_assoc)
+  broken_parts cs c e = grind (arith, is_cut is_space (take (most cs) cs), take-append-drop (most cs) cs, append_assoc)
 
   shorter : (cs : List Spot) (c : CutAt Spot) → soft_break width cs ≡ Some c → length c.behind + 1 ≤ length cs
   shorter cs c e = omega (arith, ap length (broken_parts cs c e), length-append c.before (c.item ∷ c.behind))
@@ -115,7 +98,7 @@ module _ (width : ℕ) where
   rest_still n line = grind (arith, fill_still n, is_cut is_space line)
 
   last_line : (n : ℕ) (cs : List Spot) (s : Spot) → line_fits width cs ≡ true → broken_off (fill n width) (cs ++ s ∷ []) (soft_break width (cs ++ s ∷ [])) ≡ relaid (cs ++ s ∷ [])
-  last_line n cs s fits = grind (arith, broken_fits (cs ++ s ∷ []), broken_first cs s, rest_still n (cs ++ s ∷ []))
+  last_line n cs s fits = grind (arith, broken_fits (cs ++ s ∷ []), longest_push, longest_all, length-append, drop_all, take_all, append-nil, rest_still n (cs ++ s ∷ []))
 
   -- one more character behind characters whose last line fits: every break is kept, and the last line is broken at its last space
   -- where it no longer fits

@@ -4,16 +4,13 @@ use Rattle.std.specs.Option.{option_map, option_map_or}
 use Rattle.std.proofs.lemmas.Bool.{both_ways, cases_Bool}
 use Rattle.std.proofs.lemmas.List.Elements.{filter-append}
 use Rattle.multi_meaning.proofs.WordLemmas.{cases_Option, each_after_push, last_or-append, push_ind}
-use Rattle.multi_meaning.specs.Filling.{CutAt, prefixes, longest_prefix, cut_at_last, longer}
+use Rattle.multi_meaning.specs.Filling.{CutAt, longest_prefix, cut_at_last, longer}
 
 -- THE LONGEST PREFIX
 
-prefixes_push : {X : Type 0} (xs : List X) (x : X) → prefixes (xs ++ x ∷ []) ≡ prefixes xs ++ (xs ++ x ∷ []) ∷ []
-prefixes_push xs x = ap (λ l. [] ∷ l) (each_after_push (λ before x. before ++ x ∷ []) xs x)
-
 -- one more item: the whole, or the longest so far
 pub longest_push : {X : Type 0} (p : List X → Bool) (xs : List X) (x : X) → longest_prefix p (xs ++ x ∷ []) ≡ cond (p (xs ++ x ∷ [])) (xs ++ x ∷ []) (longest_prefix p xs)
-longest_push p xs x = grind (arith, prefixes_push, filter-append, last_or-append)
+longest_push p xs x = grind (arith, each_after_push, filter-append, last_or-append)
 
 -- it is all of a list that passes
 pub longest_all : {X : Type 0} (p : List X → Bool) (xs : List X) → p xs ≡ true → longest_prefix p xs ≡ xs

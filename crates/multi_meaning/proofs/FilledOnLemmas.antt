@@ -1,5 +1,5 @@
 -- The laid items of an area at one more character of its string.
-use Rattle.std.proofs.Common.{◌≡◌, ℕ, ◌≤◌, max, true, false, cond, ◌==◌, List, [], ◌∷◌, ◌++◌, Some, refl, sym, ap, ◌∙◌, arith, append-nil}
+use Rattle.std.proofs.Common.{◌≡◌, ℕ, ◌≤◌, true, false, cond, ◌==◌, List, [], ◌∷◌, ◌++◌, Some, refl, sym, ap, ◌∙◌, arith, append-nil}
 use Rattle.std.proofs.lemmas.Bool.{and_parts, false_from_ne_true}
 use Rattle.std.proofs.lemmas.List.Elements.{filter-append}
 use Rattle.multi_tag.specs.Just.{page_number}
@@ -29,16 +29,12 @@ module _ (setting : LineFill) (width : ℕ) (a : ℕ) where
   pub one_more : (xs : List Spot) (x : Spot) → in_area a (xs ++ x ∷ []) ≡ in_area a xs ++ cond (in_areas a x) (x ∷ []) []
   one_more xs x = filter-append (in_areas a) xs (x ∷ [])
 
-  largest_more : (xs : List Spot) (x : Spot) → let f = largest (λ (t : Spot). page_number t.at.page_just) in
-      f (in_area a (xs ++ x ∷ [])) ≡ cond (in_areas a x) (max (f (in_area a xs)) (page_number x.at.page_just)) (f (in_area a xs))
-  largest_more xs x = grind (arith, one_more, largest_push, append-nil)
-
   pub largest_laid : (all some more : List Spot) → all ≡ some ++ more → largest (λ (t : Spot). page_number t.at.page_just) (in_area a (laid setting all some)) ≡ largest (λ (t : Spot). page_number t.at.page_just) (in_area a some)
   largest_laid all =
       let f = largest (λ (t : Spot). page_number t.at.page_just) in
       front_ind all (λ some. f (in_area a (laid setting all some)) ≡ f (in_area a some)) refl (λ some more x is ih.
       let (member, just) = same_at x (laid_spot setting all some x) (laid_as setting all some more x is) in
-      ap (λ l. f (in_area a l)) (each_after_push (laid_spot setting all) some x) ∙ grind (arith, largest_more, member, just, ih))
+      ap (λ l. f (in_area a l)) (each_after_push (laid_spot setting all) some x) ∙ grind (arith, one_more, largest_push, append-nil, member, just, ih))
 
 -- one more character: its group grows, and the others stay
 module _ (setting : LineFill) (width : ℕ) (all : List Spot) (s : Spot) (glyph : is_glyph s ≡ true) (same : HasWidth setting width s.at.area (all ++ s ∷ []))
@@ -64,5 +60,5 @@ module _ (setting : LineFill) (width : ℕ) (all : List Spot) (s : Spot) (glyph 
         before = before (page_number s.at.page_just);
         after = after (page_number s.at.page_just) ∙ ap (filled (Some width)) members;
         others = λ j other. after j ∙ ap (filled (Some width)) (others_stay j other) ∙ sym (before j);
-        last = most ∙ grind (arith, largest_more setting width s.at.area all s, placed, order);
+        last = most ∙ grind (arith, one_more, largest_push, append-nil, placed, order);
       }

@@ -1,33 +1,21 @@
 -- The worked rows of filling by setting, computed on the sample sign.
 use Rattle.std.proofs.Common.{◌≡◌, ℕ, List, [], ◌∷◌, map, codes, refl}
-use Rattle.multi_token.specs.Reading.{reading, read_items, read_item}
-use Rattle.multi_tag.specs.TagOf.{tag_of}
 use Rattle.sign_font.specs.Sample.{sample}
 use Rattle.sign_font.specs.Sign.{SignData}
 use Rattle.sign_font.specs.declared.parts.LineFill.TheVariants.{Words}
-use Rattle.multi_meaning.specs.Meaning.{meaning}
-use Rattle.multi_meaning.specs.Address.{standing, spots}
-use Rattle.multi_meaning.specs.Offence.{offence_by}
-use Rattle.multi_meaning.specs.Verdict.{Accepted, Refused, Verdict, verdict, verdict_on}
-use Rattle.multi_meaning.specs.Place.{place_of, places}
+use Rattle.multi_meaning.specs.Verdict.{Accepted, Refused}
+use Rattle.multi_meaning.proofs.PlaceExamples.{ArePlaced, placed}
+use Rattle.multi_meaning.proofs.VerdictExamples.{AreJudged, judged}
 
 -- the sample sign, with its lines filled by words
-abbrev words : SignData
+abbrev pub words : SignData
 words = record sample { line_fill = Words }
 
-unfoldable judged : List ℕ → Verdict
-unfolding verdict verdict_on offence_by spots standing reading read_items read_item tag_of
-judged octets = verdict words octets
-
-unfoldable placed : List ℕ → List (ℕ × ℕ)
-unfolding places place_of spots standing reading read_items read_item tag_of
-placed octets = map (λ p. (p.column, p.row)) (places words (map meaning (reading octets).items))
-
 -- each of these strings is accepted, with a page, and the cells of its characters are at these columns and rows
-abbrev ArePlaced : List (List ℕ × List (ℕ × ℕ)) → Type 0
-ArePlaced rows = (map (λ row. judged row.0) rows ≡ map (λ row. Accepted 1) rows) × (map (λ row. placed row.0) rows ≡ map (λ row. row.1) rows)
+abbrev AreAccepted : List (List ℕ × List (ℕ × ℕ)) → Type 0
+AreAccepted rows = (map (λ row. judged words row.0) rows ≡ map (λ row. Accepted 1) rows) × ArePlaced words rows
 
-accepted : ArePlaced (
+accepted : AreAccepted (
     (codes "AA AA", (2, 0) ∷ (6, 0) ∷ (2, 4) ∷ (6, 4) ∷ []) ∷  -- two words stand on two lines
     (codes "AAA A", (0, 0) ∷ (4, 0) ∷ (8, 0) ∷ (4, 4) ∷ []) ∷  -- three and one
     (codes "AAA  A", (0, 0) ∷ (4, 0) ∷ (8, 0) ∷ (3, 4) ∷ (6, 4) ∷ []) ∷  -- a second space stands on its line
@@ -46,11 +34,7 @@ accepted : ArePlaced (
 unfolding judged placed
 accepted = (refl, refl)
 
--- each of these strings has the verdict beside it
-abbrev AreJudged : List (List ℕ × Verdict) → Type 0
-AreJudged rows = map (λ row. judged row.0) rows ≡ map (λ row. row.1) rows
-
-verdicts : AreJudged (
+verdicts : AreJudged words (
     (codes "AAAA", Refused 5 3) ∷  -- no space to break at
     (codes "AA AA AA", Refused 5 6) ∷  -- three lines are too high
     (codes "[jl4]AA [jl2]AA", Refused 11 13) ∷  -- justification goes back between hard breaks

@@ -16,7 +16,7 @@ use Rattle.multi_meaning.specs.Laid.{laid_fits}
 -- SPOTS
 
 -- where the first item of the sample sign stands
-abbrev first : Standing
+abbrev pub first : Standing
 first = record {
   page = 0;
   area = 0;
@@ -77,27 +77,19 @@ three_parts = refl
 abbrev has_columns_for : ℕ → LineJust → Bool
 has_columns_for width just = line_fits 12 (record { at = record first { line_just = just }; put = character 65 width } ∷ [])
 
-less_than_12_columns_fit : map (has_columns_for 3) (Left ∷ Centre ∷ Right ∷ Full ∷ []) ≡ true ∷ true ∷ true ∷ true ∷ []
-less_than_12_columns_fit = refl
-
-all_12_columns_fit : map (has_columns_for 12) (Left ∷ Centre ∷ Right ∷ Full ∷ []) ≡ true ∷ true ∷ true ∷ true ∷ []
-all_12_columns_fit = refl
-
-a_13th_column_is_too_many : map (has_columns_for 13) (Left ∷ Centre ∷ Right ∷ Full ∷ []) ≡ false ∷ false ∷ false ∷ false ∷ []
-a_13th_column_is_too_many = refl
+-- 3 columns and all 12 fit, and a 13th is too many
+columns : map (λ width. map (has_columns_for width) (Left ∷ Centre ∷ Right ∷ Full ∷ [])) (3 ∷ 12 ∷ 13 ∷ [])
+    ≡ (true ∷ true ∷ true ∷ true ∷ []) ∷ (true ∷ true ∷ true ∷ true ∷ []) ∷ (false ∷ false ∷ false ∷ false ∷ []) ∷ []
+columns = refl
 
 -- an area of one character, whose font has this many rows, with a page justification
 abbrev area : ℕ → PageJust → List Spot
 area rows just = record { at = record first { page_just = just; font = record small_font { height = rows } }; put = character 65 3 } ∷ []
 
-all_7_rows_fit : map (λ just. area_fits 7 (area 7 just)) (Top ∷ Middle ∷ Bottom ∷ []) ≡ true ∷ true ∷ true ∷ []
-all_7_rows_fit = refl
+-- all 7 rows fit, and an 8th is too many
+rows : map (λ rows. map (λ just. area_fits 7 (area rows just)) (Top ∷ Middle ∷ Bottom ∷ [])) (7 ∷ 8 ∷ []) ≡ (true ∷ true ∷ true ∷ []) ∷ (false ∷ false ∷ false ∷ []) ∷ []
+rows = refl
 
-an_8th_row_is_too_many : map (λ just. area_fits 7 (area 8 just)) (Top ∷ Middle ∷ Bottom ∷ []) ≡ false ∷ false ∷ false ∷ []
-an_8th_row_is_too_many = refl
-
-all_7_rows_fit_as_laid_out : map (λ just. laid_fits None 7 (area 7 just)) (Top ∷ Middle ∷ Bottom ∷ []) ≡ true ∷ true ∷ true ∷ []
-all_7_rows_fit_as_laid_out = refl
-
-an_8th_row_is_too_many_as_laid_out : map (λ just. laid_fits None 7 (area 8 just)) (Top ∷ Middle ∷ Bottom ∷ []) ≡ false ∷ false ∷ false ∷ []
-an_8th_row_is_too_many_as_laid_out = refl
+rows_as_laid_out : map (λ rows. map (λ just. laid_fits None 7 (area rows just)) (Top ∷ Middle ∷ Bottom ∷ [])) (7 ∷ 8 ∷ [])
+    ≡ (true ∷ true ∷ true ∷ []) ∷ (false ∷ false ∷ false ∷ []) ∷ []
+rows_as_laid_out = refl

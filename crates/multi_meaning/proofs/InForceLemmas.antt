@@ -1,8 +1,7 @@
 -- What is in force behind the items of an accepted string: the rectangle is inside the sign, and every font is at least one
 -- pixel high, with characters at least one column wide.
-use Rattle.std.proofs.Common.{◌≡◌, ℕ, ◌+◌, ◌-◌, ◌≤◌, Bool, true, cond, ◌&&◌, ◌||◌, ◌==◌, List, [], ◌∷◌, ◌++◌, Option, None, sym, subst, ◌∙◌, arith, inl, inr, IsSome, IfSome, unwrap_or}
+use Rattle.std.proofs.Common.{◌≡◌, ℕ, ◌+◌, ◌≤◌, Bool, true, ◌&&◌, ◌||◌, ◌==◌, List, [], ◌∷◌, ◌++◌, Option, None, sym, subst, ◌∙◌, arith, IsSome, IfSome, unwrap_or}
 use Rattle.std.specs.List.{All, cons_option, find}
-use Rattle.std.proofs.lemmas.Bool.{cases_Bool}
 use Rattle.std.proofs.lemmas.Bool.Decides.{nat_tests}
 use Rattle.std.proofs.lemmas.List.Elements.{All-nil, All-head, All-tail, All-filter, All-weaker}
 use Rattle.sign_font.specs.declared.parts.Defaults.{Defaults}
@@ -10,7 +9,7 @@ use Rattle.sign_font.specs.Sign.{SignData, CellData, FontData, font_numbered}
 use Rattle.sign_font.specs.Sound.{IsSound}
 use Rattle.multi_meaning.specs.declared.attributes.Rectangle.{Rectangle}
 use Rattle.multi_meaning.specs.Meaning.{Meaning}
-use Rattle.multi_meaning.specs.Attributes.{default_font, given_font, given_rectangle, is_inside, rectangle, whole_sign}
+use Rattle.multi_meaning.specs.Attributes.{default_font, given_font, is_inside, rectangle, whole_sign}
 use Rattle.multi_meaning.specs.Address.{Standing, standing, Spot, put_at, spots, is_glyph, is_break}
 use Rattle.multi_meaning.specs.Line.{glyph_width}
 use Rattle.multi_meaning.specs.Offence.{offence_by}
@@ -49,10 +48,6 @@ pub record IsInSign (sign : SignData) (r : Rectangle) : Type 0 where
   pub across : r.left + r.width ≤ sign.width
   pub down : r.top + r.height ≤ sign.height
 
--- one side of a rectangle, whose size of 0 is all that remains
-inside_side : (x w size : ℕ) → 1 ≤ x → x ≤ size → x - 1 + w ≤ size → x - 1 + cond (w == 0) (size - (x - 1)) w ≤ size
-inside_side x w size some at room = elim (cases_Bool (w == 0)) [ inl rest ↦ rw rest (omega arith) | inr given ↦ rw given room ]
-
 rectangle_in_sign : (sign : SignData) (x y w h : ℕ) → is_inside sign x y w h ≡ true → IsInSign sign (rectangle sign x y w h)
 rectangle_in_sign sign x y w h passes = record { across = grind (arith, nat_tests); down = grind (arith, nat_tests) }
 
@@ -60,16 +55,12 @@ whole_in_sign : (sign : SignData) → IsInSign sign (whole_sign sign)
 whole_in_sign sign = record { across = omega arith; down = omega arith }
 
 module _ (sign : SignData) (big : List Spot → Spot → Bool) where
-  -- a rectangle that an item gives is inside the sign
-  given_in_sign : (before : List Meaning) (x : Meaning) → offence_by big sign before x ≡ None → IfSome (given_rectangle sign x) (IsInSign sign)
-  given_in_sign before x none = grind (arith, rectangle_in_sign, offence-rectangle)
-
   first_in_sign : IsInSign sign (standing sign []).rectangle
   unfolding standing
   first_in_sign = whole_in_sign sign
 
   next_in_sign : (before : List Meaning) (x : Meaning) → offence_by big sign before x ≡ None → IsInSign sign (standing sign before).rectangle → IsInSign sign (standing sign (before ++ x ∷ [])).rectangle
-  next_in_sign before x none old = grind (arith, standing_push, given_in_sign)
+  next_in_sign before x none old = grind (arith, standing_push, rectangle_in_sign, offence-rectangle)
 
   -- behind the items of an accepted string the rectangle in force is inside the sign
   pub rectangle_inside : (items : List Meaning) → some_after (offence_by big sign) items ≡ [] → IsInSign sign (standing sign items).rectangle

@@ -1,12 +1,11 @@
 -- The items of a string as they are laid out: a space that is dropped is the end of its line, as an `nl` is.
 use native.Mathlib.Omega.{arith}
-use Rattle.std.proofs.Common.{◌≡◌, ◌||◌, ℕ, true, List, [], ◌∷◌, ◌++◌, Option, Some, inl, inr, refl, sym, ap, ◌∙◌, append-nil}
+use Rattle.std.proofs.Common.{◌≡◌, List, [], ◌∷◌, ◌++◌, Some, inl, inr, refl, sym, ap, ◌∙◌, append-nil}
 use Rattle.std.specs.List.{cons_option}
-use Rattle.multi_tag.specs.declared.tag.Tag.TheVariants.{NewLine}
 use Rattle.sign_font.specs.Sign.{SignData}
 use Rattle.sign_font.specs.declared.parts.LineFill.{LineFill}
-use Rattle.multi_meaning.specs.Address.{Spot, Put, Standing, standing, spots, spot_at, put_at, is_break, is_glyph}
-use Rattle.multi_meaning.specs.Meaning.{Does, Meaning}
+use Rattle.multi_meaning.specs.Address.{Spot, Put, Standing, standing, spots, spot_at, put_at}
+use Rattle.multi_meaning.specs.Meaning.{Meaning}
 use Rattle.multi_meaning.specs.kept.Present.{standing_behind}
 use Rattle.multi_meaning.specs.Laid.{laid_spot, laid}
 use Rattle.multi_meaning.specs.LaidItems.{laid_item, laid_items, laid_of}
@@ -21,17 +20,9 @@ module _ (sign : SignData) (here at : Standing) where
   abbrev spot_of : Put → Spot
   spot_of put = record { at = at; put = put }
 
-  -- a placing item gives nothing that stays in force, as an `nl` gives nothing
-  nothing_given : (item : Meaning) (put : Put) (gap : Option ℕ) → put_at sign.defaults at item ≡ Some put → (is_glyph (spot_of put) || is_break (spot_of put)) ≡ true
-      → standing_behind sign here (Does (NewLine gap)) ≡ standing_behind sign here item
-  nothing_given item put gap e placing = grind arith
-
   -- an item that is laid as this spot puts it, and the same stays in force behind it
   abbrev IsLaid : Meaning → Spot → Type 0
   IsLaid item y = (standing_behind sign here (laid_of item (Some y)) ≡ standing_behind sign here item) × (spot_at sign.defaults at (laid_of item (Some y)) ≡ Some y)
-
-  itself : (item : Meaning) (put : Put) → put_at sign.defaults at item ≡ Some put → IsLaid item (spot_of put)
-  itself item v1 e = grind arith
 
   is_laid : (item : Meaning) (put : Put) (y : Spot) → put_at sign.defaults at item ≡ Some put → LaidAs (spot_of put) y → IsLaid item y
   is_laid item put y e v4 = grind arith

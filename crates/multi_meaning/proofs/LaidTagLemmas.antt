@@ -9,7 +9,7 @@ use Rattle.multi_tag.specs.declared.tag.Tag.{Tag}
 use Rattle.multi_tag.specs.declared.tag.Tag.TheVariants.{NewPage, NewLine, Back}
 use Rattle.sign_font.specs.Sign.{SignData}
 use Rattle.sign_font.specs.declared.parts.LineFill.{LineFill}
-use Rattle.multi_meaning.specs.Address.{Spot, Put, is_glyph, is_break, group_of, put_at, spot_at, spots, standing, Break, Standing}
+use Rattle.multi_meaning.specs.Address.{Spot, Put, is_glyph, is_break, group_of, put_at, spot_at, spots, standing, Break}
 use Rattle.multi_meaning.specs.Filling.{filled}
 use Rattle.multi_meaning.specs.Laid.{fill_at, laid_spot}
 use Rattle.multi_meaning.specs.LaidItems.{laid_item, laid_items, laid_of}
@@ -95,10 +95,6 @@ module _ (setting : LineFill) (sign : SignData) where
       ∙ (λ i. stay i ++ among all items x ∷ []) ∙ rw puts (ap (λ y. laid_items setting sign items items ++ laid_of x (Some y) ∷ []) last)
 
 -- ONE MORE TAG
-
--- lines are filled to one width in one rectangle
-fill_same : (setting : LineFill) (a b : Standing) → a.rectangle ≡ b.rectangle → fill_at setting a ≡ fill_at setting b
-fill_same v0 a b e = grind arith
 
 module _ (setting : LineFill) (sign : SignData) (items : List Meaning) where
   abbrev spot_of : Put → Spot

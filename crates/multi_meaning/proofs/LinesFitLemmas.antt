@@ -62,9 +62,6 @@ fit_each a b c height h = grind arith
 pub each_just : (P : ℕ → Type 0) → P 2 → P 3 → P 4 → P 5 → (just : ℕ) → 2 ≤ just → just ≤ 5 → P just
 each_just P p2 p3 p4 p5 just low high = grind arith
 
-pub part_most : (f : ℕ → ℕ) (just height : ℕ) → 2 ≤ just → just ≤ 4 → f 2 + f 3 + f 4 ≤ height → f just ≤ height
-part_most f just height low high room = grind arith
-
 -- an area that fits has no more lines than pixels
 pub lines_within : (height : ℕ) (area : List Spot) → area_fits height area ≡ true → All (λ (s : Spot). 1 ≤ s.at.font.height) area
     → length (lines_of (in_group 2 area)) + length (lines_of (in_group 3 area)) + length (lines_of (in_group 4 area)) ≤ height

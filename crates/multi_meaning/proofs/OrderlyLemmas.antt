@@ -1,6 +1,6 @@
 -- The items of a string as they are laid out offend by nothing but their size, where those of the string don't.
 use native.Mathlib.Omega.{arith}
-use Rattle.std.proofs.Common.{◌≡◌, ℕ, Bool, true, false, cond, ◌&&◌, ◌||◌, inl, inr, List, [], ◌∷◌, ◌++◌, map, Option, Some, None, refl, sym, ap, subst, ◌∙◌, append_assoc, append-nil, option_map, arith}
+use Rattle.std.proofs.Common.{◌≡◌, ℕ, Bool, true, false, cond, ◌||◌, inl, inr, List, [], ◌∷◌, ◌++◌, map, Option, Some, None, refl, sym, ap, subst, ◌∙◌, append_assoc, append-nil, option_map, arith}
 use Rattle.std.proofs.lemmas.Bool.{cases_Bool, or_parts}
 use Rattle.std.specs.List.{after_last, count_by, list_any}
 use Rattle.std.proofs.lemmas.List.{map-append}
@@ -10,7 +10,7 @@ use Rattle.multi_tag.specs.declared.tag.Tag.TheVariants.{NewLine}
 use Rattle.multi_tag.specs.Just.{page_number}
 use Rattle.sign_font.specs.declared.parts.LineFill.{LineFill}
 use Rattle.sign_font.specs.Sign.{SignData, CellData, cell_numbered}
-use Rattle.multi_meaning.specs.Address.{Break, Glyph, Put, Spot, Standing, area_of, is_break, is_glyph, line_before, put_at, spots, standing}
+use Rattle.multi_meaning.specs.Address.{Break, Glyph, Put, Spot, Standing, area_of, is_break, put_at, spots, standing}
 use Rattle.multi_meaning.specs.Laid.{laid, laid_spot, too_big}
 use Rattle.multi_meaning.specs.LaidItems.{laid_item, laid_items, laid_out}
 use Rattle.multi_meaning.specs.Meaning.{Does, Meaning, Shows, has_place, is_new_page, meaning}
@@ -62,16 +62,13 @@ module _ (setting : LineFill) (all : List Spot) (a j : ℕ) (p : Spot → Bool) 
 -- A PLACING ITEM
 
 module _ (setting : LineFill) (all some more : List Spot) (is : all ≡ some ++ more) (s : Spot) (apart : conflicts some s ≡ false) where
-  parts : (list_any (goes_back s) (area_of s some) ≡ false) × ((is_glyph s && list_any (clashes s) (line_before some s)) ≡ false)
-  parts = or_parts (list_any (goes_back s) (area_of s some)) (is_glyph s && list_any (clashes s) (line_before some s)) apart
-
   -- its group doesn't go back among what is laid out
   pub goes_on : (t : Spot) → t.at ≡ s.at → list_any (goes_back t) (area_of t (laid setting all some)) ≡ false
-  goes_on t at = grind (arith, at, group_goes_back, largest_laid setting 0 s.at.area all some more is, parts.0)
+  goes_on t at = grind (arith, at, group_goes_back, largest_laid setting 0 s.at.area all some more is, or_parts)
 
   -- and neither does its segment
   pub stays_apart : conflicts (laid setting all some) s ≡ false
-  stays_apart = grind (arith, goes_on s refl, none_laid setting all s.at.area (page_number s.at.page_just) (clashes s) some more is, parts.1)
+  stays_apart = grind (arith, goes_on s refl, none_laid setting all s.at.area (page_number s.at.page_just) (clashes s) some more is, or_parts)
 
 -- THE ITEMS
 

@@ -3,7 +3,6 @@ use Rattle.std.proofs.Common.{◌≡◌, ℕ, true, List, [], ◌∷◌, map, co
 use Rattle.std.specs.List.{range_with_len, count_by, sum_by}
 use Rattle.sign_font.specs.Sample.{sample}
 use Rattle.sign_font.specs.Sign.{SignData}
-use Rattle.sign_font.specs.declared.parts.LineFill.TheVariants.{Words}
 use Rattle.multi_token.specs.Reading.{reading, read_items, read_item}
 use Rattle.multi_tag.specs.TagOf.{tag_of}
 use Rattle.multi_meaning.specs.Address.{spots, standing}
@@ -12,13 +11,10 @@ use Rattle.multi_meaning.specs.Picture.{in_plane, picture, things, things_among}
 use Rattle.multi_meaning.specs.declared.times.Shown.{Shown}
 use Rattle.multi_meaning.specs.declared.times.Shown.TheVariants.{Page, Off}
 use Rattle.multi_meaning.specs.Times.{shown, shown_at, shown_within, page_times}
+use Rattle.multi_meaning.proofs.FillingExamples.{words}
 
 abbrev sample_classic : SignData
 sample_classic = record sample { classic = true }
-
--- the sample sign, with its lines filled by words
-abbrev words : SignData
-words = record sample { line_fill = Words }
 
 -- the rows of a sign from the top, with 35 `#` for a pixel that is in a picture, and 46 `.` for another
 unfoldable rows : SignData → List ℕ → ℕ → ℕ → ℕ → List (List ℕ)

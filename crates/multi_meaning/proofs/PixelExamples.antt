@@ -2,40 +2,22 @@
 use Rattle.std.proofs.Common.{◌≡◌, ℕ, Bool, true, false, List, [], ◌∷◌, map, Option, Some, None, refl}
 use Rattle.std.specs.List.{range_with_len}
 use Rattle.std.specs.Option.{option_map_or}
-use Rattle.multi_tag.specs.declared.just.LineJust.TheVariants.{Centre}
-use Rattle.multi_tag.specs.declared.just.PageJust.TheVariants.{Middle}
-use Rattle.sign_font.specs.Sample.{sample, small_font}
+use Rattle.sign_font.specs.Sample.{sample}
 use Rattle.sign_font.specs.Sign.{SignData}
 use Rattle.multi_meaning.specs.declared.attributes.FlashTimes.{FlashTimes}
 use Rattle.multi_meaning.specs.declared.times.Shown.TheVariants.{Page, Off}
-use Rattle.multi_meaning.specs.Attributes.{whole_sign}
 use Rattle.multi_meaning.specs.Address.{Put, Glyph, Break, Cover, Spot, spots, standing}
 use Rattle.multi_meaning.specs.Place.{place_of}
 use Rattle.multi_meaning.specs.Picture.{in_plane, pixel_at, thing_at, things, things_among}
 use Rattle.multi_meaning.specs.Drawn.{has_colour}
 use Rattle.multi_meaning.specs.Times.{Times, is_on}
+use Rattle.multi_meaning.proofs.FitExamples.{first}
 
 -- THINGS
 
 -- what is put on page 1 in colour 3, with a flash and in the font of three rows
 abbrev spot_with : Option FlashTimes → Put → Spot
-spot_with flash put = record {
-  at = record {
-    page = 1;
-    area = 1;
-    font = small_font;
-    line_just = Centre;
-    page_just = Middle;
-    spacing = None;
-    fore = 3;
-    back = 0;
-    on = 30;
-    off = 0;
-    flash = flash;
-    rectangle = whole_sign sample;
-  };
-  put = put;
-}
+spot_with flash put = record { at = record first { page = 1; area = 1; fore = 3; flash = flash }; put = put }
 
 -- the cell of `A`, and behind its last row more bits, all set
 abbrev letter : Put
@@ -50,13 +32,10 @@ covers phase flash put column row =
 abbrev columns_in : ℕ → Option FlashTimes → Put → ℕ → List Bool
 columns_in phase flash put row = map (λ column. covers phase flash put column row) (range_with_len 3 5)
 
-a_character_covers_its_set_bits : map (columns_in 0 None letter) (2 ∷ 3 ∷ 4 ∷ [])
-    ≡ (false ∷ false ∷ true ∷ false ∷ false ∷ []) ∷ (false ∷ true ∷ true ∷ true ∷ false ∷ []) ∷ (false ∷ true ∷ false ∷ true ∷ false ∷ []) ∷ []
-a_character_covers_its_set_bits = refl
-
-a_character_covers_nothing_above_or_below : map (columns_in 0 None letter) (1 ∷ 5 ∷ [])
-    ≡ (false ∷ false ∷ false ∷ false ∷ false ∷ []) ∷ (false ∷ false ∷ false ∷ false ∷ false ∷ []) ∷ []
-a_character_covers_nothing_above_or_below = refl
+a_character_covers_its_set_bits_and_nothing_above_or_below : map (columns_in 0 None letter) (1 ∷ 2 ∷ 3 ∷ 4 ∷ 5 ∷ [])
+    ≡ (false ∷ false ∷ false ∷ false ∷ false ∷ []) ∷ (false ∷ false ∷ true ∷ false ∷ false ∷ []) ∷ (false ∷ true ∷ true ∷ true ∷ false ∷ [])
+    ∷ (false ∷ true ∷ false ∷ true ∷ false ∷ []) ∷ (false ∷ false ∷ false ∷ false ∷ false ∷ []) ∷ []
+a_character_covers_its_set_bits_and_nothing_above_or_below = refl
 
 -- 5 tenths on, then 5 off
 abbrev flash : Option FlashTimes
@@ -93,13 +72,10 @@ unfoldable has : List Spot → ℕ → Bool
 unfolding has_colour things_among place_of
 has some colour = has_colour colourful 1 0 colour some some 0 0
 
-a_pixel_on_which_nothing_is_put : map (has []) (0 ∷ 1 ∷ 2 ∷ 3 ∷ []) ≡ false ∷ false ∷ true ∷ false ∷ []
+nothing_and_a_background_are_put : map (λ some. map (has some) (0 ∷ 1 ∷ 2 ∷ 3 ∷ [])) ([] ∷ (spot_with None (Cover 1 3) ∷ []) ∷ [])
+    ≡ (false ∷ false ∷ true ∷ false ∷ []) ∷ (false ∷ false ∷ false ∷ true ∷ []) ∷ []
 unfolding has
-a_pixel_on_which_nothing_is_put = refl
-
-a_pixel_on_which_a_background_is_put : map (has (spot_with None (Cover 1 3) ∷ [])) (0 ∷ 1 ∷ 2 ∷ 3 ∷ []) ≡ false ∷ false ∷ false ∷ true ∷ []
-unfolding has
-a_pixel_on_which_a_background_is_put = refl
+nothing_and_a_background_are_put = refl
 
 -- TIMES
 

@@ -1,7 +1,7 @@
 -- What things give a pixel of a page.
 use native.Mathlib.Omega.{arith}
 use Rattle.std.proofs.Common.{◌≡◌, ℕ, cond, ◌&&◌, ◌==◌, List, [], ◌∷◌, Option, Some, None, refl}
-use Rattle.std.specs.List.{AllByRecursion, cons_option, filter_map}
+use Rattle.std.specs.List.{AllByRecursion, filter_map}
 use Rattle.multi_meaning.specs.Picture.{Thing}
 use Rattle.multi_meaning.specs.Words.{some_after}
 
@@ -14,14 +14,10 @@ abbrev pub picked : ℕ → ℕ → ℕ → Option Thing → Option ℕ
 picked page column row None = None
 picked page column row (Some thing) = pick page column row thing
 
-pick_cons : (page column row : ℕ) (thing : Option Thing) (rest : List Thing)
-    → filter_map (pick page column row) (cons_option thing rest) ≡ cons_option (picked page column row thing) (filter_map (pick page column row) rest)
-pick_cons page column row v3 rest = grind arith
-
 -- what items make, one after the other, gives a pixel the same where each gives it the same
 pub all_same : {X : Type 0} (page column row : ℕ) (f g : List X → X → Option Thing) (Holds : X → Type 0)
     → ((before : List X) (x : X) → Holds x → picked page column row (f before x) ≡ picked page column row (g before x)) → (xs : List X) → AllByRecursion Holds xs
     → filter_map (pick page column row) (some_after f xs) ≡ filter_map (pick page column row) (some_after g xs)
 all_same page column row f g Holds same [] hold = refl
 all_same page column row f g Holds same (x ∷ xs) hold =
-    grind (arith, pick_cons, same [] x hold.0, all_same page column row (λ before. f (x ∷ before)) (λ before. g (x ∷ before)) Holds (λ before. same (x ∷ before)) xs hold.1)
+    grind (arith, same [] x hold.0, all_same page column row (λ before. f (x ∷ before)) (λ before. g (x ∷ before)) Holds (λ before. same (x ∷ before)) xs hold.1)

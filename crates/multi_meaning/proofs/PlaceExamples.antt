@@ -3,19 +3,20 @@ use Rattle.std.proofs.Common.{◌≡◌, ℕ, List, [], ◌∷◌, map, codes, r
 use Rattle.multi_token.specs.Reading.{reading, read_items, read_item}
 use Rattle.multi_tag.specs.TagOf.{tag_of}
 use Rattle.sign_font.specs.Sample.{sample}
+use Rattle.sign_font.specs.Sign.{SignData}
 use Rattle.multi_meaning.specs.Meaning.{meaning}
 use Rattle.multi_meaning.specs.Address.{spots, standing}
 use Rattle.multi_meaning.specs.Place.{place_of, places}
 
-unfoldable placed : List ℕ → List (ℕ × ℕ)
+unfoldable pub placed : SignData → List ℕ → List (ℕ × ℕ)
 unfolding places place_of spots standing reading read_items read_item tag_of
-placed octets = map (λ p. (p.column, p.row)) (places sample (map meaning (reading octets).items))
+placed sign octets = map (λ p. (p.column, p.row)) (places sign (map meaning (reading octets).items))
 
 -- the cells of the characters of these strings are at these columns and rows
-abbrev ArePlaced : List (List ℕ × List (ℕ × ℕ)) → Type 0
-ArePlaced rows = map (λ row. placed row.0) rows ≡ map (λ row. row.1) rows
+abbrev pub ArePlaced : SignData → List (List ℕ × List (ℕ × ℕ)) → Type 0
+ArePlaced sign rows = map (λ row. placed sign row.0) rows ≡ map (λ row. row.1) rows
 
-cells : ArePlaced (
+cells : ArePlaced sample (
     (codes "A", (4, 2) ∷ []) ∷  -- one character stands in the middle
     (codes "A[nl0]A", (4, 0) ∷ (4, 3) ∷ []) ∷  -- a gap of none puts lines together
     (codes "A[nl]A", (4, 0) ∷ (4, 4) ∷ []) ∷  -- two lines with the usual gap

@@ -1,5 +1,5 @@
 -- All spots of an area have the same rectangle in force.
-use Rattle.std.proofs.Common.{◌≡◌, ℕ, ◌+◌, ◌≤◌, false, cond, List, [], ◌∷◌, ◌++◌, None, refl, sym, ap, subst, ◌∙◌, arith, append-nil, append_assoc, All}
+use Rattle.std.proofs.Common.{◌≡◌, ℕ, ◌+◌, ◌≤◌, cond, List, [], ◌∷◌, ◌++◌, None, refl, sym, ap, subst, ◌∙◌, arith, append-nil, append_assoc, All}
 use Rattle.std.proofs.lemmas.List.Elements.{All-nil, All-weaker}
 use Rattle.sign_font.specs.Sign.{SignData}
 use Rattle.multi_meaning.specs.declared.attributes.Rectangle.{Rectangle}
@@ -9,10 +9,6 @@ use Rattle.multi_meaning.specs.Address.{Spot, Standing, spots, standing}
 use Rattle.multi_meaning.proofs.LayoutLemmas.{spots_all}
 use Rattle.multi_meaning.proofs.StandingLemmas.{standing_push}
 use Rattle.multi_meaning.proofs.WordLemmas.{push_ind}
-
--- an item that begins no area gives no rectangle
-given_none : (sign : SignData) (x : Meaning) → begins_area x ≡ false → given_rectangle sign x ≡ None
-given_none sign x e = grind arith
 
 module _ (sign : SignData) where
   pub area_push : (items : List Meaning) (x : Meaning) → (standing sign (items ++ x ∷ [])).area ≡ (standing sign items).area + cond (begins_area x) 1 0

@@ -1,7 +1,7 @@
 -- What the items behind some others put: they leave what was put before, go on with its page and its area, and put nothing into
 -- an area that ended.
 use Rattle.std.proofs.Common.{◌≡◌, ℕ, ◌+◌, ◌≤◌, true, false, cond, List, [], ◌∷◌, ◌++◌, Option, Some, None, refl, sym, ap, ◌∙◌, arith, append-nil, append_assoc, IfSome, eq-eqb}
-use Rattle.std.specs.List.{cons_option, All, Contains}
+use Rattle.std.specs.List.{All, Contains}
 use Rattle.std.proofs.lemmas.List.Elements.{All-contains_itself, All-weaker, All-nil, All-head, All-tail}
 use Rattle.std.proofs.lemmas.List.Sums.{sum_by-append}
 use Rattle.multi_tag.specs.declared.tag.Tag.TheVariants.{NewPage}
@@ -87,10 +87,6 @@ pages_behind sign before behind =
     some_all (λ x. Unit {0}) (IsFrom low) (λ more item. spot_at sign.defaults (standing sign (before ++ more)) item) behind (All-weaker (Contains behind) (λ x. Unit {0}) (λ x _. tt) behind (All-contains_itself behind))
     (λ more x _. spot_page (standing sign (before ++ more)) low (page_on sign before more) sign.defaults x)
 
--- an item that begins an area places nothing
-begins_none : (k : ℕ) (defaults : Defaults) (here : Standing) (x : Meaning) → begins_area x ≡ true → in_area k (cons_option (spot_at defaults here x) []) ≡ []
-begins_none k defaults here v3 begins = grind arith
-
 module _ (sign : SignData) (before : List Meaning) where
   -- behind an item that begins an area stands the next area
   area_next : (x : Meaning) → begins_area x ≡ true → (standing sign (before ++ x ∷ [])).area ≡ (standing sign before).area + 1
@@ -104,7 +100,7 @@ module _ (sign : SignData) (before : List Meaning) where
       let next = before ++ x ∷ [] in
       let later = push_ind (λ rest. in_area k (spots sign (next ++ rest)) ≡ in_area k (spots sign next)) (ap (λ l. in_area k (spots sign l)) (append-nil next)) (λ rest y ih.
       ap (λ l. in_area k (spots sign l)) (sym (append_assoc next rest (y ∷ []))) ∙ other_area sign (next ++ rest) y k (λ e. omega (arith, e, area_on sign next rest, area_next x begins)) ∙ ih) in
-      grind (arith, later rest, spots_push sign before x, in_area-append, begins_none k sign.defaults (standing sign before) x begins, append_assoc before (x ∷ []) rest, append-nil)
+      grind (arith, later rest, spots_push sign before x, in_area-append, append_assoc before (x ∷ []) rest, append-nil)
 
   -- where an area ends, the rest of the string puts nothing into it
   pub area_ends : (behind : List Meaning) → EndsArea behind

@@ -48,10 +48,6 @@ find_none p a (suc n) fails = rw (fails a (omega arith) (omega arith)) (find_non
 begins_later : (pages : List Times) (j k : ℕ) → j ≤ k → begin pages j ≤ begin pages k
 begins_later pages j k h = omega (arith, ap cycle (take-take j k pages h), sum_by-take-le (λ (t : Times). t.on + t.off) (take k pages) j)
 
--- a page isn't on before it begins
-off_before : (pages : List Times) (t k : ℕ) → t < begin pages k → is_on pages t k ≡ false
-off_before pages t k h = and_left (nat_le (begin pages k) t) _ (lt-leb (begin pages k) t h)
-
 -- a page isn't on behind its on time
 off_behind : (pages : List Times) (t k : ℕ) (here : Times) → slice_get pages k ≡ Some here → begin pages k + here.on ≤ t → is_on pages t k ≡ false
 off_behind pages t k here stands h = and_right (nat_le (begin pages k) t) _ (rw stands (le-ltb t (begin pages k + here.on) h))
@@ -92,10 +88,6 @@ module _ (pages before after : List Times) (here : Times) (is : pages ≡ before
   none_before : (t j : ℕ) → cycle before ≤ t → j < length before → is_on pages t j ≡ false
   none_before t j from below = ended pages t j (omega (arith, within)) (omega (arith, begins_later pages (j + 1) (length before) (omega arith), begins))
 
-  -- no later page is on before its end
-  none_after : (t j : ℕ) → t < cycle before + (here.on + here.off) → length before < j → is_on pages t j ≡ false
-  none_after t j until above = off_before pages t j (omega (arith, begins_later pages (length before + 1) j (omega arith), ends))
-
   -- in its on time a page is shown
   pub shown_on : (t : ℕ) → cycle before ≤ t → t < cycle before + here.on → shown_within pages t ≡ Page (length before) (t - cycle before)
   unfolding shown_within
@@ -106,7 +98,7 @@ module _ (pages before after : List Times) (here : Times) (is : pages ≡ before
   -- in its off time nothing is shown
   pub shown_off : (t : ℕ) → cycle before + here.on ≤ t → t < cycle before + here.on + here.off → shown_within pages t ≡ Off
   unfolding shown_within
-  shown_off t from until = grind (arith, stands, begins, none_before, none_after, find_none)
+  shown_off t from until = grind (arith, stands, begins, none_before, and_left, lt-leb, begins_later, ends, find_none)
 
 -- THE TIMES OF PAGES
 
@@ -151,9 +143,6 @@ within_below : (pages : List Times) (time page phase : ℕ) → shown_within pag
 unfolding shown_within
 within_below pages time page phase is = grind (arith, found_below)
 
-at_below : (pages : List Times) (clock page phase : ℕ) → 0 < length pages → shown_at pages clock ≡ Page page phase → page < length pages
-at_below pages clock page phase some is = grind (arith, shown_always, within_below, shown_modulo)
-
 -- a page that is shown is one of the string's
 pub page_below : (sign : SignData) (octets : List ℕ) (clock page phase : ℕ) → shown sign octets clock ≡ Page page phase → page < pages_of (meanings octets)
-page_below sign octets clock page phase is = grind (arith, times_count, at_below)
+page_below sign octets clock page phase is = grind (arith, times_count, shown_always, within_below, shown_modulo)
