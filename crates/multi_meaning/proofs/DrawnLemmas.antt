@@ -128,11 +128,10 @@ module _ (sign : SignData) (before : List Meaning) where
   later_behind : (rest : List Meaning) → (more : List Spot) × (spots sign (before ++ Does NewPage ∷ rest) ≡ spots sign before ++ more) × All (IsFrom ((standing sign before).page + 1)) more
   later_behind rest =
       let at = standing sign before in
-      let next = before ++ Does NewPage ∷ [] in
       let cover : Spot = record { at = at; put = Cover (at.page + 1) at.back } in
-      let more = spots_behind sign next rest in
-      let behind : All (IsFrom (at.page + 1)) more = subst (λ low. All (IsFrom low) more) (next_page_behind sign before) (pages_behind sign next rest) in
-      (cover ∷ more, spots_with sign before (Does NewPage) rest (Cover (at.page + 1) at.back) refl, All-cons (IsFrom (at.page + 1)) cover more (omega arith) behind)
+      let more = spots_behind sign (before ++ Does NewPage ∷ []) rest in
+      let behind = subst (λ low. All (IsFrom low) more) (next_page_behind sign before) (pages_behind sign (before ++ Does NewPage ∷ []) rest) in
+      (cover ∷ more, spots_with sign before (Does NewPage) rest cover.put refl, All-cons (IsFrom (at.page + 1)) cover more (omega arith) behind)
 
   -- where a page ends, the rest of the string covers none of its pixels
   pub covered_ends : (behind : List Meaning) (phase colour column row : ℕ) → EndsPage behind

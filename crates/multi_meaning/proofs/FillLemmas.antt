@@ -106,8 +106,6 @@ module _ (width : ℕ) where
       → fill n width (cs ++ s ∷ []) ≡ (parts n cs).closed ++ relaid ((parts n cs).open' ++ s ∷ [])
   fill_push zero cs s h fits = absurd (omega (arith, h))
   fill_push (suc n) cs s h fits = elim (cases_Option (soft_break width cs)) [
-    | inl none ↦ rw none (last_line n cs s (rw none at fits))
-    | inr (c, some) ↦
-        let rest = fill_push n c.behind s (omega (arith, shorter cs c some, h)) (rw some at fits) in
-        grind (arith, some, broken_later cs s (broken_is_wide cs c some), rest, append_assoc)
+    | inl none ↦ grind (arith, none, last_line n cs s, fits)
+    | inr (c, some) ↦ grind (arith, some, broken_later cs s (broken_is_wide cs c some), fill_push n c.behind s (omega (arith, shorter cs c some, h)), fits, append_assoc)
   ]

@@ -3,7 +3,7 @@ use Rattle.std.proofs.Common.{◌≡◌, ℕ, ◌+◌, ◌≤◌, Bool, inl, inr
 use Rattle.std.specs.Option.{option_map, option_map_or}
 use Rattle.std.proofs.lemmas.Bool.{both_ways, cases_Bool}
 use Rattle.std.proofs.lemmas.List.Elements.{filter-append}
-use Rattle.multi_meaning.proofs.WordLemmas.{cases_Option, each_after_push, last_or-append, push_ind}
+use Rattle.multi_meaning.proofs.WordLemmas.{each_after_push, last_or-append, push_ind}
 use Rattle.multi_meaning.specs.Filling.{CutAt, longest_prefix, cut_at_last, longer}
 
 -- THE LONGEST PREFIX
@@ -18,11 +18,7 @@ longest_all p = push_ind (λ xs. p xs ≡ true → longest_prefix p xs ≡ xs) (
 
 -- it is no longer than the list
 longest_most : {X : Type 0} (p : List X → Bool) (xs : List X) → length (longest_prefix p xs) ≤ length xs
-longest_most p = push_ind (λ xs. length (longest_prefix p xs) ≤ length xs) (elim (cases_Bool (p [])) [ inl e ↦ rw e (omega arith) | inr e ↦ rw e (omega arith) ])
-    (λ xs x ih. let more = longest_push p xs x in elim (cases_Bool (p (xs ++ x ∷ []))) [
-      | inl e ↦ omega (arith, ap length (rw e at more))
-      | inr e ↦ omega (arith, ih, ap length (rw e at more), length-append xs (x ∷ []))
-    ])
+longest_most p = push_ind (λ xs. length (longest_prefix p xs) ≤ length xs) (grind arith) (λ xs x ih. grind (arith, longest_push p xs x, length-append xs (x ∷ []), ih))
 
 -- it is shorter than a list that doesn't pass
 pub longest_short : {X : Type 0} (p : List X → Bool) (xs : List X) → p [] ≡ true → p xs ≡ false → length (longest_prefix p xs) + 1 ≤ length xs
@@ -61,10 +57,7 @@ module _ {X : Type 0} (p : X → Bool) where
 
   -- a list without an item that passes has no cut, nor have its first items
   none_parts : (x : X) (xs : List X) → cut_at_last p (x ∷ xs) ≡ None → (p x ≡ false) × (cut_at_last p xs ≡ None)
-  none_parts x xs h = elim (cases_Option (cut_at_last p xs)) [
-    | inr (d, found) ↦ absurd (cc (rw found at h))
-    | inl none ↦ elim (cases_Bool (p x)) [ inl passes ↦ absurd (cc (rw (none, passes) at h)) | inr fails ↦ (fails, none) ]
-  ]
+  none_parts x xs h = grind (arith, h)
 
   pub none_take : (xs : List X) (n : ℕ) → cut_at_last p xs ≡ None → cut_at_last p (take n xs) ≡ None
   none_take xs zero h = refl

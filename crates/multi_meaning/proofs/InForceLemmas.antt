@@ -1,6 +1,6 @@
 -- What is in force behind the items of an accepted string: the rectangle is inside the sign, and every font is at least one
 -- pixel high, with characters at least one column wide.
-use Rattle.std.proofs.Common.{◌≡◌, ℕ, ◌+◌, ◌≤◌, Bool, true, ◌&&◌, ◌||◌, ◌==◌, List, [], ◌∷◌, ◌++◌, Option, None, sym, subst, ◌∙◌, arith, IsSome, IfSome, unwrap_or}
+use Rattle.std.proofs.Common.{◌≡◌, ℕ, ◌+◌, ◌≤◌, Bool, true, ◌&&◌, ◌||◌, ◌==◌, List, [], ◌∷◌, ◌++◌, Option, None, sym, ◌∙◌, arith, IsSome, IfSome, unwrap_or}
 use Rattle.std.specs.List.{All, cons_option, find}
 use Rattle.std.proofs.lemmas.Bool.Decides.{nat_tests}
 use Rattle.std.proofs.lemmas.List.Elements.{All-nil, All-head, All-tail, All-filter, All-weaker}
@@ -121,12 +121,10 @@ module _ (sign : SignData) (sound : IsSound sign) (some : IsSome (font_numbered 
   first_high = record { font = default_high; each = All-nil High }
 
   next_high : (before : List Meaning) (x : Meaning) → IsHigh sign before → IsHigh sign (before ++ x ∷ [])
-  next_high before x old =
-      let here = standing sign before in
-      record {
-        font = subst (λ (s : Standing). HighFont s.font) (sym (standing_push sign before x)) (in_force_by HighFont (given_font sign x) here.font (given_high x) old.font);
-        each = spots_all sign High before x (λ put e. rw e at (high_put sign.defaults here x old.font)) old.each;
-      }
+  next_high before x old = record {
+    font = grind (arith, standing_push sign before x, given_high x, old.font);
+    each = spots_all sign High before x (λ put e. rw e at (high_put sign.defaults (standing sign before) x old.font)) old.each;
+  }
 
   -- whatever the items are, all that they put is high
   area_high_all : (items : List Meaning) → All High (present_area sign items)

@@ -50,22 +50,17 @@ module _ (setting : LineFill) (fill : Rectangle → Option ℕ) (is : (at : Stan
       (is_glyph s || is_break s) ≡ true → too_big setting (spots sign before) s ≡ false → Fits s.at.rectangle (present_area sign before) → Fits s.at.rectangle (present_area sign before ++ s ∷ [])
   fits_joins before put placing small old just =
       let s : Spot = record { at = standing sign before; put = put } in
-      let width = s.at.rectangle.width in
+      let group = page_number s.at.page_just in
       let area = present_area sign before in
-      let group = in_group (page_number s.at.page_just) area in
-      let joined : line_fits width (after_last is_break (filled (fill_at setting s.at) (in_group (page_number s.at.page_just) (area ++ s ∷ [])))) ≡ true = elim (cases_Bool (is_glyph s)) [
+      let whole = filled (fill_at setting s.at) (in_group group area) in
+      let joined : line_fits s.at.rectangle.width (after_last is_break (filled (fill_at setting s.at) (in_group group (area ++ s ∷ [])))) ≡ true = elim (cases_Bool (is_glyph s)) [
         | inl glyph ↦ not-false _ (or_parts _ _ (rw glyph at small)).0
         | inr other ↦
-            let broken : is_break s ≡ true = rw other at placing in
-            let whole = filled (fill_at setting s.at) group in
-            let more = ap (filled (fill_at setting s.at)) (own_group (page_number s.at.page_just) area s refl) ∙ filled_behind (fill_at setting s.at) group s (placing_group (page_number s.at.page_just) area (area_placing (spots sign before) s)) broken in
-            ap (λ l. line_fits width (after_last is_break l)) more ∙ ap (line_fits width) (after_last_push is_break whole s) ∙ rw broken (nothing_fits width)
+            let ends : is_break s ≡ true = rw other at placing in
+            let behind = filled_behind (fill_at setting s.at) (in_group group area) s (placing_group group area (area_placing (spots sign before) s)) ends in
+            grind (arith, own_group group area s refl, behind, after_last_push is_break whole s, ends, nothing_fits s.at.rectangle.width)
       ] in
-      elim (cases_eq (page_number s.at.page_just) just) [
-        | inl own ↦ subst (λ n. line_fits width (after_last is_break (filled (fill s.at.rectangle) (in_group n (area ++ s ∷ [])))) ≡ true) own
-            (ap (λ o. line_fits width (after_last is_break (filled o (in_group (page_number s.at.page_just) (area ++ s ∷ []))))) (sym (is s.at)) ∙ joined)
-        | inr other ↦ ap (λ g. line_fits width (after_last is_break (filled (fill s.at.rectangle) g))) (in_group_other just area s other) ∙ old just
-      ]
+      elim (cases_eq group just) [ inl own ↦ grind (arith, own, is s.at, joined) | inr other ↦ grind (arith, in_group_other just area s other, old just) ]
 
 -- behind the items of an accepted string the present line of each group fits the rectangle in force
 pub lines_fit_always : (sign : SignData) (items : List Meaning) → IsFine sign items → LinesFit (standing sign items).rectangle.width (present_area sign items)

@@ -1,7 +1,7 @@
 -- The items of a string as they are laid out offend by nothing but their size, where those of the string don't.
 use native.Mathlib.Omega.{arith}
-use Rattle.std.proofs.Common.{◌≡◌, ℕ, Bool, true, false, cond, ◌||◌, inl, inr, List, [], ◌∷◌, ◌++◌, map, Option, Some, None, refl, sym, ap, subst, ◌∙◌, append_assoc, append-nil, option_map, arith}
-use Rattle.std.proofs.lemmas.Bool.{cases_Bool, or_parts}
+use Rattle.std.proofs.Common.{◌≡◌, ℕ, Bool, true, false, cond, ◌||◌, inl, inr, List, [], ◌∷◌, ◌++◌, map, Some, None, refl, sym, ap, subst, ◌∙◌, append_assoc, append-nil, option_map, arith}
+use Rattle.std.proofs.lemmas.Bool.{or_parts}
 use Rattle.std.specs.List.{after_last, count_by, list_any}
 use Rattle.std.proofs.lemmas.List.{map-append}
 use Rattle.std.proofs.lemmas.List.Folds.{list_any-append}
@@ -9,9 +9,9 @@ use Rattle.multi_token.specs.Spelling.{Item}
 use Rattle.multi_tag.specs.declared.tag.Tag.TheVariants.{NewLine}
 use Rattle.multi_tag.specs.Just.{page_number}
 use Rattle.sign_font.specs.declared.parts.LineFill.{LineFill}
-use Rattle.sign_font.specs.Sign.{SignData, CellData, cell_numbered}
+use Rattle.sign_font.specs.Sign.{SignData, cell_numbered}
 use Rattle.multi_meaning.specs.Address.{Break, Glyph, Put, Spot, Standing, area_of, is_break, put_at, spots, standing}
-use Rattle.multi_meaning.specs.Laid.{laid, laid_spot, too_big}
+use Rattle.multi_meaning.specs.Laid.{laid, laid_spot}
 use Rattle.multi_meaning.specs.LaidItems.{laid_item, laid_items, laid_out}
 use Rattle.multi_meaning.specs.Meaning.{Does, Meaning, Shows, has_place, is_new_page, meaning}
 use Rattle.multi_meaning.specs.Offence.{clashes, conflicts, goes_back, never_big, offence, offence_by, unsized_offence}
@@ -24,12 +24,10 @@ use Rattle.multi_meaning.proofs.FilledOnLemmas.{largest_laid}
 use Rattle.multi_meaning.proofs.GroupLaidLemmas.{is_member, laid_as, members, members_push, same_member}
 use Rattle.multi_meaning.proofs.InForceLemmas.{none_front, none_last}
 use Rattle.multi_meaning.proofs.LaidItemLemmas.{are_laid}
-use Rattle.multi_meaning.proofs.LaidSpotLemmas.{LaidAs}
 use Rattle.multi_meaning.proofs.OffenceLemmas.{offence-break, offence-character, offence-undefined}
-use Rattle.multi_meaning.proofs.UnplacedLemmas.{unplaced_item, no_conflict, sized, last_fine}
+use Rattle.multi_meaning.proofs.UnplacedLemmas.{unplaced_item, no_conflict, last_fine}
 use Rattle.multi_meaning.proofs.SpotsLemmas.{spots_with}
 use Rattle.multi_meaning.proofs.WordLemmas.{cases_Option, each_after_push, front_ind, none_more, push_ind}
-use Rattle.std.proofs.lemmas.Option.{none-some}
 
 -- THE LINE OF A CHARACTER
 
@@ -47,17 +45,12 @@ module _ (setting : LineFill) (all : List Spot) (a j : ℕ) (p : Spot → Bool) 
   any_other : (xs : List Spot) (x : Spot) → is_member a j x ≡ false → list_any p (line (xs ++ x ∷ [])) ≡ list_any p (line xs)
   any_other xs x e = ap (λ l. list_any p (after_last is_break l)) (members_push a j xs x false e ∙ append-nil (members a j xs))
 
-  joins : (b c : Bool) (x y : Spot) → LaidAs x y → (b ≡ false → c ≡ false) → cond (is_break x) false (b || (p x || false)) ≡ false → cond (is_break y) false (c || (p y || false)) ≡ false
-  joins b c x y v4 ih none = grind arith
-
   none_laid : (some more : List Spot) → all ≡ some ++ more → None_of some
   none_laid = front_ind all None_of (λ none. none) (λ some more x is ih none.
       let y = laid_spot setting all some x in
       let as' = laid_as setting all some more x is in
-      ap (λ l. list_any p (line l)) (each_after_push (laid_spot setting all) some x) ∙ elim (cases_Bool (is_member a j x)) [
-        | inl e ↦ any_more (laid setting all some) y (same_member a j x y as' ∙ e) ∙ joins (list_any p (line some)) (list_any p (line (laid setting all some))) x y as' ih (sym (any_more some x e) ∙ none)
-        | inr e ↦ any_other (laid setting all some) y (same_member a j x y as' ∙ e) ∙ ih (sym (any_other some x e) ∙ none)
-      ])
+      ap (λ l. list_any p (line l)) (each_after_push (laid_spot setting all) some x)
+      ∙ grind (arith, as', same_member a j x y as', any_more (laid setting all some) y, any_other (laid setting all some) y, any_more some x, any_other some x, ih, none))
 
 -- A PLACING ITEM
 
@@ -83,35 +76,17 @@ module _ (setting : LineFill) (sign : SignData) (all : List Meaning) where
     are : (standing sign (before some) ≡ standing sign some) × (spots sign (before some) ≡ laid setting (spots sign all) (spots sign some))
     are = are_laid setting sign all some (x ∷ more) is
 
-    -- a placing item at this place, which conflicts with nothing that is laid out
-    placed_fine : (put : Put) → conflicts (laid setting (spots sign all) (spots sign some)) (record { at = standing sign some; put = put }) ≡ false
-        → conflicts (spots sign (before some)) (record { at = standing sign (before some); put = put }) ≡ false
-    placed_fine put apart = (λ i. conflicts (are.1 i) (record { at = are.0 i; put = put })) ∙ apart
-
-    break_fine : (gap : Option ℕ) → conflicts (laid setting (spots sign all) (spots sign some)) (record { at = standing sign some; put = Break gap }) ≡ false → Fine some (Does (NewLine gap))
-    break_fine gap apart = offence-break never_big sign (before some) gap ∙ rw (placed_fine (Break gap) apart) refl
-
-    character_fine : (number : ℕ) (cell : CellData) → cell_numbered (standing sign some).font number ≡ Some cell → conflicts (laid setting (spots sign all) (spots sign some)) (record { at = standing sign some; put = Glyph cell }) ≡ false
-        → Fine some (Shows number)
-    character_fine number cell found apart =
-        offence-character never_big sign (before some) number cell (ap (λ (s : Standing). cell_numbered s.font number) are.0 ∙ found) ∙ rw (placed_fine (Glyph cell) apart) refl
-
-    -- an item that puts something
-    put_split : (put : Put) → put_at sign.defaults (standing sign some) x ≡ Some put → (rest : List Spot) × (spots sign all ≡ spots sign some ++ record { at = standing sign some; put = put } ∷ rest)
-    put_split put e = (_, ap (spots sign) is ∙ spots_with sign some x more put e)
-
-  laid_character : (some more : List Meaning) (number : ℕ) → all ≡ some ++ Shows number ∷ more → unsized_offence sign some (Shows number) ≡ None → Fine some (laid_item setting sign all some (Shows number))
-  laid_character some more number is fine = elim (cases_Option (cell_numbered (standing sign some).font number)) [
-    | inl none ↦ grind (arith, offence-undefined, none, fine)
-    | inr (cell, found) ↦
-        let s : Spot = record { at = standing sign some; put = Glyph cell } in
-        let S = spots sign all in
-        let (rest, split) = put_split some more (Shows number) is (Glyph cell) (ap (option_map Glyph) found) in
-        let apart = no_conflict (conflicts (spots sign some) s) false (sym (offence-character never_big sign some number cell found) ∙ fine) in
-        let stays = character_fine some more (Shows number) is number cell found (stays_apart setting S (spots sign some) (s ∷ rest) split s apart) in
-        let ends = break_fine some more (Shows number) is None (ap (λ b. b || false) (goes_on setting S (spots sign some) (s ∷ rest) split s apart (record { at = standing sign some; put = Break None }) refl)) in
-        grind (arith, found, laid_as setting S (spots sign some) rest s split, stays, ends)
-  ]
+    -- a placing item that conflicts with nothing conflicts with nothing that is laid out, and nor does the end of a line in its place
+    apart : (put : Put) → put_at sign.defaults (standing sign some) x ≡ Some put → conflicts (spots sign some) (record { at = standing sign some; put = put }) ≡ false
+        → (conflicts (spots sign (before some)) (record { at = standing sign (before some); put = put }) ≡ false)
+        × (conflicts (spots sign (before some)) (record { at = standing sign (before some); put = Break None }) ≡ false)
+    apart put puts none =
+        let s : Spot = record { at = standing sign some; put = put } in
+        let split = ap (spots sign) is ∙ spots_with sign some x more put puts in
+        let goes = goes_on setting (spots sign all) (spots sign some) _ split s none (record { at = s.at; put = Break None }) refl in (
+          (λ i. conflicts (are.1 i) (record { at = are.0 i; put = put })) ∙ stays_apart setting (spots sign all) (spots sign some) _ split s none,
+          (λ i. conflicts (are.1 i) (record { at = are.0 i; put = Break None })) ∙ ap (λ b. b || false) goes,
+        )
 
   -- an item that places nothing offends by its page alone
   same_offence : (xs ys : List Meaning) → count_by is_new_page xs ≡ count_by is_new_page ys → (x : Meaning) → has_place x ≡ false → unsized_offence sign xs x ≡ unsized_offence sign ys x
@@ -123,12 +98,20 @@ module _ (setting : LineFill) (sign : SignData) (all : List Meaning) where
   pages_same some more is = ap (λ (s : Standing). s.page) (are_laid setting sign all some more is).0
 
   laid_fine : (some more : List Meaning) (x : Meaning) → all ≡ some ++ x ∷ more → unsized_offence sign some x ≡ None → Fine some (laid_item setting sign all some x)
-  laid_fine some more (Shows number) is fine = laid_character some more number is fine
+  laid_fine some more (Shows number) is fine = elim (cases_Option (cell_numbered (standing sign some).font number)) [
+    | inl none ↦ grind (arith, offence-undefined, none, fine)
+    | inr (cell, found) ↦
+        let puts = ap (option_map Glyph) found in
+        let s : Spot = record { at = standing sign some; put = Glyph cell } in
+        let none = no_conflict (conflicts (spots sign some) s) false (sym (offence-character never_big sign some number cell found) ∙ fine) in
+        let (stays, ends) = apart some more (Shows number) is (Glyph cell) puts none in
+        let as' = laid_as setting (spots sign all) (spots sign some) _ s (ap (spots sign) is ∙ spots_with sign some (Shows number) more (Glyph cell) puts) in
+        let found' = ap (λ (s : Standing). cell_numbered s.font number) (are some more (Shows number) is).0 ∙ found in
+        grind (arith, found, as', stays, ends, offence-character never_big sign (before some) number cell found', offence-break never_big sign (before some) None)
+  ]
   laid_fine some more (Does (NewLine gap)) is fine =
-      let s : Spot = record { at = standing sign some; put = Break gap } in
-      let (rest, split) = put_split some more (Does (NewLine gap)) is (Break gap) refl in
-      let apart : conflicts (spots sign some) s ≡ false = grind (arith, offence-break never_big sign some gap, fine) in
-      break_fine some more (Does (NewLine gap)) is gap (stays_apart setting (spots sign all) (spots sign some) (s ∷ rest) split s apart)
+      let stays = apart some more (Does (NewLine gap)) is (Break gap) refl in
+      grind (arith, offence-break never_big sign some gap, fine, stays, offence-break never_big sign (before some) gap)
   laid_fine some more x is fine = ap (unsized_offence sign (before some)) (unplaced_item setting sign all some x refl) ∙ same_offence (before some) some (pages_same some (x ∷ more) is) x refl ∙ fine
 
   orderly_laid : ((some more : List Meaning) (x : Meaning) → all ≡ some ++ x ∷ more → unsized_offence sign some x ≡ None) → (some more : List Meaning) → all ≡ some ++ more → IsOrderly sign (before some)
@@ -140,13 +123,8 @@ module _ (setting : LineFill) (sign : SignData) (all : List Meaning) where
 
 -- what doesn't offend doesn't by more than its size
 pub unsized_if : (setting : LineFill) (sign : SignData) (ms : List Meaning) (x : Meaning) → offence setting sign ms x ≡ None → (b : Bool) → has_place x ≡ b → unsized_offence sign ms x ≡ None
-unsized_if setting sign ms x fine false e = sym (sized setting sign ms x e) ∙ fine
-unsized_if setting sign ms (Shows number) fine true e = elim (cases_Option (cell_numbered (standing sign ms).font number)) [
-  | inl none ↦ absurd (none-some 7 (sym fine ∙ offence-undefined (too_big setting) sign ms number none))
-  | inr (cell, found) ↦ offence-character never_big sign ms number cell found ∙ rw (no_conflict _ _ (sym (offence-character (too_big setting) sign ms number cell found) ∙ fine)) refl
-]
-unsized_if setting sign ms (Does (NewLine gap)) fine true e = grind (arith, offence-break never_big sign ms gap, offence-break (too_big setting) sign ms gap, fine)
-unsized_if setting sign ms _ fine true e = absurd cc
+unfolding offence_by
+unsized_if setting sign ms x fine b e = grind arith
 
 pub orderly_items : (sign : SignData) (items : List Item) → offences sign items ≡ [] → IsOrderly sign (map meaning items)
 orderly_items sign = push_ind (λ items. offences sign items ≡ [] → IsOrderly sign (map meaning items)) (λ none. refl) (λ items item ih none.

@@ -1,7 +1,7 @@
 -- The times of pages, and the page at a clock.
-use Rattle.std.proofs.Common.{◌≡◌, ℕ, zero, suc, ◌+◌, ◌-◌, ◌%◌, ◌<◌, ◌≤◌, Bool, true, false, ◌||◌, ◌==◌, cond, nat_le, length, take, get_or, List, [], ◌∷◌, ◌++◌, Option, Some, None, refl, sym, ap, ◌∙◌, inl, inr, arith, append_assoc, append-nil, length-append, take-take}
+use Rattle.std.proofs.Common.{◌≡◌, ℕ, zero, suc, ◌+◌, ◌-◌, ◌%◌, ◌<◌, ◌≤◌, Bool, true, false, ◌||◌, ◌==◌, cond, nat_le, length, take, get_or, List, [], ◌∷◌, ◌++◌, Option, Some, None, refl, sym, ap, ◌∙◌, arith, append_assoc, append-nil, length-append, take-take}
 use Rattle.std.specs.List.{find, position_or_len, range_with_len, slice_get, count_by}
-use Rattle.std.proofs.lemmas.Bool.{le-ltb, lt-leb, and_left, and_right, cases_eq}
+use Rattle.std.proofs.lemmas.Bool.{le-ltb, lt-leb, and_left, and_right}
 use Rattle.std.proofs.lemmas.List.Sums.{sum_by-append, sum_by-cons, sum_by_push, sum_by_more, sum_by-take-le}
 use Rattle.std.proofs.lemmas.List.Folds.{find_at}
 use Rattle.std.proofs.lemmas.List.FromFn.{get_or-range_with_len, length-range_with_len}
@@ -16,6 +16,7 @@ use Rattle.multi_meaning.specs.Times.{Times, begin, cycle, ended_times, is_on, p
 use Rattle.multi_meaning.specs.Verdict.{pages_of}
 use Rattle.multi_meaning.specs.Words.{some_after}
 use Rattle.multi_meaning.proofs.WordLemmas.{some_after-append}
+use Rattle.std.proofs.lemmas.List.Recursion.{found_at}
 
 -- THE CYCLE
 
@@ -32,12 +33,12 @@ cycle_within before after here =
 -- THE PAGE AT A CLOCK
 
 -- the first number of a range that passes a test is found
-find_first : (p : ℕ → Bool) (a n k : ℕ) → a ≤ k → k < a + n → p k ≡ true → ((j : ℕ) → a ≤ j → j < k → p j ≡ false) → find p (range_with_len a n) ≡ Some k
-find_first p a zero k from below passes fails = absurd (omega arith)
-find_first p a (suc n) k from below passes fails = elim (cases_eq a k) [
-  | inl e ↦ rw (ap p e ∙ passes) (ap (λ j. Some j) e)
-  | inr e ↦ rw (fails a (omega arith) (omega arith)) (find_first p (a + 1) n k (omega arith) (omega arith) passes (λ j g. fails j (omega arith)))
-]
+find_first : (p : ℕ → Bool) (n k : ℕ) → k < n → p k ≡ true → ((j : ℕ) → j < k → p j ≡ false) → find p (range_with_len 0 n) ≡ Some k
+find_first p n k below passes fails =
+    let at : (j : ℕ) → j < n → get_or (range_with_len 0 n) j 0 ≡ j = λ j h. omega (arith, get_or-range_with_len 0 n j 0 h) in
+    let none = λ (j : ℕ) (h : j < k). ap p (at j (omega arith)) ∙ fails j h in
+    found_at (find p) p (λ x. Some x) None refl (λ x xs. refl) (range_with_len 0 n) k 0 (omega (arith, length-range_with_len 0 n)) none (ap p (at k below) ∙ passes)
+    ∙ ap (λ j. Some j) (at k below)
 
 -- where no number of a range passes a test, none is found
 find_none : (p : ℕ → Bool) (a n : ℕ) → ((j : ℕ) → a ≤ j → j < a + n → p j ≡ false) → find p (range_with_len a n) ≡ None
@@ -92,7 +93,7 @@ module _ (pages before after : List Times) (here : Times) (is : pages ≡ before
   pub shown_on : (t : ℕ) → cycle before ≤ t → t < cycle before + here.on → shown_within pages t ≡ Page (length before) (t - cycle before)
   unfolding shown_within
   shown_on t from until =
-      let found = find_first (is_on pages t) 0 (length pages) (length before) (omega arith) (omega (arith, within)) (grind (arith, begins, stands)) (λ j _ below. none_before t j from below) in
+      let found = find_first (is_on pages t) (length pages) (length before) (omega (arith, within)) (grind (arith, begins, stands)) (λ j below. none_before t j from below) in
       rw (found, begins) refl
 
   -- in its off time nothing is shown

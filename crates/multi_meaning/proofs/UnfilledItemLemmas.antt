@@ -1,13 +1,13 @@
 -- Where lines aren't filled, each item is laid out as itself.
-use Rattle.std.proofs.Common.{◌≡◌, inl, inr, true, List, [], ◌∷◌, ◌++◌, length, Some, refl, sym, ap, ◌∙◌, append-nil, slice_index_or, option_map}
+use Rattle.std.proofs.Common.{◌≡◌, true, List, [], ◌∷◌, ◌++◌, length, Some, refl, sym, ap, ◌∙◌, append-nil, slice_index_or, option_map, arith}
 use Rattle.std.proofs.lemmas.List.{get_or_at}
 use Rattle.multi_tag.specs.Just.{page_number}
 use Rattle.multi_tag.specs.declared.tag.Tag.TheVariants.{NewLine}
 use Rattle.sign_font.specs.declared.parts.LineFill.TheVariants.{Off}
-use Rattle.sign_font.specs.Sign.{SignData, cell_numbered}
+use Rattle.sign_font.specs.Sign.{SignData, cell_numbered, CellData}
 use Rattle.multi_meaning.specs.Address.{Glyph, Spot, group_of, is_glyph, spots, standing}
 use Rattle.multi_meaning.specs.Laid.{laid_spot}
-use Rattle.multi_meaning.specs.LaidItems.{laid_item, laid_items, laid_of}
+use Rattle.multi_meaning.specs.LaidItems.{laid_item, laid_items}
 use Rattle.multi_meaning.specs.Meaning.{Does, Meaning, Shows}
 use Rattle.multi_meaning.proofs.GroupLaidLemmas.{members_with, own_member}
 use Rattle.multi_meaning.proofs.SpotsLemmas.{spots_with}
@@ -20,12 +20,11 @@ unfilled_glyph all some more x glyph is =
     ∙ get_or_at (group_of x some) x (group_of x more) x (length (group_of x some)) refl)
 
 pub unfilled_item : (sign : SignData) (all before more : List Meaning) (x : Meaning) → all ≡ before ++ x ∷ more → laid_item Off sign all before x ≡ x
-unfilled_item sign all before more (Shows number) is = elim (cases_Option (cell_numbered (standing sign before).font number)) [
-  | inl none ↦ rw none refl
-  | inr (cell, found) ↦
-      let split = ap (spots sign) is ∙ spots_with sign before (Shows number) more (Glyph cell) (ap (option_map Glyph) found) in
-      rw found (ap (λ y. laid_of (Shows number) (Some y)) (unfilled_glyph (spots sign all) (spots sign before) _ (record { at = standing sign before; put = Glyph cell }) refl split))
-]
+unfilled_item sign all before more (Shows number) is =
+    let split = λ (cell : CellData) (found : cell_numbered (standing sign before).font number ≡ Some cell). ap (spots sign) is ∙ spots_with sign before (Shows number) more (Glyph cell) (ap (option_map Glyph) found) in
+    let same = λ (cell : CellData) (found : cell_numbered (standing sign before).font number ≡ Some cell).
+    unfilled_glyph (spots sign all) (spots sign before) _ (record { at = standing sign before; put = Glyph cell }) refl (split cell found) in
+    grind (arith, cases_Option (cell_numbered (standing sign before).font number), same)
 unfilled_item sign all before more (Does (NewLine gap)) is = refl
 unfilled_item sign all before more _ is = refl
 

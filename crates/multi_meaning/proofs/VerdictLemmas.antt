@@ -1,6 +1,6 @@
 -- Each string has one verdict, and a refusal for an item stands however the string goes on.
 use native.Mathlib.Omega.{arith}
-use Rattle.std.proofs.Common.{◌≡◌, ◌≢◌, ℕ, List, [], ◌∷◌, ◌++◌, map, length, drop, Option, Some, refl, ap, subst, ◌∙◌, append_assoc, option_map}
+use Rattle.std.proofs.Common.{◌≡◌, ◌≢◌, ℕ, List, [], ◌∷◌, ◌++◌, map, length, drop, Option, Some, refl, ap, subst, append_assoc, option_map}
 use Rattle.std.proofs.Math.Seq.{drop-append_seam}
 use Rattle.std.specs.List.{All, cons_option}
 use Rattle.multi_token.specs.Broken.{IsOpen, StaysBroken}
@@ -18,9 +18,7 @@ use Rattle.multi_meaning.proofs.WordLemmas.{some_after-append, some_after_push}
 pub one_verdict : OneVerdict
 unfolding verdict
 one_verdict sign octets v = (
-  (λ (items, rest, read, is).
-      let same = one_reading octets items (reading octets).items rest (reading octets).rest read (each_string_has_a_reading octets) in
-      is ∙ ap (λ l. verdict_on sign l rest) same.0 ∙ ap (λ r. verdict_on sign (reading octets).items r) same.1),
+  (λ (items, rest, read, is). grind (arith, is, one_reading octets items (reading octets).items rest (reading octets).rest read (each_string_has_a_reading octets))),
   (λ is. ((reading octets).items, (reading octets).rest, each_string_has_a_reading octets, is)),
 )
 
