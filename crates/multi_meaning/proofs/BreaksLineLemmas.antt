@@ -1,9 +1,9 @@
 -- One more character breaks its line at an earlier space: the items before it are laid out as they were, but that space.
-use Rattle.std.proofs.Common.{◌≡◌, ◌⊎◌, inl, inr, ℕ, ◌<◌, ◌≤◌, Bool, true, false, cond, List, [], ◌∷◌, ◌++◌, length, take, Some, None, zero, suc, refl, sym, ap, ◌∙◌, arith, append_assoc, append-nil, length-append, slice_index_or, option_map}
+use Rattle.std.proofs.Common.{◌≡◌, ◌⊎◌, inl, inr, ℕ, ◌<◌, ◌≤◌, Bool, true, false, cond, List, [], ◌∷◌, ◌++◌, length, take, Some, None, refl, sym, ap, ◌∙◌, arith, append_assoc, append-nil, length-append, slice_index_or, option_map}
 use Rattle.std.specs.List.{AllPass, count_by}
 use Rattle.std.proofs.Math.Seq.{take-append_seam}
 use Rattle.std.proofs.lemmas.Bool.{cases_Bool, cases_eq}
-use Rattle.std.proofs.lemmas.List.{get_or_append_left, get_or_at, length_push}
+use Rattle.std.proofs.lemmas.List.{get_or_append_left, get_or_at, length_push, set_at, get_or-set_other}
 use Rattle.std.proofs.lemmas.List.Elements.{All-head}
 use Rattle.std.proofs.lemmas.List.Sums.{length-filter, sum_by-append}
 use Rattle.multi_tag.specs.declared.tag.Tag.TheVariants.{NewLine}
@@ -38,10 +38,9 @@ space_shown defaults here x v3 e space = grind (arith, found_cell)
 
 -- a list with another item in one place, and more behind it, is the same in every other place
 get_other : (xs ys zs : List Spot) (a b d : Spot) (n : ℕ) → (n ≡ length xs → ⊥) → n < length (xs ++ a ∷ ys) → slice_index_or (xs ++ b ∷ (ys ++ zs)) n d ≡ slice_index_or (xs ++ a ∷ ys) n d
-get_other [] ys zs a b d zero other within = absurd (other refl)
-get_other [] ys zs a b d (suc n) other within = get_or_append_left ys zs d n (omega (arith, within))
-get_other (x ∷ xs) ys zs a b d zero other within = refl
-get_other (x ∷ xs) ys zs a b d (suc n) other within = get_other xs ys zs a b d n (λ e. other (ap suc e)) (omega (arith, within))
+get_other xs ys zs a b d n other within =
+    ap (λ l. slice_index_or l n d) (sym (set_at xs a (ys ++ zs) b (length xs) refl)) ∙ get_or-set_other (xs ++ a ∷ (ys ++ zs)) (length xs) n b d other
+    ∙ ap (λ l. slice_index_or l n d) (sym (append_assoc xs (a ∷ ys) zs)) ∙ get_or_append_left (xs ++ a ∷ ys) zs d n within
 
 -- characters end no line
 no_breaks : (line : List Spot) → AllPass is_glyph line → count_by is_break line ≡ 0

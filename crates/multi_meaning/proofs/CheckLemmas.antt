@@ -1,5 +1,5 @@
 -- What code that checks and draws needs besides: tests by a running maximum, prefixes, and parts inside a length.
-use Rattle.std.proofs.Common.{◌≡◌, ℕ, ◌≤◌, max, false, ◌||◌, List, [], ◌∷◌, ◌++◌, sym, ap, ◌∙◌, arith, nat_lt, append_assoc, append-nil}
+use Rattle.std.proofs.Common.{◌≡◌, ℕ, ◌≤◌, List, [], ◌∷◌, ◌++◌, ap, arith, nat_lt, append_assoc, append-nil}
 use Rattle.std.specs.List.{list_any}
 use Rattle.std.proofs.lemmas.List.Folds.{list_any-append}
 use Rattle.multi_tag.specs.Just.{page_number}
@@ -7,17 +7,11 @@ use Rattle.multi_meaning.specs.Words.{extent, largest}
 use Rattle.multi_meaning.specs.Address.{Spot}
 use Rattle.multi_meaning.specs.Offence.{goes_back}
 use Rattle.multi_meaning.proofs.WordLemmas.{largest_push, extent_push, push_ind}
-
--- a test of each item against a number is one of the largest
-lt_none : (n : ℕ) → false ≡ nat_lt n 0
-lt_none n = grind arith
-
-lt_max : (n a b : ℕ) → (nat_lt n a || (nat_lt n b || false)) ≡ nat_lt n (max a b)
-lt_max n a b = grind arith
+use Rattle.std.proofs.lemmas.Bool.Decides.{nat_tests}
 
 pub any_largest : {X : Type 0} (f : X → ℕ) (n : ℕ) (xs : List X) → list_any (λ x. nat_lt n (f x)) xs ≡ nat_lt n (largest f xs)
-any_largest f n = push_ind (λ xs. list_any (λ x. nat_lt n (f x)) xs ≡ nat_lt n (largest f xs)) (lt_none n)
-    (λ xs x ih. list_any-append (λ x. nat_lt n (f x)) xs (x ∷ []) ∙ ap (λ b. b || (nat_lt n (f x) || false)) ih ∙ lt_max n (largest f xs) (f x) ∙ ap (nat_lt n) (sym (largest_push f xs x)))
+any_largest f n = push_ind (λ xs. list_any (λ x. nat_lt n (f x)) xs ≡ nat_lt n (largest f xs)) (grind (arith, nat_tests))
+    (λ xs x ih. grind (arith, nat_tests, list_any-append (λ x. nat_lt n (f x)) xs (x ∷ []), largest_push f xs x, ih))
 
 -- a group goes back exactly where it is below the largest so far
 pub group_goes_back : (s : Spot) (area : List Spot) → list_any (goes_back s) area ≡ nat_lt (page_number s.at.page_just) (largest (λ t. page_number t.at.page_just) area)

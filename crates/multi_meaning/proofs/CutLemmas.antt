@@ -1,8 +1,10 @@
 -- A list cut behind each item that passes a test, at one more item.
+use Rattle.std.proofs.lemmas.List.{append-nil}
+use Rattle.std.proofs.lemmas.Bool.Decides.{nat_tests}
 use native.Mathlib.Omega.{arith}
 use Rattle.std.proofs.Common.{◌≡◌, inl, inr, Bool, true, false, cond, List, [], ◌∷◌, ◌++◌, refl, sym, ap, ◌∙◌, append_assoc}
 use Rattle.std.specs.List.{All, fold, onto_first}
-use Rattle.std.proofs.lemmas.Bool.{both_ways, cases_Bool}
+use Rattle.std.proofs.lemmas.Bool.{cases_Bool, false≢true}
 use Rattle.std.proofs.lemmas.List.Sums.{fold-append, fold_push}
 use Rattle.multi_meaning.specs.Words.{cut_behind}
 use Rattle.multi_meaning.proofs.WordLemmas.{All-split, push_ind}
@@ -70,27 +72,17 @@ module _ {X : Type 0} (p : X → Bool) where
   cut_behind_is xs = sym (cut_parts xs (record { closed = []; open' = [] }))
 
   -- the part of an item: it, and some items, none where it ends the part
-  pub record FirstPart (x : X) (xs : List X) : Type 0 where
-    pub rest : List X
-    pub others : List (List X)
-    pub is : cut_behind p (x ∷ xs) ≡ (x ∷ rest) ∷ others
-    pub ends : p x ≡ true → rest ≡ []
-
-  pub first_part : (x : X) (xs : List X) → FirstPart x xs
-  first_part x xs = elim (cases_Bool (p x)) [
-    | inl e ↦ record { rest = []; others = cut_behind p xs; is = rw e refl; ends = λ yes. refl }
-    | inr e ↦ of (cut_behind p xs) refl e
-  ]
-    where
-      of : (parts : List (List X)) → cut_behind p xs ≡ parts → p x ≡ false → FirstPart x xs
-      of [] is e = record { rest = []; others = []; is = rw (e, is) refl; ends = λ yes. refl }
-      of (one ∷ parts) is e = record { rest = one; others = parts; is = rw (e, is) refl; ends = λ yes. absurd (both_ways (p x) e yes) }
+  first_of : (b : Bool) (x : X) (parts : List (List X)) → (rest : List X) × (others : List (List X)) × (cond b ((x ∷ []) ∷ parts) (onto_first x parts) ≡ (x ∷ rest) ∷ others) × (b ≡ true → rest ≡ [])
+  first_of true x parts = ([], parts, refl, λ e. refl)
+  first_of false x [] = ([], [], refl, λ e. refl)
+  first_of false x (part ∷ parts) = (part, parts, refl, λ e. absurd (false≢true e))
 
   -- a list, an item, and more: the open part has the item, and the closed ones stay
-  pub cut_with_item : (xs : List X) (x : X) (ys : List X) → let first = first_part x ys in cut_behind p (xs ++ x ∷ ys) ≡ (cut xs).closed ++ ((cut xs).open' ++ x ∷ first.rest) ∷ first.others
+  pub cut_with_item : (xs : List X) (x : X) (ys : List X)
+      → (rest : List X) × (others : List (List X)) × (cut_behind p (xs ++ x ∷ ys) ≡ (cut xs).closed ++ ((cut xs).open' ++ x ∷ rest) ∷ others) × (p x ≡ true → rest ≡ [])
   cut_with_item xs x ys =
-      let first = first_part x ys in
-      cut_append xs (x ∷ ys) ∙ ap (λ l. (cut xs).closed ++ onto (cut xs).open' l) first.is ∙ ap (λ l. (cut xs).closed ++ l) (onto-cons (cut xs).open' (x ∷ first.rest) first.others)
+      let (rest, others, is, ends) = first_of (p x) x (cut_behind p ys) in
+      (rest, others, cut_append xs (x ∷ ys) ∙ ap (λ l. (cut xs).closed ++ onto (cut xs).open' l) is ∙ ap (λ l. (cut xs).closed ++ l) (onto-cons (cut xs).open' (x ∷ rest) others), ends)
 
   pub cut_push : (xs : List X) (x : X) → cut (xs ++ x ∷ []) ≡ cut_more (cut xs) x
   cut_push xs x = fold_push cut_more (record { closed = []; open' = [] }) xs x
@@ -114,6 +106,4 @@ module _ {X : Type 0} (p : X → Bool) where
 
   -- with one more item the parts are the closed ones, and the open one with the item
   pub cut_behind_push : (xs : List X) (x : X) → cut_behind p (xs ++ x ∷ []) ≡ (cut xs).closed ++ ((cut xs).open' ++ x ∷ []) ∷ []
-  cut_behind_push xs x =
-      let one : cut_behind p (x ∷ []) ≡ (x ∷ []) ∷ [] = elim (cases_Bool (p x)) [ inl e ↦ rw e refl | inr e ↦ rw e refl ] in
-      cut_append xs (x ∷ []) ∙ rw one (ap (λ l. (cut xs).closed ++ l) (onto-cons (cut xs).open' (x ∷ []) []))
+  cut_behind_push xs x = grind (arith, nat_tests, append_assoc, append-nil, cut_append, onto-cons)

@@ -15,8 +15,9 @@ use Rattle.multi_meaning.specs.Drawn.{has_colour}
 use Rattle.multi_meaning.specs.Meaning.{Meaning, Shows, Does, BeginsPage, EndsPage}
 use Rattle.multi_meaning.specs.Words.{some_after}
 use Rattle.multi_meaning.proofs.WordLemmas.{last_or-append, some_after_push, some_after-append, cases_Option}
-use Rattle.multi_meaning.proofs.SpotsLemmas.{spots_behind, spots_nothing, spots_more, spots_with, same_back, next_page_behind, some_all, page_put, IsFrom, pages_behind}
+use Rattle.multi_meaning.proofs.SpotsLemmas.{spots_behind, spots_nothing, spots_more, spots_with, next_page_behind, some_all, page_put, IsFrom, pages_behind}
 use Rattle.std.specs.Option.{option_map_or}
+use Rattle.multi_meaning.proofs.StandingLemmas.{standing_push}
 
 -- a pixel has the colour of one more thing, if it covers the pixel, else the colour it had
 abbrev covers_at : Thing → ℕ → ℕ → ℕ → Bool
@@ -56,7 +57,7 @@ module _ (sign : SignData) (phase colour : ℕ) (all : List Spot) (column row : 
   begins_next : (earlier : List Meaning) → HasBackground (earlier ++ Does NewPage ∷ [])
   begins_next earlier =
       let at = standing sign earlier in
-      grind (arith, next_page_behind sign earlier, covered_put sign (at.page + 1) phase colour all column row earlier (Does NewPage) (Cover (at.page + 1) at.back) refl, same_back sign earlier, eq-eqb)
+      grind (arith, standing_push sign earlier (Does NewPage), covered_put sign (at.page + 1) phase colour all column row earlier (Does NewPage) (Cover (at.page + 1) at.back) refl, eq-eqb)
 
   -- where a page begins, every pixel has it
   pub covered_begins : (before : List Meaning) → BeginsPage before

@@ -9,7 +9,7 @@ use Rattle.multi_meaning.specs.Line.{char_gap, glyph_width, width_of}
 use Rattle.multi_meaning.specs.kept.Present.{IsPlacing}
 use Rattle.multi_meaning.proofs.WordLemmas.{extent_push}
 use Rattle.multi_meaning.proofs.CheckLemmas.{extent-append-le}
-use Rattle.multi_meaning.proofs.CutLemmas.{cut_with_item}
+use Rattle.multi_meaning.proofs.CutLemmas.{cut_with_item, cut}
 use Rattle.multi_meaning.proofs.BehindLemmas.{after_last_is}
 use Rattle.multi_meaning.proofs.EndedLemmas.{closed_count}
 use Rattle.std.proofs.lemmas.Bool.Decides.{nat_tests}
@@ -22,4 +22,8 @@ wider j open' rest y glyph just wide =
 -- an item of a laid group ends its line exactly where the segment in which it would stand is as wide before it as on that line
 pub full_known : (j : ℕ) (front : List Spot) (y : Spot) (back : List Spot) → IsPlacing y → (is_glyph y ≡ true → (line_number y.at.line_just ≡ j) × (1 ≤ glyph_width y))
     → (width_of (segment j (after_last is_break front)) == width_of (segment j (slice_index_or (lines_of (front ++ y ∷ back)) (count_by is_break front) []))) ≡ is_break y
-full_known j front y back placing stands = grind (arith, cut_with_item, get_or_at, closed_count, after_last_is, wider, filter-append, append-nil)
+full_known j front y back placing stands =
+    let (rest, others, is, ends) = cut_with_item is_break front y back in
+    let open' = (cut is_break front).open' in
+    let line = get_or_at (cut is_break front).closed (open' ++ y ∷ rest) others [] (count_by is_break front) (closed_count front) in
+    grind (arith, is, line, ends, after_last_is is_break front, wider j open' rest y, filter-append, append-nil)

@@ -72,6 +72,15 @@ module _ (width : ℕ) where
   parts zero cs = record { closed = []; open' = cs }
   parts (suc n) cs = parts_off (parts n) cs (soft_break width cs)
 
+  -- what holds of characters that stay together, and of broken ones if it does of the rest, holds of all
+  pub fill_ind : (P : List Spot → Filled → Type 0) → ((cs : List Spot) → P cs (record { closed = []; open' = cs }))
+      → ((cs : List Spot) (c : CutAt Spot) (f : Filled) → cs ≡ c.before ++ c.item ∷ c.behind → P c.behind f → P cs (record { closed = c.before ++ dropped c.item ∷ f.closed; open' = f.open' })) → (n : ℕ) (cs : List Spot) → P cs (parts n cs)
+  fill_ind P still broken zero cs = still cs
+  fill_ind P still broken (suc n) cs = elim (cases_Option (soft_break width cs)) [
+    | inl none ↦ rw none (still cs)
+    | inr (c, some) ↦ rw some (broken cs c (parts n c.behind) (broken_parts cs c some) (fill_ind P still broken n c.behind))
+  ]
+
   pub fill_is : (n : ℕ) (cs : List Spot) → fill n width cs ≡ (parts n cs).closed ++ (parts n cs).open'
   fill_is zero cs = refl
   fill_is (suc n) cs = grind (arith, fill_is n, append_assoc)

@@ -52,13 +52,12 @@ module _ (setting : LineFill) (width : ℕ) (all : List Spot) (s : Spot) (glyph 
       let first = (All-split (λ (x : Spot). x.at.area ≡ s.at.area → fill_at setting x.at ≡ Some width) all s same).0 in
       let before = groups_laid setting width s.at.area all s refl first in
       let after = groups_laid setting width s.at.area (all ++ s ∷ []) s refl same in
-      let members = members_push s.at.area (page_number s.at.page_just) all s true own in
       let most = largest_laid setting width s.at.area (all ++ s ∷ []) (all ++ s ∷ []) [] (sym (append-nil (all ++ s ∷ []))) in
       let placed = (and_parts (in_areas s.at.area s) (page_number s.at.page_just == page_number s.at.page_just) own).0 in
       record {
         own = refl;
         before = before (page_number s.at.page_just);
-        after = after (page_number s.at.page_just) ∙ ap (filled (Some width)) members;
+        after = after (page_number s.at.page_just) ∙ ap (filled (Some width)) (members_push s.at.area (page_number s.at.page_just) all s true own);
         others = λ j other. after j ∙ ap (filled (Some width)) (others_stay j other) ∙ sym (before j);
-        last = most ∙ grind (arith, one_more, largest_push, append-nil, placed, order);
+        last = most ∙ grind (arith, one_more setting width s.at.area all s, largest_push, placed, order);
       }

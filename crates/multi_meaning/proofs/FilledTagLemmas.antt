@@ -1,6 +1,6 @@
 -- A tag offends behind some items, where lines are filled, just where it does behind the items as they are laid out.
 use native.Mathlib.Omega.{arith}
-use Rattle.std.proofs.Common.{◌≡◌, ℕ, true, List, [], ◌∷◌, ◌++◌, Option, Some, refl, sym, ap, append-nil, eq-eqb}
+use Rattle.std.proofs.Common.{◌≡◌, ℕ, List, [], ◌∷◌, ◌++◌, Option, Some, refl, sym, ap, append-nil, eq-eqb}
 use Rattle.std.specs.List.{count_by, list_any}
 use Rattle.std.proofs.lemmas.List.Elements.{All-push}
 use Rattle.multi_tag.specs.declared.tag.Tag.{Tag}
@@ -14,7 +14,6 @@ use Rattle.multi_meaning.specs.Meaning.{Meaning, Does, is_new_page}
 use Rattle.multi_meaning.specs.Offence.{goes_back, offence, offence_by}
 use Rattle.multi_meaning.proofs.CheckLemmas.{group_goes_back}
 use Rattle.multi_meaning.proofs.FilledOnLemmas.{HasWidth, largest_laid, one_more}
-use Rattle.multi_meaning.proofs.GroupLaidLemmas.{in_areas}
 use Rattle.multi_meaning.proofs.LaidFitLemmas.{too_big_laid}
 use Rattle.multi_meaning.proofs.LaidItemLemmas.{are_laid}
 use Rattle.multi_meaning.proofs.LaidTagLemmas.{laid_tag, same_fill}
@@ -40,9 +39,6 @@ module _ (sign : SignData) (items : List Meaning) where
     abbrev nl : Spot
     nl = record { at = standing sign items; put = Break gap }
 
-    placed : in_areas nl.at.area nl ≡ true
-    placed = eq-eqb nl.at.area nl.at.area refl
-
     -- it goes back among the laid spots just where it does among these
     goes_back_laid : list_any (goes_back nl) (area_of nl all) ≡ list_any (goes_back nl) (area_of nl (laid Words all all))
     goes_back_laid = grind (arith, group_goes_back, largest_laid Words nl.at.rectangle.width nl.at.area all all [] (sym (append-nil all)))
@@ -55,6 +51,7 @@ module _ (sign : SignData) (items : List Meaning) where
 
     too_big_laid_break : too_big Words all nl ≡ too_big Off (laid Words all all) nl
     too_big_laid_break =
+        let placed = eq-eqb nl.at.area nl.at.area refl in
         grind (arith, too_big_laid Words nl.at.rectangle.width all nl placed (same_width (Break gap)), laid_with, one_more Words nl.at.rectangle.width nl.at.area (laid Words all all) nl, placed)
 
   same_pages : count_by is_new_page items ≡ count_by is_new_page laid_before

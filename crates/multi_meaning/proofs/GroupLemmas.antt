@@ -1,6 +1,8 @@
 -- Placing items, and the groups of an area.
+use Rattle.std.proofs.lemmas.List.{append_assoc}
+use Rattle.std.proofs.lemmas.Bool.Decides.{nat_tests}
 use native.Mathlib.Omega.{arith}
-use Rattle.std.proofs.Common.{◌≡◌, ℕ, Bool, true, false, ◌&&◌, ◌||◌, ◌==◌, List, [], ◌∷◌, ◌++◌, None, refl, ◌∙◌, append-nil}
+use Rattle.std.proofs.Common.{◌≡◌, ℕ, Bool, true, false, ◌==◌, List, [], ◌∷◌, ◌++◌, None, refl, ◌∙◌, append-nil}
 use Rattle.std.proofs.lemmas.Bool.{and_parts, eq-eqb, ne_eqb, or_cases}
 use Rattle.std.proofs.lemmas.List.Elements.{All-weaker, filter-append, All-filter, filter_passes}
 use Rattle.std.specs.List.{filter, AllPass, All}
@@ -33,9 +35,7 @@ in_group_other just area s apart = filter-append (λ t. page_number t.at.page_ju
 
 -- an area has placing items
 pub in_area_placing : (area : ℕ) (spots : List Spot) → All IsPlacing (in_area area spots)
-in_area_placing area spots =
-    let passes = λ (t : Spot). (is_glyph t || is_break t) && (t.at.area == area) in
-    All-weaker (λ t. passes t ≡ true) IsPlacing (λ t h. or_cases (is_glyph t) (is_break t) (and_parts (is_glyph t || is_break t) (t.at.area == area) h).0) (in_area area spots) (filter_passes passes spots)
+in_area_placing area spots = grind (arith, nat_tests, append_assoc, append-nil, All-weaker, or_cases, and_parts, filter_passes)
 
 pub area_placing : (before : List Spot) (s : Spot) → All IsPlacing (area_of s before)
 area_placing before s = in_area_placing s.at.area before

@@ -1,6 +1,6 @@
 -- What is in force behind the items of an accepted string: the rectangle is inside the sign, and every font is at least one
 -- pixel high, with characters at least one column wide.
-use Rattle.std.proofs.Common.{◌≡◌, ℕ, ◌+◌, ◌≤◌, Bool, true, ◌&&◌, ◌||◌, ◌==◌, List, [], ◌∷◌, ◌++◌, Option, None, sym, ◌∙◌, arith, IsSome, IfSome, unwrap_or}
+use Rattle.std.proofs.Common.{◌≡◌, ℕ, ◌+◌, ◌≤◌, Bool, true, ◌&&◌, ◌||◌, ◌==◌, List, [], ◌∷◌, ◌++◌, Option, None, sym, ◌∙◌, arith, IsSome, IfSome}
 use Rattle.std.specs.List.{All, cons_option, find}
 use Rattle.std.proofs.lemmas.Bool.Decides.{nat_tests}
 use Rattle.std.proofs.lemmas.List.Elements.{All-nil, All-head, All-tail, All-filter, All-weaker}
@@ -9,7 +9,7 @@ use Rattle.sign_font.specs.Sign.{SignData, CellData, FontData, font_numbered}
 use Rattle.sign_font.specs.Sound.{IsSound}
 use Rattle.multi_meaning.specs.declared.attributes.Rectangle.{Rectangle}
 use Rattle.multi_meaning.specs.Meaning.{Meaning}
-use Rattle.multi_meaning.specs.Attributes.{default_font, given_font, is_inside, rectangle, whole_sign}
+use Rattle.multi_meaning.specs.Attributes.{default_font, given_font}
 use Rattle.multi_meaning.specs.Address.{Standing, standing, Spot, put_at, spots, is_glyph, is_break}
 use Rattle.multi_meaning.specs.Line.{glyph_width}
 use Rattle.multi_meaning.specs.Offence.{offence_by}
@@ -37,30 +37,19 @@ module _ (sign : SignData) where
   each_ind f P first step = push_ind (λ items. some_after f items ≡ [] → P items) (λ none. first)
       (λ items item holds none. step items item (none_last f items item none) (holds (none_front f items (item ∷ []) none)))
 
--- what holds of each value that is given and of the one before holds of the one in force
-in_force_by : {A : Type 0} (P : A → Type 0) (o : Option A) (a : A) → IfSome o P → P a → P (unwrap_or o a)
-in_force_by v0 v1 a given old = grind arith
-
 -- ---- the rectangle in force
 
 -- a rectangle is inside the sign
-pub record IsInSign (sign : SignData) (r : Rectangle) : Type 0 where
-  pub across : r.left + r.width ≤ sign.width
-  pub down : r.top + r.height ≤ sign.height
-
-rectangle_in_sign : (sign : SignData) (x y w h : ℕ) → is_inside sign x y w h ≡ true → IsInSign sign (rectangle sign x y w h)
-rectangle_in_sign sign x y w h passes = record { across = grind (arith, nat_tests); down = grind (arith, nat_tests) }
-
-whole_in_sign : (sign : SignData) → IsInSign sign (whole_sign sign)
-whole_in_sign sign = record { across = omega arith; down = omega arith }
+abbrev pub IsInSign : SignData → Rectangle → Type 0
+IsInSign sign r = (r.left + r.width ≤ sign.width) × (r.top + r.height ≤ sign.height)
 
 module _ (sign : SignData) (big : List Spot → Spot → Bool) where
   first_in_sign : IsInSign sign (standing sign []).rectangle
   unfolding standing
-  first_in_sign = whole_in_sign sign
+  first_in_sign = (omega arith, omega arith)
 
   next_in_sign : (before : List Meaning) (x : Meaning) → offence_by big sign before x ≡ None → IsInSign sign (standing sign before).rectangle → IsInSign sign (standing sign (before ++ x ∷ [])).rectangle
-  next_in_sign before x none old = grind (arith, standing_push, rectangle_in_sign, offence-rectangle)
+  next_in_sign before x none old = grind (arith, nat_tests, standing_push sign before x, offence-rectangle)
 
   -- behind the items of an accepted string the rectangle in force is inside the sign
   pub rectangle_inside : (items : List Meaning) → some_after (offence_by big sign) items ≡ [] → IsInSign sign (standing sign items).rectangle
@@ -68,11 +57,11 @@ module _ (sign : SignData) (big : List Spot → Spot → Bool) where
 
   -- and so the rectangle in force is no higher than the sign
   pub rectangle_within : (items : List Meaning) → some_after (offence_by big sign) items ≡ [] → (standing sign items).rectangle.height ≤ sign.height
-  rectangle_within items none = omega (arith, (rectangle_inside items none).down)
+  rectangle_within items none = omega (arith, (rectangle_inside items none).1)
 
   -- and no wider
   pub rectangle_width_within : (items : List Meaning) → some_after (offence_by big sign) items ≡ [] → (standing sign items).rectangle.width ≤ sign.width
-  rectangle_width_within items none = omega (arith, (rectangle_inside items none).across)
+  rectangle_width_within items none = omega (arith, (rectangle_inside items none).0)
 
 -- ---- the font in force
 
@@ -96,41 +85,36 @@ High s = (1 ≤ s.at.font.height) × (is_glyph s ≡ true → 1 ≤ glyph_width 
 high_numbered : (sign : SignData) (number : ℕ) → IsSound sign → IfSome (font_numbered sign number) HighFont
 high_numbered sign number sound = grind (arith, found_each)
 
-high_default : (o : Option FontData) (font : FontData) → IsSome o → IfSome o HighFont → HighFont (unwrap_or o font)
-high_default v0 font some high = grind arith
-
 -- what an item puts where the font in force is high
 high_put : (defaults : Defaults) (here : Standing) (x : Meaning) → HighFont here.font → IfSome (put_at defaults here x) (λ put. let spot : Spot = record { at = here; put = put } in High spot)
 high_put defaults here x high = grind (arith, found_each IsWideCell, high.0, high.1)
 
--- the font in force and all that is put are high
-record IsHigh (sign : SignData) (items : List Meaning) : Type 0 where
-  font : HighFont (standing sign items).font
-  each : All High (spots sign items)
-
 module _ (sign : SignData) (sound : IsSound sign) (some : IsSome (font_numbered sign sign.defaults.font)) where
   default_high : HighFont (default_font sign)
-  default_high = high_default (font_numbered sign sign.defaults.font) (record { number = 0; version = 0; height = 0; char_spacing = 0; line_spacing = 0; cells = [] }) some (high_numbered sign sign.defaults.font sound)
+  default_high = grind (arith, high_numbered sign sign.defaults.font sound, some)
 
-  -- a font that an item gives is high
+  -- the font in force and all that is put are high
+  abbrev AreHigh : List Meaning → Type 0
+  AreHigh items = HighFont (standing sign items).font × All High (spots sign items)
+
   given_high : (x : Meaning) → IfSome (given_font sign x) HighFont
-  given_high x = grind (arith, high_numbered)
+  given_high x = grind (arith, high_numbered, default_high)
 
-  first_high : IsHigh sign []
+  first_high : AreHigh []
   unfolding standing spots
-  first_high = record { font = default_high; each = All-nil High }
+  first_high = (default_high, All-nil High)
 
-  next_high : (before : List Meaning) (x : Meaning) → IsHigh sign before → IsHigh sign (before ++ x ∷ [])
-  next_high before x old = record {
-    font = grind (arith, standing_push sign before x, given_high x, old.font);
-    each = spots_all sign High before x (λ put e. rw e at (high_put sign.defaults (standing sign before) x old.font)) old.each;
-  }
+  next_high : (before : List Meaning) (x : Meaning) → AreHigh before → AreHigh (before ++ x ∷ [])
+  next_high before x (font, each) = (
+    grind (arith, standing_push sign before x, given_high x, font),
+    spots_all sign High before x (λ put e. rw e at (high_put sign.defaults (standing sign before) x font)) each,
+  )
 
   -- whatever the items are, all that they put is high
   area_high_all : (items : List Meaning) → All High (present_area sign items)
   area_high_all items =
       let area = (standing sign items).area in
-      All-filter (λ t. (is_glyph t || is_break t) && (t.at.area == area)) High (spots sign items) (push_ind (IsHigh sign) first_high next_high items).each
+      All-filter (λ t. (is_glyph t || is_break t) && (t.at.area == area)) High (spots sign items) (push_ind AreHigh first_high next_high items).1
 
   -- the placing items of the present area are put in fonts of at least one row
   pub area_high : (items : List Meaning) → All (λ (s : Spot). 1 ≤ s.at.font.height) (present_area sign items)

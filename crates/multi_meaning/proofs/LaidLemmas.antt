@@ -1,5 +1,5 @@
 -- A filled group at one more placing item, and the line that is open at its end.
-use Rattle.std.proofs.Common.{◌≡◌, ◌⊎◌, inl, inr, ℕ, true, false, List, [], ◌∷◌, ◌++◌, length, Option, Some, zero, suc, refl, sym, ap, subst, ◌∙◌, arith, append_assoc, append-nil}
+use Rattle.std.proofs.Common.{◌≡◌, ◌⊎◌, inl, inr, ℕ, true, false, List, [], ◌∷◌, ◌++◌, length, Option, Some, suc, refl, sym, ap, subst, ◌∙◌, arith, append_assoc, append-nil}
 use Rattle.std.specs.List.{filter, flat_map, after_last, All, AllPass}
 use Rattle.std.proofs.lemmas.List.{length_push}
 use Rattle.std.proofs.lemmas.List.Concat.{flat_map-append}
@@ -9,13 +9,13 @@ use Rattle.multi_meaning.specs.Address.{Spot, is_glyph, is_break}
 use Rattle.multi_meaning.specs.Fit.{line_fits}
 use Rattle.multi_meaning.specs.kept.Present.{IsPlacing}
 use Rattle.multi_meaning.proofs.AreaLemmas.{filter_none}
-use Rattle.multi_meaning.proofs.WordLemmas.{All-around, cases_Option}
+use Rattle.multi_meaning.proofs.WordLemmas.{All-around}
 use Rattle.multi_meaning.proofs.CutLemmas.{Cut, cut, cut_from, cut_more, longer_part, part, cut_push, cut_behind_is, cut_behind_push}
 use Rattle.multi_meaning.proofs.BehindLemmas.{after_last_is}
 use Rattle.multi_meaning.proofs.HeightLemmas.{filter_all, lines_ind, open_glyphs}
 use Rattle.multi_meaning.proofs.GroupLemmas.{glyph_put, break_put}
-use Rattle.multi_meaning.specs.Filling.{dropped, soft_break, fill, filled_line, filled}
-use Rattle.multi_meaning.proofs.FillLemmas.{Filled, parts, parts_more, fill_is, fill_push, broken_parts, relaid}
+use Rattle.multi_meaning.specs.Filling.{dropped, fill, filled_line, filled}
+use Rattle.multi_meaning.proofs.FillLemmas.{Filled, parts, parts_more, fill_is, fill_push, relaid, fill_ind}
 
 -- CHARACTERS
 
@@ -93,20 +93,13 @@ module _ (width : ℕ) where
   one_ends xs b is = inr (xs, b, is, refl)
 
   closed_ends : (n : ℕ) (cs : List Spot) → Ends (parts width n cs).closed
-  closed_ends zero cs = inl refl
-  closed_ends (suc n) cs = elim (cases_Option (soft_break width cs)) [
-    | inl none ↦ rw none (inl refl)
-    | inr (c, some) ↦ rw some (subst Ends (append_assoc c.before (dropped c.item ∷ []) (parts width n c.behind).closed)
-        (ends_behind (c.before ++ dropped c.item ∷ []) (parts width n c.behind).closed (one_ends c.before (dropped c.item) refl) (closed_ends n c.behind)))
-  ]
+  closed_ends = fill_ind width (λ cs f. Ends f.closed) (λ cs. inl refl) (λ cs c f is ends.
+      subst Ends (append_assoc c.before (dropped c.item ∷ []) f.closed) (ends_behind (c.before ++ dropped c.item ∷ []) f.closed (one_ends c.before (dropped c.item) refl) ends))
 
   -- the open line is characters
   parts_glyphs : (n : ℕ) (cs : List Spot) → AllPass is_glyph cs → AllPass is_glyph (parts width n cs).open'
-  parts_glyphs zero cs h = h
-  parts_glyphs (suc n) cs h = elim (cases_Option (soft_break width cs)) [
-    | inl none ↦ rw none h
-    | inr (c, some) ↦ rw some (parts_glyphs n c.behind (All-around (λ x. is_glyph x ≡ true) c.before c.item c.behind (subst (AllPass is_glyph) (broken_parts width cs c some) h)).2)
-  ]
+  parts_glyphs = fill_ind width (λ cs f. AllPass is_glyph cs → AllPass is_glyph f.open') (λ cs h. h)
+      (λ cs c f is ih h. ih (All-around (λ x. is_glyph x ≡ true) c.before c.item c.behind (subst (AllPass is_glyph) is h)).2)
 
   pub open_line_glyphs : (g : List Spot) → All IsPlacing g → AllPass is_glyph (open_line g)
   open_line_glyphs g placing = parts_glyphs (length (cut is_break g).open') (cut is_break g).open' (open_glyphs g placing)

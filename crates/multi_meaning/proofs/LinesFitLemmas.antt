@@ -36,8 +36,7 @@ line_high line some high = elim (cases_Bool (list_any is_glyph line)) [
 ]
 
 part_high : (line : List Spot) → All High line → All IsHigh (part is_break line)
-part_high [] high = All-nil IsHigh
-part_high (s ∷ line) high = All-cons IsHigh (s ∷ line) [] (line_high (s ∷ line) (omega arith) high) (All-nil IsHigh)
+part_high v0 high = grind (arith, All-nil, All-cons, line_high)
 
 -- and so has each line of a group
 lines_high : (g : List Spot) → All High g → All IsHigh (lines_of g)

@@ -1,9 +1,11 @@
 -- What a token's item means, from what its tag was read as.
+use Rattle.std.proofs.lemmas.List.{append-nil}
+use Rattle.std.proofs.lemmas.List.{append_assoc}
+use Rattle.std.proofs.lemmas.Bool.Decides.{nat_tests}
 use native.Mathlib.Omega.{arith}
-use Rattle.std.proofs.Common.{◌≡◌, ℕ, List, Result, refl, ap, ◌∙◌}
+use Rattle.std.proofs.Common.{◌≡◌, ℕ, List, Result}
 use Rattle.multi_token.specs.declared.token.Token.{Token}
 use Rattle.multi_token.specs.declared.token.Kind.TheVariants as kinds
-use Rattle.multi_token.specs.Spelling as items
 use Rattle.multi_token.specs.Tokens.{body_of, item_of}
 use Rattle.multi_tag.specs.declared.tag.Tag.{Tag}
 use Rattle.multi_tag.specs.declared.tag.TagFault.{TagFault}
@@ -16,6 +18,4 @@ does_tag said tag e = grind arith
 
 -- the item of a tag means what its body is read as
 pub meaning-tag : (octets : List ℕ) (token : Token) (result : Result Tag TagFault) → token.kind ≡ kinds.Tag → tag_of (body_of octets token) ≡ result → meaning (item_of octets token) ≡ meaning_of_tag result
-meaning-tag octets token result kind is =
-    let item : item_of octets token ≡ items.Tag (body_of octets token) = rw kind refl in
-    ap meaning item ∙ ap meaning_of_tag is
+meaning-tag octets token result kind is = grind (arith, nat_tests, append_assoc, append-nil)

@@ -1,6 +1,6 @@
 -- The present area behind the items of an accepted string fits the rectangle in force, and has no more lines than the sign
 -- has rows.
-use Rattle.std.proofs.Common.{◌≡◌, inl, inr, ℕ, ◌+◌, ◌≤◌, Bool, true, false, cond, ◌&&◌, ◌||◌, length, List, [], ◌∷◌, ◌++◌, Option, Some, None, refl, sym, ap, ◌∙◌, arith, IsSome, option_map}
+use Rattle.std.proofs.Common.{◌≡◌, inl, inr, ℕ, ◌+◌, ◌≤◌, true, false, cond, ◌&&◌, ◌||◌, length, List, [], ◌∷◌, ◌++◌, Option, Some, None, refl, sym, ap, ◌∙◌, arith, IsSome, option_map}
 use Rattle.std.proofs.lemmas.Bool.{le-leb, not-false, or_parts}
 use Rattle.multi_tag.specs.declared.tag.Tag.TheVariants.{NewPage, NewLine, Back, Rect}
 use Rattle.sign_font.specs.declared.parts.LineFill.{LineFill}
@@ -13,7 +13,7 @@ use Rattle.multi_meaning.specs.Attributes.{given_rectangle, whole_sign}
 use Rattle.multi_meaning.specs.Address.{standing, Put, Glyph, Break, Spot, put_at, spots, is_glyph, is_break, in_group, lines_of}
 use Rattle.multi_meaning.specs.Fit.{area_fits}
 use Rattle.multi_meaning.specs.Laid.{too_big}
-use Rattle.multi_meaning.specs.Offence.{offence}
+use Rattle.multi_meaning.specs.Offence.{offence, conflicts}
 use Rattle.multi_meaning.specs.kept.Present.{present_area}
 use Rattle.multi_meaning.specs.kept.Fine.{IsFine}
 use Rattle.multi_meaning.specs.Words.{some_after}
@@ -23,12 +23,9 @@ use Rattle.multi_meaning.proofs.OffenceLemmas.{offence-undefined, offence-charac
 use Rattle.multi_meaning.proofs.LinesFitLemmas.{lines_within}
 use Rattle.multi_meaning.proofs.RectangleLemmas.{rectangle_stays}
 use Rattle.multi_meaning.proofs.StateLemmas.{present_area-placing, present_area-nothing, present_area-cover, present_area-new}
+use Rattle.std.proofs.lemmas.Option.{none-some}
 
 -- ---- the present area
-
--- a placing item that doesn't offend isn't too big
-not_big : (a b : Bool) → cond {A = Option ℕ} a (Some 11) (cond b (Some 5) None) ≡ None → b ≡ false
-not_big v0 b e = grind arith
 
 -- what holds of an empty area in each rectangle, and stays where a placing item joins that isn't too big, holds of the present
 -- area of an accepted string
@@ -43,33 +40,26 @@ module _ (setting : LineFill) (sign : SignData) (P : Rectangle → List Spot →
   unfolding standing spots
   first_holds = first (whole_sign sign)
 
-  module _ (before : List Meaning) (x : Meaning) where
-    -- an area that begins is empty
-    holds_new : begins_area x ≡ true → Holds (before ++ x ∷ [])
-    holds_new begins = grind (arith, present_area-new)
+  -- the area behind an item, by what it is and by the rectangle before the item
+  holds_by : (before : List Meaning) (x : Meaning) (area : List Spot) → given_rectangle sign x ≡ None → present_area sign (before ++ x ∷ []) ≡ area → P (standing sign before).rectangle area → Holds (before ++ x ∷ [])
+  holds_by before x area gives is holds = grind (arith, rectangle_stays)
 
-    -- the area behind the item, by what it is and by the rectangle before the item
-    holds_by : (area : List Spot) → given_rectangle sign x ≡ None → present_area sign (before ++ x ∷ []) ≡ area → P (standing sign before).rectangle area → Holds (before ++ x ∷ [])
-    holds_by area gives is holds = grind (arith, rectangle_stays)
-
-    -- a placing item joins it
-    holds_placing : (put : Put) → let spot : Spot = record { at = standing sign before; put = put } in
-        given_rectangle sign x ≡ None → begins_area x ≡ false → put_at sign.defaults (standing sign before) x ≡ Some put → (is_glyph spot || is_break spot) ≡ true
-        → too_big setting (spots sign before) spot ≡ false → Holds before → Holds (before ++ x ∷ [])
-    holds_placing put gives stays puts placing small old = grind (arith, holds_by, present_area-placing)
-
-  holds_character : (before : List Meaning) (number : ℕ) → offence setting sign before (Shows number) ≡ None → Holds before → Holds (before ++ Shows number ∷ [])
-  holds_character before number none old = elim (cases_Option (cell_numbered (standing sign before).font number)) [
-    | inl undefined ↦ absurd (let wrong : ◌≡◌ {A = Option ℕ} (Some 7) None = sym (offence-undefined (too_big setting) sign before number undefined) ∙ none in cc)
-    | inr (cell, found) ↦ holds_placing before (Shows number) (Glyph cell) refl refl (ap (option_map Glyph) found) refl (not_big _ _ (sym (offence-character (too_big setting) sign before number cell found) ∙ none)) old
-  ]
+  -- a placing item joins it
+  holds_placing : (before : List Meaning) (x : Meaning) (put : Put) → let spot : Spot = record { at = standing sign before; put = put } in
+      given_rectangle sign x ≡ None → begins_area x ≡ false → put_at sign.defaults (standing sign before) x ≡ Some put → (is_glyph spot || is_break spot) ≡ true
+      → cond {A = Option ℕ} (conflicts (spots sign before) spot) (Some 11) (cond (too_big setting (spots sign before) spot) (Some 5) None) ≡ None → Holds before → Holds (before ++ x ∷ [])
+  holds_placing before x put gives stays puts placing fine old =
+      holds_by before x _ gives (present_area-placing sign before x put stays puts placing) (joins before put placing (grind (arith, fine)) old)
 
   -- it holds behind one more item that doesn't offend
   pub next_holds : (before : List Meaning) (x : Meaning) → offence setting sign before x ≡ None → Holds before → Holds (before ++ x ∷ [])
-  next_holds before (Shows number) none old = holds_character before number none old
-  next_holds before (Does (NewLine gap)) none old = holds_placing before (Does (NewLine gap)) (Break gap) refl refl refl refl (not_big _ _ (sym (offence-break (too_big setting) sign before gap) ∙ none)) old
-  next_holds before (Does NewPage) none old = holds_new before (Does NewPage) refl
-  next_holds before (Does (Rect x y w h)) none old = holds_new before (Does (Rect x y w h)) refl
+  next_holds before (Shows number) none old = elim (cases_Option (cell_numbered (standing sign before).font number)) [
+    | inl undefined ↦ absurd (none-some 7 (sym none ∙ offence-undefined (too_big setting) sign before number undefined))
+    | inr (cell, found) ↦ holds_placing before (Shows number) (Glyph cell) refl refl (ap (option_map Glyph) found) refl (sym (offence-character (too_big setting) sign before number cell found) ∙ none) old
+  ]
+  next_holds before (Does (NewLine gap)) none old = holds_placing before (Does (NewLine gap)) (Break gap) refl refl refl refl (sym (offence-break (too_big setting) sign before gap) ∙ none) old
+  next_holds before (Does NewPage) none old = grind (arith, present_area-new sign before (Does NewPage) refl, first)
+  next_holds before (Does (Rect x y w h)) none old = grind (arith, present_area-new sign before (Does (Rect x y w h)) refl, first)
   next_holds before (Does (Back colour)) none old = holds_by before (Does (Back colour)) (present_area sign before) refl (present_area-cover sign before (Does (Back colour)) _ refl refl refl) old
   next_holds before x none old = holds_by before x (present_area sign before) refl (present_area-nothing sign before x refl refl) old
 

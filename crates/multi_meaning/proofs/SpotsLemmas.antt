@@ -50,10 +50,6 @@ same_page_behind sign before x stays = grind (arith, standing_push)
 pub next_page_behind : (sign : SignData) (before : List Meaning) → (standing sign (before ++ Does NewPage ∷ [])).page ≡ (standing sign before).page + 1
 next_page_behind sign before = ap (λ (s : Standing). s.page) (standing_push sign before (Does NewPage))
 
--- a new page leaves the background in force
-pub same_back : (sign : SignData) (before : List Meaning) → (standing sign (before ++ Does NewPage ∷ [])).back ≡ (standing sign before).back
-same_back sign before = ap (λ (s : Standing). s.back) (standing_push sign before (Does NewPage))
-
 -- what f makes of each of some items has a property
 pub some_all : {X Y : Type 0} (P : X → Type 0) (Q : Y → Type 0) (f : List X → X → Option Y) (xs : List X) → All P xs → ((before : List X) (x : X) → P x → IfSome (f before x) Q) → All Q (some_after f xs)
 some_all P Q f [] h each = All-nil Q
@@ -88,10 +84,6 @@ pages_behind sign before behind =
     (λ more x _. spot_page (standing sign (before ++ more)) low (page_on sign before more) sign.defaults x)
 
 module _ (sign : SignData) (before : List Meaning) where
-  -- behind an item that begins an area stands the next area
-  area_next : (x : Meaning) → begins_area x ≡ true → (standing sign (before ++ x ∷ [])).area ≡ (standing sign before).area + 1
-  area_next x begins = ap (λ (s : Standing). s.area) (standing_push sign before x) ∙ ap (λ b. (standing sign before).area + cond b 1 0) begins
-
   -- an item that begins an area, and the items behind it, place nothing in the area that ends
   ends_next : (x : Meaning) (rest : List Meaning) → begins_area x ≡ true
       → in_area (standing sign before).area (spots sign (before ++ x ∷ rest)) ≡ in_area (standing sign before).area (spots sign before)
@@ -99,7 +91,7 @@ module _ (sign : SignData) (before : List Meaning) where
       let k = (standing sign before).area in
       let next = before ++ x ∷ [] in
       let later = push_ind (λ rest. in_area k (spots sign (next ++ rest)) ≡ in_area k (spots sign next)) (ap (λ l. in_area k (spots sign l)) (append-nil next)) (λ rest y ih.
-      ap (λ l. in_area k (spots sign l)) (sym (append_assoc next rest (y ∷ []))) ∙ other_area sign (next ++ rest) y k (λ e. omega (arith, e, area_on sign next rest, area_next x begins)) ∙ ih) in
+      ap (λ l. in_area k (spots sign l)) (sym (append_assoc next rest (y ∷ []))) ∙ other_area sign (next ++ rest) y k (λ e. grind (arith, e, area_on sign next rest, standing_push sign before x, begins)) ∙ ih) in
       grind (arith, later rest, spots_push sign before x, in_area-append, append_assoc before (x ∷ []) rest, append-nil)
 
   -- where an area ends, the rest of the string puts nothing into it

@@ -1,11 +1,9 @@
 -- The times of pages, and the page at a clock.
-use Rattle.std.proofs.Common.{◌≡◌, ℕ, zero, suc, ◌+◌, ◌-◌, ◌%◌, ◌<◌, ◌≤◌, Bool, true, false, ◌||◌, ◌==◌, cond, nat_le, length, take, get_or, List, [], ◌∷◌, ◌++◌, Option, Some, None, refl, sym, ap, ◌∙◌, arith, append_assoc, append-nil, length-append, take-take}
-use Rattle.std.specs.List.{find, position_or_len, range_with_len, slice_get, count_by}
-use Rattle.std.proofs.lemmas.Bool.{le-ltb, lt-leb, and_left, and_right}
+use Rattle.std.proofs.Common.{◌≡◌, ℕ, zero, suc, ◌+◌, ◌-◌, ◌%◌, ◌<◌, ◌≤◌, Bool, true, false, ◌||◌, ◌==◌, cond, length, take, get_or, List, [], ◌∷◌, ◌++◌, Option, Some, None, refl, ap, ◌∙◌, arith, append_assoc, append-nil, length-append, take-take}
+use Rattle.std.specs.List.{find, range_with_len, slice_get, count_by}
 use Rattle.std.proofs.lemmas.List.Sums.{sum_by-append, sum_by-cons, sum_by_push, sum_by_more, sum_by-take-le}
-use Rattle.std.proofs.lemmas.List.Folds.{find_at}
 use Rattle.std.proofs.lemmas.List.FromFn.{get_or-range_with_len, length-range_with_len}
-use Rattle.std.proofs.lemmas.Option.{get_or_from_slice_get, slice_get-get_or, slice_get_within}
+use Rattle.std.proofs.lemmas.Option.{slice_get-get_or}
 use Rattle.std.proofs.Math.Seq.{take-append_seam, get_or-append_seam}
 use Rattle.sign_font.specs.Sign.{SignData}
 use Rattle.multi_tag.specs.declared.tag.Tag.TheVariants.{NewPage}
@@ -17,6 +15,7 @@ use Rattle.multi_meaning.specs.Verdict.{pages_of}
 use Rattle.multi_meaning.specs.Words.{some_after}
 use Rattle.multi_meaning.proofs.WordLemmas.{some_after-append}
 use Rattle.std.proofs.lemmas.List.Recursion.{found_at}
+use Rattle.std.proofs.lemmas.Bool.Decides.{nat_tests}
 
 -- THE CYCLE
 
@@ -26,9 +25,7 @@ cycle_push before here = sum_by_push (λ (t : Times). t.on + t.off) before here
 
 -- each page ends within the cycle
 pub cycle_within : (before after : List Times) (here : Times) → cycle before + (here.on + here.off) ≤ cycle (before ++ here ∷ after)
-cycle_within before after here =
-    let both : Times → ℕ = λ t. t.on + t.off in
-    omega (arith, sum_by-append both before (here ∷ after), sum_by-cons both here after)
+cycle_within before after here = omega (arith, sum_by-append (λ (t : Times). t.on + t.off) before (here ∷ after), sum_by-cons (λ (t : Times). t.on + t.off) here after)
 
 -- THE PAGE AT A CLOCK
 
@@ -49,15 +46,11 @@ find_none p a (suc n) fails = rw (fails a (omega arith) (omega arith)) (find_non
 begins_later : (pages : List Times) (j k : ℕ) → j ≤ k → begin pages j ≤ begin pages k
 begins_later pages j k h = omega (arith, ap cycle (take-take j k pages h), sum_by-take-le (λ (t : Times). t.on + t.off) (take k pages) j)
 
--- a page isn't on behind its on time
-off_behind : (pages : List Times) (t k : ℕ) (here : Times) → slice_get pages k ≡ Some here → begin pages k + here.on ≤ t → is_on pages t k ≡ false
-off_behind pages t k here stands h = and_right (nat_le (begin pages k) t) _ (rw stands (le-ltb t (begin pages k + here.on) h))
-
 -- a page isn't on from the next page's begin on
 ended : (pages : List Times) (t k : ℕ) → k < length pages → begin pages (k + 1) ≤ t → is_on pages t k ≡ false
 ended pages t k within h =
     let none : Times = record { on = 0; off = 0 } in
-    off_behind pages t k (get_or pages k none) (slice_get-get_or pages k none within) (omega (arith, sum_by_more (λ (t : Times). t.on + t.off) pages k none within))
+    grind (arith, nat_tests, slice_get-get_or pages k none within, sum_by_more (λ (t : Times). t.on + t.off) pages k none within)
 
 -- one page, or a cycle of 0, always shows page 0
 pub shown_always : (pages : List Times) (clock : ℕ) → ((length pages == 1) || (cycle pages == 0)) ≡ true → shown_at pages clock ≡ Page 0 clock
@@ -81,9 +74,7 @@ module _ (pages before after : List Times) (here : Times) (is : pages ≡ before
   stands = slice_get-get_or pages (length before) here within ∙ ap (λ l. Some (get_or l (length before) here)) is ∙ ap (λ x. Some x) (get_or-append_seam before here after here)
 
   ends : begin pages (length before + 1) ≡ cycle before + (here.on + here.off)
-  ends =
-      let read : get_or pages (length before) here ≡ here = ap (λ l. get_or l (length before) here) is ∙ get_or-append_seam before here after here in
-      sum_by_more (λ (t : Times). t.on + t.off) pages (length before) here within ∙ ap (λ (x : Times). begin pages (length before) + (x.on + x.off)) read ∙ ap (λ b. b + (here.on + here.off)) begins
+  ends = grind (arith, sum_by_more (λ (t : Times). t.on + t.off) pages (length before) here within, is, get_or-append_seam before here after here, begins)
 
   -- no earlier page is on from its begin on
   none_before : (t j : ℕ) → cycle before ≤ t → j < length before → is_on pages t j ≡ false
@@ -99,7 +90,7 @@ module _ (pages before after : List Times) (here : Times) (is : pages ≡ before
   -- in its off time nothing is shown
   pub shown_off : (t : ℕ) → cycle before + here.on ≤ t → t < cycle before + here.on + here.off → shown_within pages t ≡ Off
   unfolding shown_within
-  shown_off t from until = grind (arith, stands, begins, none_before, and_left, lt-leb, begins_later, ends, find_none)
+  shown_off t from until = grind (arith, nat_tests, stands, begins, none_before, begins_later, ends, find_none)
 
 -- THE TIMES OF PAGES
 
@@ -135,10 +126,8 @@ times_count sign items = grind (arith, times_are_all, length-append, ended_count
 
 -- what is found in a range is below its end
 found_below : (p : ℕ → Bool) (a n k : ℕ) → find p (range_with_len a n) ≡ Some k → k < a + n
-found_below p a n k is =
-    let i = position_or_len p (range_with_len a n) in
-    let at : slice_get (range_with_len a n) i ≡ Some k = sym (find_at p (range_with_len a n)) ∙ is in
-    grind (arith, slice_get_within (range_with_len a n) i k at, length-range_with_len a n, get_or_from_slice_get (range_with_len a n) i k 0 at, get_or-range_with_len a n i 0)
+found_below p a zero k is = absurd cc
+found_below p a (suc n) k is = grind (arith, is, found_below p (a + 1) n k)
 
 within_below : (pages : List Times) (time page phase : ℕ) → shown_within pages time ≡ Page page phase → page < length pages
 unfolding shown_within

@@ -1,11 +1,12 @@
 -- Where lines aren't filled, each item is laid out as itself.
-use Rattle.std.proofs.Common.{◌≡◌, true, List, [], ◌∷◌, ◌++◌, length, Some, refl, sym, ap, ◌∙◌, append-nil, slice_index_or, option_map, arith}
+use Rattle.std.proofs.lemmas.List.{append_assoc}
+use Rattle.std.proofs.lemmas.Bool.Decides.{nat_tests}
+use Rattle.std.proofs.Common.{◌≡◌, true, List, [], ◌∷◌, ◌++◌, Some, refl, sym, ap, ◌∙◌, append-nil, option_map, arith}
 use Rattle.std.proofs.lemmas.List.{get_or_at}
-use Rattle.multi_tag.specs.Just.{page_number}
 use Rattle.multi_tag.specs.declared.tag.Tag.TheVariants.{NewLine}
 use Rattle.sign_font.specs.declared.parts.LineFill.TheVariants.{Off}
 use Rattle.sign_font.specs.Sign.{SignData, cell_numbered, CellData}
-use Rattle.multi_meaning.specs.Address.{Glyph, Spot, group_of, is_glyph, spots, standing}
+use Rattle.multi_meaning.specs.Address.{Glyph, Spot, is_glyph, spots, standing}
 use Rattle.multi_meaning.specs.Laid.{laid_spot}
 use Rattle.multi_meaning.specs.LaidItems.{laid_item, laid_items}
 use Rattle.multi_meaning.specs.Meaning.{Does, Meaning, Shows}
@@ -15,9 +16,7 @@ use Rattle.multi_meaning.proofs.WordLemmas.{cases_Option, each_after_push, front
 
 -- a character of the string stands in its group where it is laid
 unfilled_glyph : (all some more : List Spot) (x : Spot) → is_glyph x ≡ true → all ≡ some ++ x ∷ more → laid_spot Off all some x ≡ x
-unfilled_glyph all some more x glyph is =
-    rw glyph (ap (λ l. slice_index_or l (length (group_of x some)) x) (ap (group_of x) is ∙ members_with x.at.area (page_number x.at.page_just) some more x (own_member x glyph))
-    ∙ get_or_at (group_of x some) x (group_of x more) x (length (group_of x some)) refl)
+unfilled_glyph all some more x glyph is = grind (arith, nat_tests, append_assoc, append-nil, members_with, own_member, get_or_at)
 
 pub unfilled_item : (sign : SignData) (all before more : List Meaning) (x : Meaning) → all ≡ before ++ x ∷ more → laid_item Off sign all before x ≡ x
 unfilled_item sign all before more (Shows number) is =
