@@ -11,11 +11,6 @@ pub returns-in-Some-clause-sum : goal.returns-in-Some-clause-sum
 returns-in-Some-clause-sum c before s glyphs is space apart line split =
     split_word before s c.args.character.now glyphs is (space ∙ c.if-space.false) apart c.in-Some.parts c.add.new.self (sym c.in-Some.is ∙ split) c.add.ensures.sum
 
-pub returns-in-Some-clause-grows : goal.returns-in-Some-clause-grows
-returns-in-Some-clause-grows c k line below =
-    let parts = subst (IsSplitBelow k) c.in-Some.is below in
-    (line_below k c.in-Some.parts.before parts.0, c.add.ensures.grows k parts.1)
-
 pub returns-in-None-clause-sum : goal.returns-in-None-clause-sum
 returns-in-None-clause-sum c before s glyphs is space apart line split =
     c.in-None.is ∙ split_none before s (space ∙ c.if-space.false) (sym c.in-None.is ∙ split)

@@ -42,6 +42,3 @@ returns-else-fits-clause-judged c = λ sign items of own.
     (character_of state.attributes c.args.width) new.area refl refl wide refl added.sum c.fits.result
     (λ before s glyph sum on own w h without. c.fits.ensures ∙ fits before s glyph sum on own w h without) (fits_without sign items of.fine)
     (ap not c.if-not-put_character.false) c.if-fits.false
-
-pub returns-then-fits-clause-behind : goal.returns-then-fits-clause-behind
-returns-then-fits-clause-behind c = behind_added c.args.state.now c.put_character.new.self c.args.width (c.put_character.ensures.added c.if-not-put_character.false)

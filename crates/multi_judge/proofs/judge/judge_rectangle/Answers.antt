@@ -33,6 +33,3 @@ returns-clause-judged c = λ items st.
           (rw (across.3, across.4, down.3, high) (ap (λ (a : Attributes). let b : Attributes = record a { rectangle = rectangle sign c.args.x c.args.y c.args.w c.args.h } in b) st.attributes))
           c.new-state.ensures.sum c.new-state.ensures.below,
     )
-
-pub returns-clause-limited : goal.returns-clause-limited
-returns-clause-limited c = λ limited. limited_none _ c.new-state.ensures.sum

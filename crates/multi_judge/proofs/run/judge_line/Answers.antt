@@ -7,10 +7,6 @@ use Rattle.multi_judge.proofs.ReadLemmas.{ready_here}
 use Rattle.multi_judge.proofs.RunReadLemmas.{front_read}
 use Rattle.multi_judge.proofs.run.judge_line.Goals as goal
 
-pub go_along-requires-clause-small : goal.go_along-requires-clause-small
-go_along-requires-clause-small c =
-    (ready_here c.args.sign.now c.args.source.now.octets c.args.at c.args.state.now c.requires.behind.so_far c.requires.short, c.requires.short)
-
 pub returns-clause-at : goal.returns-clause-at
 returns-clause-at c =
     let sign = c.args.sign.now in

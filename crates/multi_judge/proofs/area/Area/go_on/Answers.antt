@@ -2,11 +2,6 @@ use Rattle.std.proofs.Common.{arith}
 use Rattle.multi_judge.proofs.AreaSumLemmas.{area_stays, area_turned, height_passed, middle_kept, top_kept}
 use Rattle.multi_judge.proofs.area.Area.go_on.Goals as goal
 
-pub returns-then-page_just-self-clause-sum : goal.returns-then-page_just-self-clause-sum
-returns-then-page_just-self-clause-sum c area placing e order =
-    rw (← c.number-page_just.ensures.number) (
-    area_stays area c.number-page_just.result c.args.self.now e c.if-page_just-self.true (omega (arith, order, c.number-page_just.ensures.number)))
-
 pub returns-in-2-clause-sum : goal.returns-in-2-clause-sum
 returns-in-2-clause-sum c area placing e order =
     rw (← c.number-page_just.ensures.number) (

@@ -29,12 +29,6 @@ put_bare : (old : Line) (character : Character) (b : Bool) (new : Line) → (b �
 put_bare old character true new puts left bare = λ none. absurd (false≢true (sym none ∙ (puts refl).behind.any))
 put_bare old character false new puts left bare = rw (left refl) bare
 
-pub returns-then-self-most-clause-bare : goal.returns-then-self-most-clause-bare
-returns-then-self-most-clause-bare c = put_bare c.args.self.now.line c.args.character.now c.put.result c.put.new.self c.put.ensures.put (λ off. (c.put.ensures.left off).0) c.requires.bare
-
-pub returns-in-None-clause-bare : goal.returns-in-None-clause-bare
-returns-in-None-clause-bare c = put_bare c.args.self.now.line c.args.character.now c.put.result c.put.new.self c.put.ensures.put (λ off. (c.put.ensures.left off).0) c.requires.bare
-
 pub returns-then-self-most-clause-sum : goal.returns-then-self-most-clause-sum
 returns-then-self-most-clause-sum c most group s placing is space fits apart e o =
     let w = c.args.width in

@@ -25,11 +25,6 @@ returns-clause-sum c line s glyphs is e none =
     (λ i. others.0 i || nat_lt (c.number.ensures.number i) 5)
     (c.max-self.ensures ∙ ap (λ n. max n c.args.character.now.font.height) others.1) (c.max-self-2.ensures ∙ ap (λ n. max n c.args.character.now.font.line_spacing) others.2) refl
 
-pub returns-clause-grows : goal.returns-clause-grows
-returns-clause-grows c k below =
-    let turned = c.go_on.ensures.grows k below in
-    record { left = omega (arith, turned.left); centre = omega (arith, turned.centre); right = omega (arith, turned.right); part = c.add.ensures.grows k turned.part; known = turned.known }
-
 parts_of_one : (parts : Bool) (just : ℕ) → just ≤ 5 → (just ≡ 5 → parts ≡ false) → parts || nat_lt just 5 ≡ nat_lt just 5
 parts_of_one true just known may = by_less (nat_lt just 5) refl
   where
@@ -37,13 +32,3 @@ parts_of_one true just known may = by_less (nat_lt just 5) refl
     by_less true is = sym is
     by_less false is = absurd (false≢true (sym (may (let least = ltb-false just 5 is in omega (arith, known, least)))))
 parts_of_one false just known may = refl
-
-pub returns-clause-behind : goal.returns-clause-behind
-returns-clause-behind c = λ may. record {
-  segment = c.go_on.ensures.present may.0;
-  parts = rw (c.go_on.ensures.others.0, c.number.ensures.number) (parts_of_one c.args.self.now.has_parts (line_number c.args.character.now.just) (line_number_known c.args.character.now.just).1 may.1);
-  any = refl;
-  height = omega (arith, c.max-self.ensures);
-  spacing = omega (arith, c.max-self-2.ensures);
-  last = c.add.ensures.last;
-}

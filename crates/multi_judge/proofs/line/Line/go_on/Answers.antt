@@ -2,11 +2,6 @@ use Rattle.std.proofs.Common.{arith}
 use Rattle.multi_judge.proofs.LineSumLemmas.{centre_kept, left_kept, line_stays, line_turned, right_kept, width_passed}
 use Rattle.multi_judge.proofs.line.Line.go_on.Goals as goal
 
-pub returns-then-just-self-clause-sum : goal.returns-then-just-self-clause-sum
-returns-then-just-self-clause-sum c line e order =
-    rw (← c.number-just.ensures.number) (
-    line_stays line c.number-just.result c.args.self.now e c.if-just-self.true (omega (arith, order, c.number-just.ensures.number)))
-
 pub returns-in-2-clause-sum : goal.returns-in-2-clause-sum
 returns-in-2-clause-sum c line e order =
     rw (← c.number-just.ensures.number) (
