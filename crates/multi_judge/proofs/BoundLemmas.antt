@@ -1,5 +1,5 @@
 -- Bounds on the sums that are kept: what is below one is below a larger one.
-use Rattle.std.proofs.Common.{ℕ, ◌≤◌, Option, Some, None, arith}
+use Rattle.std.proofs.Common.{ℕ, ◌+◌, ◌≤◌, Option, Some, None, arith}
 use Rattle.multi_judge.specs.declared.area.Area.{Area}
 use Rattle.multi_judge.specs.declared.area.Group.{Group}
 use Rattle.multi_judge.specs.declared.fill.Split.{Split}
@@ -22,6 +22,11 @@ line_more k m line h b = record {
 
 pub group_more : (k m : ℕ) (group : Group) → k ≤ m → IsGroupBelow k group → IsGroupBelow m group
 group_more k m group h b = record { ended = omega (arith, b.ended); closed = omega (arith, b.closed); line = line_more k m group.line h b.line }
+
+-- a group with another line, whose numbers may have grown
+pub lined_below : (k : ℕ) (group : Group) (line : Line) → IsGroupBelow k group → IsLineBelow (k + 1024) line
+    → IsGroupBelow (k + 1024) (record group { line = line })
+lined_below k group line b l = record { ended = omega (arith, b.ended); closed = omega (arith, b.closed); line = l }
 
 -- what is below a bound is below a larger one
 pub below_more : (k m : ℕ) (area : Area) → k ≤ m → IsBelow k area → IsBelow m area

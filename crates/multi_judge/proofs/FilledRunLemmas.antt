@@ -32,8 +32,8 @@ use Rattle.multi_judge.specs.Run.{IsBehindOne, IsRun, kept_height, lengthened, l
 use Rattle.multi_judge.specs.Sums.{IsBelow, IsCharacter, IsLineBelow, area_sum_in, group_sum, line_sum, segment_sum}
 use Rattle.multi_judge.proofs.AreaFillLemmas.{area_filled}
 use Rattle.multi_judge.proofs.AreaSumLemmas.{group_of_own}
-use Rattle.multi_judge.proofs.LimitLemmas.{area_told, fits_behind, open_told, told_behind}
-use Rattle.multi_judge.proofs.FillGroupLemmas.{present_glyphs, present_line, stands_ended, stands_line, stands_sum}
+use Rattle.multi_judge.proofs.LimitLemmas.{area_told, open_told}
+use Rattle.multi_judge.proofs.FillGroupLemmas.{Joins, present_glyphs, present_line, stands_there}
 use Rattle.multi_judge.proofs.FillSplitLemmas.{line_below, split_none, split_space, split_word}
 use Rattle.multi_judge.proofs.FilledJudgedLemmas.{filled_free}
 use Rattle.multi_judge.proofs.FilledKeptLemmas.{filled_put, laid_count}
@@ -170,19 +170,15 @@ module _ (kept : Pass) (run : IsFilledRun kept) (gap : ℕ) (runs : IsRun kept.s
       let w = here.rectangle.width in
       let area = kept.state.area in
       let own : area.group ≡ group_sum (filled (Some w) group) = group_of_own old area e (page_number here.page_just) (sym run.behind.group) ∙ ap group_sum on.before in
-      let glyphs = present_glyphs w group s (seen here width) placing' is fits' apart area.group own in
-      let line_is = present_line w group s (seen here width) placing' is fits' apart area.group own in
+      let j : Joins w group s (seen here width) area.group = record { placing = placing'; is = is; fits = fits'; apart = apart; sum = own } in
+      let glyphs = present_glyphs j in
       let one = run.behind.line in
-      let grown = line_lengthened (after_last is_break (filled (Some w) group)) s (seen here width) glyphs is line line_is one.segment one.parts one.any one.height one.spacing one.last gap runs.gap_is in
       let open' = after_last is_break (filled (Some w) group) in
-      let told = sym still_fits ∙ told_behind w open' s longer grown apart fits' kept.state.limits.width (runs.limited.width one.any) in
-      let turned : area ≡ area_sum_in (page_number here.page_just) old = e ∙ ap (λ n. area_sum_in n old) (sym (ap (λ (a : Area). a.present) e) ∙ run.behind.group) in (
-        area_filled old new group s (page_number here.page_just) w on area area' turned refl refl refl (stands_sum w group s (seen here width) placing' is fits' apart area.group own longer grown true told refl),
-        split_more here gap width runs.gap_is space kept.split run.split line (after_last is_break (filled (Some w) group)) s glyphs is spaces apart line_is (o run.behind.group)
-            ∙ ap split_sum (sym (stands_line w group s (seen here width) placing' is fits' apart area.group own longer grown true told refl)),
-        stands_ended w group s (seen here width) placing' is fits' apart area.group own longer grown true told refl,
-        fits_behind w open' s longer grown apart fits',
-      )
+      let grown = line_lengthened open' s (seen here width) glyphs is line (present_line j) one.segment one.parts one.any one.height one.spacing one.last gap runs.gap_is in
+      let turned : area ≡ area_sum_in (page_number here.page_just) old = e ∙ ap (λ n. area_sum_in n old) (sym (ap (λ (a : Area). a.present) e) ∙ run.behind.group) in
+      let (group_is, parts, ended, before) = stands_there j longer grown kept.state.limits.width (runs.limited.width one.any) still_fits (split_one here gap width space line kept.split)
+      (split_more here gap width runs.gap_is space kept.split run.split line open' s glyphs is spaces apart (present_line j) (o run.behind.group)) in
+      (area_filled old new group s (page_number here.page_just) w on area area' turned refl refl refl group_is, parts, ended, before)
 
 -- one more octet of a run
 module _ (sign : SignData) (octets : List ℕ) (at : ℕ) (kept : Pass) (r : ReadSoFar sign octets at (IsFilledFor sign kept)) (octet : ℕ) (short : length octets < 2 ^ 63) (here : slice_get octets at ≡ Some octet) (plain : IsPlain octet)

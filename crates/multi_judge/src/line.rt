@@ -174,6 +174,7 @@ impl Line {
         ensures apart { (line : List Spot) (s : Spot) → AllPass is_glyph line → self.old ≡ line_sum line
             → s.at.line_just ≡ character.now.just → not result ≡ list_any (clashes s) line }
         ensures put { result ≡ true → PutsCharacter self.old character.now self.new }
+        ensures grows { (k : ℕ) → IsLineBelow k self.old → IsLineBelow (k + 1024) self.new }
         ensures left { result ≡ false → (self.new ≡ self.old) × (most.new ≡ most.old) }
         ensures most { IsMost width self.old most.old → IsMost width self.new most.new }
     {

@@ -1,6 +1,5 @@
-use Rattle.std.proofs.Common.{sym, ◌∙◌, subst}
-use Rattle.multi_judge.specs.FillSums.{IsSplitBelow}
-use Rattle.multi_judge.proofs.FillSplitLemmas.{line_below, split_none, split_space, split_word}
+use Rattle.std.proofs.Common.{sym, ◌∙◌}
+use Rattle.multi_judge.proofs.FillSplitLemmas.{split_none, split_space, split_word}
 use Rattle.multi_judge.proofs.fill.grow.Goals as goal
 
 pub returns-then-space-clause-sum : goal.returns-then-space-clause-sum

@@ -4,7 +4,7 @@ use Rattle.multi_meaning.specs.Meaning.{Shows}
 use Rattle.multi_judge.specs.Adding.{character_of}
 use Rattle.multi_judge.proofs.BeforeLemmas.{fits_without}
 use Rattle.multi_judge.proofs.JudgedLemmas.{state-limits}
-use Rattle.multi_judge.proofs.LimitLemmas.{added_fits, behind_added}
+use Rattle.multi_judge.proofs.LimitLemmas.{added_fits}
 use Rattle.multi_judge.proofs.PlacingLemmas.{character-exit-conflict, character-exit-too_big, character-exit-fits}
 use Rattle.multi_judge.proofs.RunReadLemmas.{cell_of_width}
 use Rattle.multi_judge.proofs.judge.judge_cell.Goals as goal

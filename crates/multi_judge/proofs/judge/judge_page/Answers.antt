@@ -2,7 +2,6 @@ use Rattle.std.proofs.Common.{ℕ, ◌+◌, ◌<◌, ◌≤◌, Option, cond, So
 use Rattle.std.proofs.lemmas.Bool.{lt-ltb, le-ltb}
 use Rattle.sign_font.specs.Sign.{SignData}
 use Rattle.multi_judge.proofs.JudgedLemmas.{judged-page, state-page}
-use Rattle.multi_judge.proofs.LimitLemmas.{limited_none}
 use Rattle.multi_judge.proofs.judge.judge_page.Goals as goal
 
 pub returns-then-state-max_pages-clause-judged : goal.returns-then-state-max_pages-clause-judged

@@ -4,7 +4,6 @@ use Rattle.multi_meaning.specs.Attributes.{rectangle}
 use Rattle.multi_judge.specs.declared.attributes.Attributes.{Attributes}
 use Rattle.multi_judge.proofs.JudgedLemmas.{judged-rectangle, state-rectangle}
 use Rattle.multi_judge.proofs.TagLemmas.{outside_across, outside_down, inside}
-use Rattle.multi_judge.proofs.LimitLemmas.{limited_none}
 use Rattle.multi_judge.proofs.judge.judge_rectangle.Goals as goal
 
 pub returns-in_default-clause-judged : goal.returns-in_default-clause-judged

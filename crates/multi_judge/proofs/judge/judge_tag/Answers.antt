@@ -1,8 +1,4 @@
-use Rattle.std.proofs.Common.{◌≡◌, ap, sym, ◌∙◌, arith}
-use Rattle.multi_token.proofs.StepLemmas.{charged-zero}
-use Rattle.multi_meaning.specs.declared.attributes.Rectangle.{Rectangle}
 use Rattle.multi_meaning.specs.Address.{standing}
-use Rattle.multi_judge.specs.State.{group_room, segment_room}
 use Rattle.multi_judge.proofs.TagLemmas.{judged-simple, simple_of}
 use Rattle.multi_judge.proofs.judge.judge_tag.Goals as goal
 

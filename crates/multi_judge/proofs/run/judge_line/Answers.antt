@@ -3,7 +3,6 @@ use Rattle.multi_token.specs.Counted.{Counted, charged}
 use Rattle.multi_judge.specs.declared.state.State.{State}
 use Rattle.multi_judge.specs.Judging.{ReadSoFar}
 use Rattle.multi_judge.specs.State.{IsUnfilledOf}
-use Rattle.multi_judge.proofs.ReadLemmas.{ready_here}
 use Rattle.multi_judge.proofs.RunReadLemmas.{front_read}
 use Rattle.multi_judge.proofs.run.judge_line.Goals as goal
 

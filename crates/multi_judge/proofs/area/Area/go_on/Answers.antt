@@ -1,5 +1,5 @@
 use Rattle.std.proofs.Common.{arith}
-use Rattle.multi_judge.proofs.AreaSumLemmas.{area_stays, area_turned, height_passed, middle_kept, top_kept}
+use Rattle.multi_judge.proofs.AreaSumLemmas.{area_turned, height_passed, middle_kept, top_kept}
 use Rattle.multi_judge.proofs.area.Area.go_on.Goals as goal
 
 pub returns-in-2-clause-sum : goal.returns-in-2-clause-sum

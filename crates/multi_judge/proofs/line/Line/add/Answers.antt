@@ -2,7 +2,6 @@ use Rattle.std.proofs.Common.{◌≡◌, ℕ, ◌≤◌, Bool, true, false, ◌|
 use Rattle.std.specs.Prelude.{nat_lt}
 use Rattle.std.proofs.lemmas.Bool.{false≢true, ltb-false}
 use Rattle.multi_tag.specs.Just.{line_number}
-use Rattle.multi_tag.proofs.JustLemmas.{line_number_known}
 use Rattle.multi_judge.specs.declared.line.Line.{Line}
 use Rattle.multi_judge.specs.Sums.{line_sum}
 use Rattle.multi_judge.proofs.LineSumLemmas.{in_order, line_with, no_character}

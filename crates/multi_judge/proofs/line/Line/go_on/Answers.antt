@@ -1,5 +1,5 @@
 use Rattle.std.proofs.Common.{arith}
-use Rattle.multi_judge.proofs.LineSumLemmas.{centre_kept, left_kept, line_stays, line_turned, right_kept, width_passed}
+use Rattle.multi_judge.proofs.LineSumLemmas.{centre_kept, left_kept, line_turned, right_kept, width_passed}
 use Rattle.multi_judge.proofs.line.Line.go_on.Goals as goal
 
 pub returns-in-2-clause-sum : goal.returns-in-2-clause-sum

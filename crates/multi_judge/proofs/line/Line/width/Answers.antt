@@ -1,7 +1,7 @@
 use Rattle.std.proofs.Common.{ap, sym, arith}
 use Rattle.multi_meaning.specs.Line.{width_of}
 use Rattle.multi_judge.specs.declared.line.Line.{Line}
-use Rattle.multi_judge.proofs.LineSumLemmas.{none_of_later, width_other_of, width_present}
+use Rattle.multi_judge.proofs.LineSumLemmas.{none_of_later, width_other_of}
 use Rattle.multi_judge.proofs.line.Line.width.Goals as goal
 
 pub returns-in-2-clause-sum : goal.returns-in-2-clause-sum

@@ -2,7 +2,7 @@ use Rattle.std.proofs.Common.{subst, sym}
 use Rattle.multi_meaning.specs.Meaning.{Shows}
 use Rattle.multi_judge.specs.declared.pass.Pass.{Pass}
 use Rattle.multi_judge.specs.PassState.{JudgesCell}
-use Rattle.multi_judge.proofs.PassLemmas.{is_false, is_true, judged_unfilled}
+use Rattle.multi_judge.proofs.PassLemmas.{is_false, judged_unfilled}
 use Rattle.multi_judge.proofs.pass.Pass.judge_cell.Goals as goal
 
 pub returns-else-this-ne0-clause-judged : goal.returns-else-this-ne0-clause-judged

@@ -1,4 +1,3 @@
-use Rattle.std.proofs.Common.{sym}
 use Rattle.sign_font.specs.Sign.{cell_in}
 use Rattle.multi_judge.proofs.PassLemmas.{pass_undefined}
 use Rattle.multi_judge.proofs.RunReadLemmas.{no_cell}

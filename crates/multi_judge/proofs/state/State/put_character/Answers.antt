@@ -9,6 +9,7 @@ use Rattle.multi_tag.proofs.JustLemmas.{page_number_known}
 use Rattle.multi_judge.specs.declared.area.Area.{Area}
 use Rattle.multi_judge.specs.declared.line.Character.{Character}
 use Rattle.multi_judge.specs.Adding.{PutsCharacter, character_of}
+use Rattle.multi_judge.proofs.BoundLemmas.{lined_below}
 use Rattle.multi_judge.proofs.AreaSumLemmas.{area_with, conflicts_character}
 use Rattle.multi_judge.proofs.GroupSumLemmas.{group_character, present_glyphs}
 use Rattle.multi_judge.proofs.state.State.put_character.Goals as goal
@@ -71,7 +72,7 @@ returns-clause-added c = λ is.
           record {
             top = top;
             middle = middle;
-            group = record { ended = omega (arith, group.ended); closed = omega (arith, group.closed); line = put.grows k group.line };
+            group = lined_below k c.reach.new.self.group c.put.new.self group (c.put.ensures.grows k group.line);
             known = omega (arith, goes.present, (page_number_known state.attributes.page_just).1);
             some = λ any. omega (arith, goes.present, (page_number_known state.attributes.page_just).0);
             bare = λ none. absurd (false≢true (sym none ∙ put.behind.any));
