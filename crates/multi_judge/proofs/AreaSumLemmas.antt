@@ -6,7 +6,7 @@ use Rattle.std.specs.Prelude.{nat_lt}
 use Rattle.std.specs.List.{list_any, after_last, All}
 use Rattle.std.proofs.Math.Bool.{or-false}
 use Rattle.std.proofs.lemmas.Bool.{cases_eq, cases_lt, eq-eqb, false≢true, le-ltb, lt-ltb, ne_eqb}
-use Rattle.std.proofs.lemmas.List.Elements.{All-push, All-weaker}
+use Rattle.std.proofs.lemmas.List.Elements.{All-weaker}
 use Rattle.sign_font.specs.declared.parts.LineFill.TheVariants.{Off}
 use Rattle.multi_meaning.specs.Address.{Spot, is_glyph, is_break, area_of, in_group, line_before, lines_of}
 use Rattle.multi_meaning.specs.Fit.{line_fits, area_fits}
@@ -17,7 +17,7 @@ use Rattle.multi_meaning.specs.kept.Present.{IsPlacing}
 use Rattle.multi_meaning.proofs.WordLemmas.{largest_most, largest_push}
 use Rattle.multi_meaning.proofs.AreaLemmas.{filter_none}
 use Rattle.multi_meaning.proofs.CheckLemmas.{group_goes_back}
-use Rattle.multi_meaning.proofs.GroupLemmas.{break_put, own_group, placing_group, area_placing, in_group_other}
+use Rattle.multi_meaning.proofs.GroupLemmas.{break_put, own_group, placing_group, in_group_other}
 use Rattle.multi_judge.proofs.LineSumLemmas.{cond_zero}
 use Rattle.multi_judge.specs.declared.area.Area.{Area}
 use Rattle.multi_judge.specs.declared.area.Group.{Group}
@@ -226,9 +226,3 @@ fits_break before s height area b h a =
     a ∙ ap (λ n. area_fits n (area_of s before ++ s ∷ [])) (sym h)
     ∙ no_line (area_fits s.at.rectangle.height (area_of s before ++ s ∷ []))
     ∙ ap (λ b. not ((b && not (line_fits s.at.rectangle.width more)) || not (area_fits s.at.rectangle.height (area_of s before ++ s ∷ [])))) (sym (break_put s.at s.put b))
-
-pub placing_character : (before : List Spot) (s : Spot) → is_glyph s ≡ true → All IsPlacing (area_of s before ++ s ∷ [])
-placing_character before s g = All-push IsPlacing (area_of s before) s (area_placing before s) (inl g)
-
-pub placing_break : (before : List Spot) (s : Spot) → is_break s ≡ true → All IsPlacing (area_of s before ++ s ∷ [])
-placing_break before s b = All-push IsPlacing (area_of s before) s (area_placing before s) (inr b)

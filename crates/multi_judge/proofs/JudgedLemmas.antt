@@ -1,5 +1,5 @@
 -- The state of the items read so far, at one more item.
-use Rattle.std.proofs.Common.{◌≡◌, ℕ, ◌+◌, ◌*◌, ◌^◌, ◌≤◌, Bool, true, false, cond, inl, inr, List, [], ◌∷◌, ◌++◌, length, Option, Some, None, refl, sym, ap, ◌∙◌, subst, arith, append-nil}
+use Rattle.std.proofs.Common.{◌≡◌, ℕ, ◌+◌, ◌*◌, ◌^◌, ◌≤◌, true, false, cond, inl, inr, List, [], ◌∷◌, ◌++◌, length, Option, Some, None, refl, sym, ap, ◌∙◌, subst, arith, append-nil}
 use Rattle.std.specs.Prelude.{nat_lt, ◌==◌}
 use Rattle.std.specs.List.{count_by, cons_option, find}
 use Rattle.std.specs.Option.{option_map, option_and_then, unwrap_or}
@@ -7,23 +7,24 @@ use Rattle.std.proofs.lemmas.Bool.{cases_Bool, eqb-true}
 use Rattle.std.proofs.lemmas.Option.{same_Some}
 use Rattle.std.proofs.lemmas.List.{length-append}
 use Rattle.std.proofs.lemmas.List.Sums.{sum_by_push, sum_by-append}
-use Rattle.multi_tag.specs.declared.tag.Tag.TheVariants.{NewPage, NewLine, Back, Rect}
+use Rattle.multi_tag.specs.declared.tag.Tag.TheVariants.{NewPage, Back, Rect}
 use Rattle.sign_font.specs.declared.parts.LineFill.TheVariants.{Off}
 use Rattle.multi_meaning.specs.Laid.{too_big}
 use Rattle.sign_font.specs.Cell.{SizedCell}
 use Rattle.sign_font.specs.Sign.{SignData, CellData, FontData, cell_in, cell_numbered, font_numbered, info_of, sized}
 use Rattle.sign_font.specs.declared.font.FontInfo.{FontInfo}
 use Rattle.multi_meaning.specs.Attributes.{default_font, default_line_just, default_page_just, whole_sign}
-use Rattle.multi_meaning.specs.Address.{Break, Cover, Glyph, Standing, put_at, spots, standing}
+use Rattle.multi_meaning.specs.Address.{Spot, Cover, Glyph, Standing, put_at, spots, standing}
 use Rattle.multi_meaning.specs.Meaning.{Meaning, Shows, Does, begins_area, is_new_page}
 use Rattle.multi_meaning.specs.Offence.{conflicts, never_big, offence, unsized_offence}
 use Rattle.multi_meaning.specs.kept.Present.{present_area, standing_behind}
 use Rattle.multi_meaning.specs.Times.{Times, cycle, ended_times, times_at}
 use Rattle.multi_meaning.specs.Verdict.{pages_of}
-use Rattle.multi_meaning.proofs.OffenceLemmas.{offence-undefined, offence-character, offence-break, offence-page, offence-rectangle}
+use Rattle.multi_meaning.proofs.OffenceLemmas.{offence-undefined, offence-character, offence-page, offence-rectangle}
 use Rattle.multi_meaning.proofs.StandingLemmas.{standing_push}
-use Rattle.multi_meaning.proofs.StateLemmas.{present_area-placing, present_area-nothing, present_area-cover, present_area-new}
+use Rattle.multi_meaning.proofs.StateLemmas.{present_area-nothing, present_area-cover, present_area-new}
 use Rattle.multi_meaning.proofs.WordLemmas.{some_after_push}
+use Rattle.multi_meaning.proofs.UnplacedLemmas as unplaced
 use Rattle.multi_judge.specs.declared.area.Area.{Area}
 use Rattle.multi_judge.specs.declared.attributes.Attributes.{Attributes}
 use Rattle.multi_judge.specs.declared.state.Limits.{Limits}
@@ -91,7 +92,7 @@ some_mapped font (Some cell) c e = (cell, refl, ap (λ (z : SizedCell). z.width)
 -- ---- one more item that begins no page
 
 -- the state behind an item that begins no page, from what it makes of the values in force and of the present area
-state-same_page : (sign : SignData) (items : List Meaning) (state new : State) (x : Meaning) → IsStateOf sign items state → is_new_page x ≡ false
+pub state-same_page : (sign : SignData) (items : List Meaning) (state new : State) (x : Meaning) → IsStateOf sign items state → is_new_page x ≡ false
     → new.pages ≡ state.pages → new.cycle ≡ state.cycle
     → new.attributes ≡ attributes_of (standing_behind sign (standing sign items) x)
     → new.area ≡ area_sum (present_area sign (items ++ x ∷ []))
@@ -134,26 +135,12 @@ state-limits sign items state new same st =
       short = st.short;
     })
 
--- ---- placing items
-
--- the two cases of a placing item
-case_11 : (a b : Bool) → a ≡ true → cond {A = Option ℕ} a (Some 11) (cond b (Some 5) None) ≡ Some 11
-case_11 a b p = ap (λ c. cond {A = Option ℕ} c (Some 11) (cond b (Some 5) None)) p
-
-case_5 : (a b : Bool) → a ≡ false → b ≡ true → cond {A = Option ℕ} a (Some 11) (cond b (Some 5) None) ≡ Some 5
-case_5 a b p q = ap (λ c. cond {A = Option ℕ} c (Some 11) (cond b (Some 5) None)) p ∙ ap (λ c. cond {A = Option ℕ} c (Some 5) None) q
-
-case_none : (a b : Bool) → a ≡ false → b ≡ false → cond {A = Option ℕ} a (Some 11) (cond b (Some 5) None) ≡ None
-case_none a b p q = ap (λ c. cond {A = Option ℕ} c (Some 11) (cond b (Some 5) None)) p ∙ ap (λ c. cond {A = Option ℕ} c (Some 5) None) q
-
 -- a character that doesn't offend doesn't conflict
 pub no_conflict : (sign : SignData) (items : List Meaning) (number : ℕ) (cell : CellData) → cell_numbered (standing sign items).font number ≡ Some cell → unsized_offence sign items (Shows number) ≡ None
     → conflicts (spots sign items) (record { at = standing sign items; put = Glyph cell }) ≡ false
-no_conflict sign items number cell found fine = none_first _ _ (sym (offence-character never_big sign items number cell found) ∙ fine)
-  where
-    none_first : (a : Bool) (o : Option ℕ) → cond {A = Option ℕ} a (Some 11) o ≡ None → a ≡ false
-    none_first true o e = cc
-    none_first false o e = refl
+no_conflict sign items number cell found fine =
+    let spot : Spot = record { at = standing sign items; put = Glyph cell } in
+    unplaced.no_conflict (conflicts (spots sign items) spot) false (sym (offence-character never_big sign items number cell found) ∙ fine)
 
 module _ (sign : SignData) (items : List Meaning) (state : State) (st : IsStateOf sign items state) where
   -- the font in force
@@ -179,45 +166,6 @@ module _ (sign : SignData) (items : List Meaning) (state : State) (st : IsStateO
   cell_found number c some =
       let font = (standing sign items).font in
       some_mapped font (cell_numbered font number) c (sym (cell_is number) ∙ some)
-
-  module _ (number : ℕ) (cell : CellData) (found : cell_numbered (standing sign items).font number ≡ Some cell) where
-    pub character-conflict : conflicts (spots sign items) (record { at = standing sign items; put = Glyph cell }) ≡ true → offence Off sign items (Shows number) ≡ Some 11
-    character-conflict p = offence-character (too_big Off) sign items number cell found ∙ case_11 _ _ p
-
-    pub character-too_big : conflicts (spots sign items) (record { at = standing sign items; put = Glyph cell }) ≡ false → too_big Off (spots sign items) (record { at = standing sign items; put = Glyph cell }) ≡ true
-        → offence Off sign items (Shows number) ≡ Some 5
-    character-too_big p q = offence-character (too_big Off) sign items number cell found ∙ case_5 _ _ p q
-
-    pub character-fits : conflicts (spots sign items) (record { at = standing sign items; put = Glyph cell }) ≡ false → too_big Off (spots sign items) (record { at = standing sign items; put = Glyph cell }) ≡ false
-        → offence Off sign items (Shows number) ≡ None
-    character-fits p q = offence-character (too_big Off) sign items number cell found ∙ case_none _ _ p q
-
-    pub state-character : (area : Area) → area ≡ area_sum (present_area sign items ++ record { at = standing sign items; put = Glyph cell } ∷ []) → IsBelow (1024 * length items + 1024) area
-        → IsStateOf sign (items ++ Shows number ∷ []) (record state { area = area })
-    state-character area sum below =
-        let puts : put_at sign.defaults (standing sign items) (Shows number) ≡ Some (Glyph cell) = ap (option_map Glyph) found in
-        state-same_page sign items state (record state { area = area }) (Shows number) st refl refl refl st.attributes
-        (sum ∙ ap area_sum (sym (present_area-placing sign items (Shows number) (Glyph cell) refl puts refl)))
-        st.font below
-
-  module _ (gap : Option ℕ) where
-    pub break-conflict : conflicts (spots sign items) (record { at = standing sign items; put = Break gap }) ≡ true → offence Off sign items (Does (NewLine gap)) ≡ Some 11
-    break-conflict p = offence-break (too_big Off) sign items gap ∙ case_11 _ _ p
-
-    pub break-too_big : conflicts (spots sign items) (record { at = standing sign items; put = Break gap }) ≡ false → too_big Off (spots sign items) (record { at = standing sign items; put = Break gap }) ≡ true
-        → offence Off sign items (Does (NewLine gap)) ≡ Some 5
-    break-too_big p q = offence-break (too_big Off) sign items gap ∙ case_5 _ _ p q
-
-    pub break-fits : conflicts (spots sign items) (record { at = standing sign items; put = Break gap }) ≡ false → too_big Off (spots sign items) (record { at = standing sign items; put = Break gap }) ≡ false
-        → offence Off sign items (Does (NewLine gap)) ≡ None
-    break-fits p q = offence-break (too_big Off) sign items gap ∙ case_none _ _ p q
-
-    pub state-break : (area : Area) → area ≡ area_sum (present_area sign items ++ record { at = standing sign items; put = Break gap } ∷ []) → IsBelow (1024 * length items + 1024) area
-        → IsStateOf sign (items ++ Does (NewLine gap) ∷ []) (record state { area = area })
-    state-break area sum below =
-        state-same_page sign items state (record state { area = area }) (Does (NewLine gap)) st refl refl refl st.attributes
-        (sum ∙ ap area_sum (sym (present_area-placing sign items (Does (NewLine gap)) (Break gap) refl refl refl)))
-        st.font below
 
   -- ---- new pages and rectangles
 

@@ -1,5 +1,5 @@
 -- One more octet of a run, in the string that is read.
-use Rattle.std.proofs.Common.{◌≡◌, ℕ, suc, ◌+◌, ◌*◌, ◌^◌, ◌<◌, ◌≤◌, List, [], ◌∷◌, ◌++◌, length, map, drop, take, slice_get, Option, Some, None, refl, sym, ◌∙◌, arith, true, false, ◌&&◌, ◌||◌, ◌==◌, ap}
+use Rattle.std.proofs.Common.{◌≡◌, ℕ, suc, ◌+◌, ◌^◌, ◌<◌, ◌≤◌, List, [], ◌∷◌, ◌++◌, length, map, drop, take, slice_get, Option, Some, None, refl, sym, ◌∙◌, arith, true, false, ◌&&◌, ◌||◌, ◌==◌, ap}
 use Rattle.std.specs.Prelude.{nat_le, nat_lt}
 use Rattle.std.specs.List.{All, after_last, list_any, sum_by}
 use Rattle.std.proofs.lemmas.Bool.{and_from, and_right, le-leb, le-ltb}
@@ -18,11 +18,10 @@ use Rattle.sign_font.specs.Cell.{SizedCell}
 use Rattle.sign_font.specs.Sign.{SignData, cell_in}
 use Rattle.sign_font.specs.Sound.{IsWithin}
 use Rattle.sign_font.specs.Text.{HasWidth, width_in}
-use Rattle.multi_meaning.specs.Address.{Spot, area_of, is_break, is_glyph, in_group, spots, standing}
-use Rattle.multi_meaning.specs.Fit.{FitsWithout}
+use Rattle.multi_meaning.specs.Address.{Spot, area_of, is_break, is_glyph, in_group}
 use Rattle.multi_meaning.specs.Meaning.{Meaning, Shows, meaning}
 use Rattle.multi_meaning.specs.Offence.{clashes, conflicts, offence}
-use Rattle.multi_meaning.specs.Words.{largest}
+use Rattle.multi_meaning.specs.Words.{some_after, largest}
 use Rattle.multi_judge.specs.declared.area.Area.{Area}
 use Rattle.multi_judge.specs.declared.line.Line.{Line}
 use Rattle.multi_judge.specs.declared.state.State.{State}
@@ -30,12 +29,10 @@ use Rattle.multi_judge.specs.Judging.{ReadSoFar}
 use Rattle.multi_judge.specs.Run.{IsRun, is_within, kept_height, lengthened, line_in_force}
 use Rattle.multi_judge.specs.State.{IsStateOf, IsUnfilledOf}
 use Rattle.multi_judge.specs.Sums.{area_sum, line_sum}
-use Rattle.multi_judge.specs.Adding.{AddsCharacter, character_of}
+use Rattle.multi_judge.specs.Adding.{AddsCharacter}
 use Rattle.multi_judge.proofs.AreaSumLemmas.{conflicts_kept, own_line}
-use Rattle.multi_judge.proofs.BeforeLemmas.{fits_without}
-use Rattle.multi_judge.proofs.LimitLemmas.{added_fits}
+use Rattle.multi_judge.proofs.LimitLemmas.{character_judged}
 use Rattle.multi_judge.proofs.LineSumLemmas.{line_clashes}
-use Rattle.multi_judge.proofs.PlacingLemmas.{character-exit-fits}
 use Rattle.multi_judge.proofs.ReadLemmas.{unfilled_more}
 use Rattle.multi_judge.proofs.RunLemmas.{area_beside, behind_stays, longer_below, not_full, run_stays}
 
@@ -52,7 +49,7 @@ no_cell (Some c) e = absurd (cc)
 
 module _ (sign : SignData) (items : List Meaning) (state : State) (st : IsStateOf sign items state) (gap : ℕ) (run : IsRun state gap)
     (number : ℕ) (cell : SizedCell) (found : cell_in sign state.attributes.font.number number ≡ Some cell) (small : cell.width ≤ 64)
-    (without : (s : Spot) → s.at ≡ standing sign items → FitsWithout (spots sign items) s) where
+    (none : some_after (offence Off sign) items ≡ []) where
   abbrev longer : State
   longer = lengthened ((line_in_force state).part.width + (gap + cell.width)) ((line_in_force state).part.count + 1) state
 
@@ -90,11 +87,11 @@ module _ (sign : SignData) (items : List Meaning) (state : State) (st : IsStateO
   pub run_goes_on : (line_in_force state).part.width + (gap + cell.width) ≤ state.limits.width
       → (offence Off sign items (Shows number) ≡ None) × IsStateOf sign (items ++ Shows number ∷ []) longer
   run_goes_on fits =
-      character-exit-fits sign items state st number cell found false agrees (character_of state.attributes cell.width) longer.area refl refl refl refl added.sum
-      (is_within longer) (added_fits state longer cell.width added run.limited) without refl
-      (and_from (nat_le ((line_in_force state).part.width + (gap + cell.width)) state.limits.width) (nat_le (kept_height state.area.group) state.limits.height)
-      (le-leb ((line_in_force state).part.width + (gap + cell.width)) state.limits.width fits) run.height)
-      (added.grows (1024 * length items) st.below)
+      let within : is_within longer ≡ true =
+      and_from (nat_le ((line_in_force state).part.width + (gap + cell.width)) state.limits.width) (nat_le (kept_height state.area.group) state.limits.height)
+      (le-leb ((line_in_force state).part.width + (gap + cell.width)) state.limits.width fits) run.height in
+      let (fine, behind) = character_judged sign items state st longer refl none run.limited number cell found cell.width refl added false agrees refl in
+      (fine ∙ rw within refl, behind)
 
 module _ (sign : SignData) (octets : List ℕ) (at : ℕ) (state : State) (r : ReadSoFar sign octets at (IsUnfilledOf sign state)) (octet : ℕ)
     (short : length octets < 2 ^ 63) (here : slice_get octets at ≡ Some octet) (plain : IsPlain octet) where
@@ -110,7 +107,7 @@ module _ (sign : SignData) (octets : List ℕ) (at : ℕ) (state : State) (r : R
     octet_goes_on narrow fits =
         let (cell, found, is) = cell_of_width (cell_in sign state.attributes.font.number octet) wide width_is in
         let st = r.is.state_is in
-        let behind = run_goes_on sign (map meaning r.items) state st gap run octet cell found (omega (arith, narrow, is)) (fits_without sign (map meaning r.items) r.is.fine) (omega (arith, fits, is)) in
+        let behind = run_goes_on sign (map meaning r.items) state st gap run octet cell found (omega (arith, narrow, is)) r.is.fine (omega (arith, fits, is)) in
         let longer = unfilled_more sign octets at state r token refl stands (lengthened ((line_in_force state).part.width + (gap + cell.width)) ((line_in_force state).part.count + 1) state) behind.0 behind.1
         (record { width = r.is.limited.width; height = r.is.limited.height }) in
         rw is longer
