@@ -123,49 +123,49 @@ module _ (sign : SignData) (octets : List ℕ) (at : ℕ) (state : State) (width
 pub behind_first : {x y : ℕ} {xs ys : List ℕ} → x ∷ xs ≡ y ∷ ys → xs ≡ ys
 behind_first e = cc
 
--- a text of a run: octets without brackets, each with a cell, all within the limit
-module _ (sign : SignData) (octets : List ℕ) (state : State) (short : length octets < 2 ^ 63) (gap : ℕ) (run : IsRun state gap) where
-  pub text_goes_on : (text rest widths : List ℕ) (at width count : ℕ) → ReadSoFar sign octets at (IsUnfilledOf sign (lengthened width count state)) → drop at octets ≡ text ++ rest → All IsPlain text
-      → map (width_in sign state.attributes.font.number) text ≡ map Some widths → All (IsWithin 1 64) widths → width + sum_by (λ w. gap + w) widths ≤ state.limits.width
-      → ReadSoFar sign octets (at + length text) (IsUnfilledOf sign (lengthened (width + sum_by (λ w. gap + w) widths) (count + length text) state))
-  text_goes_on [] rest [] at width count r e plain each within fits =
+-- what holds as far as a run has come, by the offset, its pixels and the number of its characters, holds behind a text of which each octet
+-- takes it one further
+module _ (octets : List ℕ) (gap limit : ℕ) (width_of : ℕ → Option ℕ) (IsOne : ℕ → Type 0) (P : ℕ → ℕ → ℕ → Type 0)
+    (step : (at pixels count octet wide : ℕ) → P at pixels count → slice_get octets at ≡ Some octet → IsOne octet → Some wide ≡ width_of octet → IsWithin 1 64 wide → pixels + (gap + wide) ≤ limit
+    → P (at + 1) (pixels + (gap + wide)) (count + 1)) where
+  text_taken : (text rest widths : List ℕ) (at pixels count : ℕ) → P at pixels count → drop at octets ≡ text ++ rest → All IsOne text → map width_of text ≡ map Some widths → All (IsWithin 1 64) widths
+      → pixels + sum_by (λ w. gap + w) widths ≤ limit → P (at + length text) (pixels + sum_by (λ w. gap + w) widths) (count + length text)
+  text_taken [] rest [] at pixels count p e ones each within fits =
       let to : at + 0 ≡ at = omega arith in
-      let wider : width + 0 ≡ width = omega arith in
+      let wider : pixels + 0 ≡ pixels = omega arith in
       let number : count + 0 ≡ count = omega arith in
-      rw (to, wider, number) r
-  text_goes_on [] rest (w ∷ widths) at width count r e plain each within fits = absurd (cc)
-  text_goes_on (octet ∷ text) rest [] at width count r e plain each within fits = absurd (cc)
-  text_goes_on (octet ∷ text) rest (w ∷ widths) at width count r e plain each within fits =
-      let first = All-head IsPlain octet text plain in
-      let others = All-tail IsPlain octet text plain in
-      let wide = All-head (IsWithin 1 64) w widths within in
-      let narrow = All-tail (IsWithin 1 64) w widths within in
+      rw (to, wider, number) p
+  text_taken [] rest (w ∷ widths) at pixels count p e ones each within fits = absurd (cc)
+  text_taken (octet ∷ text) rest [] at pixels count p e ones each within fits = absurd (cc)
+  text_taken (octet ∷ text) rest (w ∷ widths) at pixels count p e ones each within fits =
       let here : slice_get octets at ≡ Some octet = read_drop octets at octet (text ++ rest) e in
-      let is : Some w ≡ width_in sign state.attributes.font.number octet = cc in
-      let more : map (width_in sign state.attributes.font.number) text ≡ map Some widths = cc in
+      let is : Some w ≡ width_of octet = cc in
+      let more : map width_of text ≡ map Some widths = cc in
       let behind : drop (at + 1) octets ≡ text ++ rest = behind_first (sym (drop_read octets at octet here) ∙ e) in
       let total : sum_by (λ v. gap + v) (w ∷ widths) ≡ 0 + (gap + w) + sum_by (λ v. gap + v) widths = sum_by-append (λ v. gap + v) (w ∷ []) widths in
-      let one = more_goes_on sign octets at state width count r octet short here first gap run w is wide.1 (omega (arith, total)) in
-      let all = text_goes_on text rest widths (at + 1) (width + (gap + w)) (count + 1) one behind others more narrow (omega (arith, total)) in
+      let one = step at pixels count octet w p here (All-head IsOne octet text ones) is (All-head (IsWithin 1 64) w widths within) (omega (arith, total, fits)) in
+      let all = text_taken text rest widths (at + 1) (pixels + (gap + w)) (count + 1) one behind (All-tail IsOne octet text ones) more (All-tail (IsWithin 1 64) w widths within) (omega (arith, total, fits)) in
       let to : at + 1 + length text ≡ at + suc (length text) = omega arith in
-      let wider : width + (gap + w) + sum_by (λ v. gap + v) widths ≡ width + sum_by (λ v. gap + v) (w ∷ widths) = omega (arith, total) in
+      let wider : pixels + (gap + w) + sum_by (λ v. gap + v) widths ≡ pixels + sum_by (λ v. gap + v) (w ∷ widths) = omega (arith, total) in
       let number : count + 1 + length text ≡ count + suc (length text) = omega arith in
       rw (← to, ← wider, ← number) all
 
--- a text behind a character with the same attributes
-module _ (sign : SignData) (octets : List ℕ) (at : ℕ) (state : State) (r : ReadSoFar sign octets at (IsUnfilledOf sign state)) (short : length octets < 2 ^ 63) (gap : ℕ) (run : IsRun state gap) where
-  abbrev width_of : ℕ → Option ℕ
-  width_of = width_in sign state.attributes.font.number
-
-  text_read : (text rest : List ℕ) → drop at octets ≡ text ++ rest → All IsPlain text → (pixels : ℕ) → HasWidth width_of gap text pixels → (line_in_force state).part.width + pixels ≤ state.limits.width
-      → ReadSoFar sign octets (at + length text) (IsUnfilledOf sign (lengthened ((line_in_force state).part.width + pixels) ((line_in_force state).part.count + length text) state))
-  text_read text rest here plain pixels has narrow =
+  -- so it does behind the front of what stands there
+  pub front_taken : (at width count len pixels : ℕ) → P at width count → at + len ≤ length octets → All IsOne (take len (drop at octets)) → HasWidth width_of gap (take len (drop at octets)) pixels
+      → width + pixels ≤ limit → P (at + len) (width + pixels) (count + len)
+  front_taken at width count len pixels p within ones has narrow =
+      let text = take len (drop at octets) in
+      let size : length text ≡ len = length-take-le len (drop at octets) (rw (length-drop at octets) (omega (arith, within))) in
       let together = has.together in
-      rw together (text_goes_on sign octets state short gap run text rest has.widths at (line_in_force state).part.width (line_in_force state).part.count r here plain has.each has.within (omega (arith, narrow, together)))
+      let all = text_taken text (drop len (drop at octets)) has.widths at width count p (sym (take-append-drop len (drop at octets))) ones has.each has.within (omega (arith, narrow, together)) in
+      rw together (rw size at all)
 
-  -- the same for the front of what stands there
-  pub front_read : (len pixels : ℕ) → at + len ≤ length octets → All IsPlain (take len (drop at octets)) → HasWidth width_of gap (take len (drop at octets)) pixels → (line_in_force state).part.width + pixels ≤ state.limits.width
+-- the front of what stands behind a character with the same attributes
+module _ (sign : SignData) (octets : List ℕ) (at : ℕ) (state : State) (r : ReadSoFar sign octets at (IsUnfilledOf sign state)) (short : length octets < 2 ^ 63) (gap : ℕ) (run : IsRun state gap) where
+  pub front_read : (len pixels : ℕ) → at + len ≤ length octets → All IsPlain (take len (drop at octets)) → HasWidth (width_in sign state.attributes.font.number) gap (take len (drop at octets)) pixels
+      → (line_in_force state).part.width + pixels ≤ state.limits.width
       → ReadSoFar sign octets (at + len) (IsUnfilledOf sign (lengthened ((line_in_force state).part.width + pixels) ((line_in_force state).part.count + len) state))
   front_read len pixels within plain has narrow =
-      let size : length (take len (drop at octets)) ≡ len = length-take-le len (drop at octets) (rw (length-drop at octets) (omega (arith, within))) in
-      rw size at (text_read (take len (drop at octets)) (drop len (drop at octets)) (sym (take-append-drop len (drop at octets))) plain pixels has narrow)
+      front_taken octets gap state.limits.width (width_in sign state.attributes.font.number) IsPlain (λ at width count. ReadSoFar sign octets at (IsUnfilledOf sign (lengthened width count state)))
+      (λ at width count octet wide r here plain is within fits. more_goes_on sign octets at state width count r octet short here plain gap run wide is within.1 fits)
+      at (line_in_force state).part.width (line_in_force state).part.count len pixels r within plain has narrow
