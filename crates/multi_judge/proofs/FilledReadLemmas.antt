@@ -1,8 +1,7 @@
 -- The verdict from the items read so far, where lines are filled.
-use Rattle.std.proofs.Common.{◌≡◌, ℕ, ◌*◌, ◌^◌, ◌<◌, ◌≤◌, true, ◌&&◌, List, [], ◌∷◌, length, map, Some, None, refl, sym, ap, subst, ◌∙◌, arith, append-nil}
+use Rattle.std.proofs.Common.{◌≡◌, ℕ, ◌*◌, ◌^◌, ◌<◌, ◌≤◌, true, ◌&&◌, List, [], length, map, Some, None, sym, ap, subst, ◌∙◌, arith, append-nil}
 use Rattle.std.specs.List.{after_last}
 use Rattle.std.proofs.lemmas.Bool.{le-leb}
-use Rattle.std.proofs.lemmas.List.Elements.{All-head}
 use Rattle.multi_tag.specs.Just.{page_number}
 use Rattle.sign_font.specs.declared.parts.LineFill.TheVariants.{Words}
 use Rattle.sign_font.specs.Sign.{SignData}
@@ -17,9 +16,7 @@ use Rattle.multi_meaning.specs.Times.{cycle, ended_times}
 use Rattle.multi_meaning.specs.Verdict.{pages_of}
 use Rattle.multi_meaning.specs.Words.{largest}
 use Rattle.multi_meaning.proofs.FillLemmas.{nothing_fits}
-use Rattle.multi_tag.proofs.JustLemmas.{page_number_known}
 use Rattle.multi_meaning.proofs.LaidItemLemmas.{are_laid}
-use Rattle.multi_meaning.proofs.WordLemmas.{largest_most}
 use Rattle.multi_judge.specs.declared.area.Area.{Area}
 use Rattle.multi_judge.specs.declared.pass.Pass.{Pass}
 use Rattle.multi_judge.specs.declared.state.State.{State}
@@ -28,6 +25,7 @@ use Rattle.multi_judge.specs.FilledState.{IsFilledFor, IsFilledOf, IsFilledReady
 use Rattle.multi_judge.specs.Judging.{ReadSoFar}
 use Rattle.multi_judge.specs.State.{IsStateOf}
 use Rattle.multi_judge.specs.Sums.{area_sum}
+use Rattle.multi_judge.proofs.AreaSumLemmas.{empty_area}
 use Rattle.multi_judge.proofs.BoundLemmas.{split_more}
 use Rattle.multi_judge.proofs.FilledBehindLemmas.{present_laid}
 use Rattle.multi_judge.proofs.FilledKeptLemmas.{laid_count}
@@ -35,13 +33,6 @@ use Rattle.multi_judge.proofs.FilledStateLemmas.{pages_at, same_times}
 use Rattle.multi_judge.proofs.JudgedLemmas.{ready}
 use Rattle.multi_judge.proofs.LimitLemmas.{limited_none}
 use Rattle.multi_judge.proofs.ReadLemmas.{few_here}
-
--- an area in which no page justification is largest has no item
-empty_area : (area : List Spot) → largest (λ (t : Spot). page_number t.at.page_just) area ≡ 0 → area ≡ []
-empty_area [] e = refl
-empty_area (s ∷ area) e =
-    let f : Spot → ℕ = λ t. page_number t.at.page_just in
-    absurd (omega (arith, e, All-head (λ t. f t ≤ largest f (s ∷ area)) s area (largest_most f (s ∷ area)), (page_number_known s.at.page_just).0))
 
 no_height : (height : ℕ) → area_fits height [] ≡ true
 no_height height = ap (λ b. b && true) (le-leb 0 height (omega arith))
