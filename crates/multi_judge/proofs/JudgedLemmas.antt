@@ -7,15 +7,17 @@ use Rattle.std.proofs.lemmas.Bool.{cases_Bool, eqb-true}
 use Rattle.std.proofs.lemmas.Option.{same_Some}
 use Rattle.std.proofs.lemmas.List.{length-append}
 use Rattle.std.proofs.lemmas.List.Sums.{sum_by_push, sum_by-append}
-use Rattle.multi_tag.specs.declared.tag.Tag.TheVariants.{NewPage, Back, Rect}
+use Rattle.multi_tag.specs.declared.tag.Tag.{Tag}
+use Rattle.multi_tag.specs.declared.tag.Tag.TheVariants.{Back, NewLine, NewPage, Rect}
+use Rattle.multi_judge.specs.FilledState.{begins_line}
 use Rattle.sign_font.specs.declared.parts.LineFill.TheVariants.{Off}
 use Rattle.multi_meaning.specs.Laid.{too_big}
 use Rattle.sign_font.specs.Cell.{SizedCell}
 use Rattle.sign_font.specs.Sign.{SignData, CellData, FontData, cell_in, cell_numbered, font_numbered, info_of, sized}
 use Rattle.sign_font.specs.declared.font.FontInfo.{FontInfo}
 use Rattle.multi_meaning.specs.Attributes.{default_font, default_line_just, default_page_just, whole_sign}
-use Rattle.multi_meaning.specs.Address.{Spot, Cover, Glyph, Standing, put_at, spots, standing}
-use Rattle.multi_meaning.specs.Meaning.{Meaning, Shows, Does, begins_area, is_new_page}
+use Rattle.multi_meaning.specs.Address.{Spot, Cover, Glyph, Standing, spots, standing}
+use Rattle.multi_meaning.specs.Meaning.{Meaning, Shows, Does, is_new_page}
 use Rattle.multi_meaning.specs.Offence.{conflicts, never_big, offence, unsized_offence}
 use Rattle.multi_meaning.specs.kept.Present.{present_area, standing_behind}
 use Rattle.multi_meaning.specs.Times.{Times, cycle, ended_times, times_at}
@@ -111,16 +113,22 @@ state-same_page sign items state new x st same pages times attributes area font 
       short = omega (arith, st.short, pages, times);
     }
 
--- an item that puts nothing and begins neither a page nor an area, as a tag that sets an attribute
+-- a tag behind which no line begins leaves the present area
+pub area_stays : (sign : SignData) (items : List Meaning) (tag : Tag) → begins_line tag ≡ false → present_area sign (items ++ Does tag ∷ []) ≡ present_area sign items
+area_stays sign items NewPage e = cc
+area_stays sign items (NewLine gap) e = cc
+area_stays sign items (Rect x y w h) e = cc
+area_stays sign items (Back colour) e = present_area-cover sign items (Does (Back colour)) (Cover (standing sign items).page (unwrap_or colour sign.defaults.back)) refl refl refl
+area_stays sign items tag e = present_area-nothing sign items (Does tag) refl refl
+
+-- an item that leaves the present area, and begins no page
 pub state-attribute : (sign : SignData) (items : List Meaning) (state : State) (attributes : Attributes) (x : Meaning) → IsStateOf sign items state
-    → is_new_page x ≡ false → begins_area x ≡ false → put_at sign.defaults (standing sign items) x ≡ None
-    → attributes ≡ attributes_of (standing_behind sign (standing sign items) x)
+    → is_new_page x ≡ false → present_area sign (items ++ x ∷ []) ≡ present_area sign items → attributes ≡ attributes_of (standing_behind sign (standing sign items) x)
     → font_numbered sign (standing_behind sign (standing sign items) x).font.number ≡ Some (standing_behind sign (standing sign items) x).font
-    → IsBelow (1024 * length items + 1024) state.area
     → IsStateOf sign (items ++ x ∷ []) (record state { attributes = attributes })
-state-attribute sign items state attributes x st page area put is font below =
-    state-same_page sign items state (record state { attributes = attributes }) x st page refl refl is
-    (st.area ∙ ap area_sum (sym (present_area-nothing sign items x area put))) font below
+state-attribute sign items state attributes x st page area is font =
+    state-same_page sign items state (record state { attributes = attributes }) x st page refl refl is (st.area ∙ ap area_sum (sym area)) font
+    (below_more (1024 * length items) (1024 * length items + 1024) state.area (omega arith) st.below)
 
 -- what the items so far make of a state doesn't hang on its limits
 pub state-limits : (sign : SignData) (items : List Meaning) (state new : State) → new ≡ record state { area = new.area; limits = new.limits } → IsStateOf sign items (record state { area = new.area }) → IsStateOf sign items new
@@ -234,18 +242,7 @@ state-start sign info area limits is sum below =
     record {
       pages = refl;
       times = refl;
-      attributes = λ i. record {
-        font = (same ∙ ap info_of (sym default)) i;
-        line_just = default_line_just sign.defaults;
-        page_just = default_page_just sign.defaults;
-        spacing = None;
-        fore = sign.defaults.fore;
-        back = sign.defaults.back;
-        on = sign.defaults.page_on;
-        off = sign.defaults.page_off;
-        flash = None;
-        rectangle = whole_sign sign;
-      };
+      attributes = ap (λ f. let a : Attributes = record (attributes_of (standing sign [])) { font = f } in a) (same ∙ ap info_of (sym default));
       area = sum;
       font = subst (λ (f : FontData). font_numbered sign f.number ≡ Some f) (sym default) (found_again sign sign.defaults.font font found);
       below = below;
@@ -258,15 +255,6 @@ ready sign items state st few = record {
   below = below_more (1024 * length items) (2 ^ 62) state.area (omega arith) st.below;
   short = st.short;
 }
-
--- a `pb`, which covers the page and places nothing
-pub state-cover : (sign : SignData) (items : List Meaning) (state : State) (attributes : Attributes) (colour : Option ℕ) → IsStateOf sign items state
-    → attributes ≡ attributes_of (standing_behind sign (standing sign items) (Does (Back colour)))
-    → IsBelow (1024 * length items + 1024) state.area
-    → IsStateOf sign (items ++ Does (Back colour) ∷ []) (record state { attributes = attributes })
-state-cover sign items state attributes colour st is below =
-    state-same_page sign items state (record state { attributes = attributes }) (Does (Back colour)) st refl refl refl is
-    (st.area ∙ ap area_sum (sym (present_area-cover sign items (Does (Back colour)) (Cover (standing sign items).page (unwrap_or colour sign.defaults.back)) refl refl refl))) st.font below
 
 -- a rectangle, in which an empty area begins
 pub state-rectangle : (sign : SignData) (items : List Meaning) (state new : State) (x y w h : ℕ) → IsStateOf sign items state
