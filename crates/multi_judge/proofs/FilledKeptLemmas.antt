@@ -1,21 +1,21 @@
 -- What is kept behind one more character, where lines are filled.
-use Rattle.std.proofs.Common.{◌≡◌, ℕ, ◌+◌, ◌*◌, ◌≤◌, Bool, true, false, not, ◌&&◌, ◌||◌, ◌==◌, inl, inr, List, [], ◌∷◌, ◌++◌, length, Option, Some, None, refl, sym, ap, subst, ◌∙◌, arith, append-nil}
-use Rattle.std.specs.List.{All, AllPass, after_last, list_any}
+use Rattle.std.proofs.Common.{◌≡◌, ℕ, ◌+◌, ◌*◌, ◌≤◌, Bool, true, false, ◌==◌, inl, inr, List, [], ◌∷◌, ◌++◌, length, Option, Some, None, refl, sym, ap, subst, ◌∙◌, arith, append-nil}
+use Rattle.std.specs.List.{after_last, list_any}
 use Rattle.std.specs.Option.{option_map}
-use Rattle.std.proofs.lemmas.Bool.{cases_eq, eq-eqb, eqb-true, false≢true}
+use Rattle.std.proofs.lemmas.Bool.{and_parts, cases_eq, eq-eqb, eqb-true, false≢true}
 use Rattle.std.proofs.lemmas.List.{length-append}
 use Rattle.multi_tag.specs.Just.{page_number}
 use Rattle.sign_font.specs.declared.parts.LineFill.{LineFill}
 use Rattle.sign_font.specs.declared.parts.LineFill.TheVariants.{Words}
 use Rattle.sign_font.specs.Cell.{SizedCell}
 use Rattle.sign_font.specs.Sign.{SignData, CellData, cell_in, cell_numbered}
-use Rattle.multi_meaning.specs.Address.{Glyph, Spot, Standing, group_of, in_group, is_break, is_glyph, put_at, spots, standing}
+use Rattle.multi_meaning.specs.Address.{Glyph, Spot, Standing, group_of, in_group, is_break, put_at, spots, standing}
 use Rattle.multi_meaning.specs.Filling.{filled}
 use Rattle.multi_meaning.specs.Fit.{area_fits, line_fits}
 use Rattle.multi_meaning.specs.LaidItems.{laid_item, laid_items}
 use Rattle.multi_meaning.specs.Meaning.{Meaning, Shows}
 use Rattle.multi_meaning.specs.Offence.{clashes, conflicts, first_code, offence, unsized_offence}
-use Rattle.multi_meaning.specs.kept.Present.{present_area, IsPlacing}
+use Rattle.multi_meaning.specs.kept.Present.{present_area}
 use Rattle.multi_meaning.proofs.GroupLemmas.{in_group_other, own_group}
 use Rattle.multi_meaning.proofs.LaidItemLemmas.{are_laid}
 use Rattle.multi_meaning.proofs.StandingLemmas.{standing_push}
@@ -33,13 +33,12 @@ use Rattle.multi_judge.specs.declared.line.Line.{Line}
 use Rattle.multi_judge.specs.Passed.{IsFilledPut}
 use Rattle.multi_judge.specs.FilledState.{IsFilledFor, IsFilledOf}
 use Rattle.multi_judge.specs.FillSums.{EndsLine, IsSplitBelow, order_sum, split_sum}
-use Rattle.multi_judge.specs.Run.{FitsBefore}
+use Rattle.multi_judge.specs.Run.{is_within}
 use Rattle.multi_judge.specs.State.{IsLimited}
-use Rattle.multi_judge.specs.Sums.{IsBelow, IsCharacter, area_sum, line_sum}
-use Rattle.multi_judge.proofs.AreaSumLemmas.{group_behind, no_back, no_clash}
-use Rattle.multi_judge.proofs.BeforeLemmas.{GroupsFitBefore}
+use Rattle.multi_judge.specs.Sums.{IsBelow, IsCharacter, area_sum}
+use Rattle.multi_judge.proofs.AreaSumLemmas.{both_fit, group_behind, no_back, no_clash}
 use Rattle.multi_judge.proofs.FilledCharacterLemmas.{area_with, doesn't_fit, goes_behind, offends_by, offends_without, present_is, shown}
-use Rattle.multi_judge.proofs.FilledJudgedLemmas.{Fills, attributes_here, filled_fit, filled_grown, filled_size, found_here, shown_character}
+use Rattle.multi_judge.proofs.FilledJudgedLemmas.{Fills, attributes_here, filled_grown, filled_size, found_here, shown_character}
 use Rattle.multi_judge.proofs.FilledStateLemmas.{filled_state}
 use Rattle.multi_judge.proofs.GroupSumLemmas.{present_push}
 use Rattle.multi_judge.proofs.JudgedLemmas.{no_conflict}
@@ -145,17 +144,10 @@ module _ (sign : SignData) (items : List Meaning) (kept : Pass) (is : IsFilledFo
     (font : character.font ≡ kept.state.attributes.font) (area' : Area) (split' : Option Split) (ended : Option Line)
     (fills : (cell : CellData) (found : cell_numbered (standing sign items).font number ≡ Some cell) → Fills sign items kept is.of number c some character (number == 32) area' split' ended (page_number kept.state.attributes.page_just) kept.state.attributes.rectangle.width)
     (limits' : Limits) (limited : IsLimited (record kept.state { area = area'; limits = limits' }))
-    (f h : Bool) (line : (l : List Spot) → AllPass is_glyph l → area'.group.line ≡ line_sum l → FitsBefore kept.state.attributes.rectangle.width area'.group.line → f ≡ line_fits kept.state.attributes.rectangle.width l)
-    (height : (l : List Spot) → All IsPlacing l → area' ≡ area_sum l → 2 ≤ area'.present → GroupsFitBefore kept.state.attributes.rectangle.height area' → h ≡ area_fits kept.state.attributes.rectangle.height l)
     (order' : Order) (sum : (line : List Spot) (s : Spot) → s.at.line_just ≡ character.just → list_any (clashes s) line ≡ false
     → (goes_on ≡ true → kept.order ≡ order_sum line) → (goes_on ≡ false → line ≡ []) → order' ≡ order_sum (line ++ s ∷ []))
     (below : IsBelow (1024 * length items + 1024) area') (split_below : IsSplitBelow (1024 * length items + 1024) split') where
-  both_of : (a b : Bool) → (not a || not b) ≡ false → (a ≡ true) × (b ≡ true)
-  both_of true true e = (refl, refl)
-  both_of true false e = cc
-  both_of false b e = cc
-
-  pub filled_put : IsFilledPut sign items number kept (record { state = record kept.state { area = area'; limits = limits' }; split = split'; order = order' }) (f && h) ended
+  pub filled_put : IsFilledPut sign items number kept (record { state = record kept.state { area = area'; limits = limits' }; split = split'; order = order' }) (is_within (record kept.state { area = area'; limits = limits' })) ended
   filled_put =
       let of = is.of in
       let (cell, found, width) = found_here sign items kept of number c some in
@@ -170,12 +162,12 @@ module _ (sign : SignData) (items : List Meaning) (kept : Pass) (is : IsFilledFo
       let (area, split, line_ended, before) = filled_grown sign items kept of number c some cell found apart character is' (number == 32) space area' split' ended (fills cell found) in
       let on = goes_behind sign items number cell found apart in
       let new = area_with sign items number cell found in
+      let (told, size) = filled_size sign items kept of number c some cell found apart character is' (number == 32) space area' split' ended (fills cell found) limits' (1024 * length items + 1024) below limited in
       record {
-        size = ap (λ (setting : LineFill). offence setting sign items (Shows number)) is.words
-            ∙ filled_size sign items kept of number c some cell found apart character is' (number == 32) space area' split' ended (fills cell found) f h line height;
+        size = ap (λ (setting : LineFill). offence setting sign items (Shows number)) is.words ∙ size;
         passed = λ both.
-            let fit = filled_fit sign items kept of number c some cell found apart character is' (number == 32) space area' split' ended (fills cell found) f h line height both in
-            let (wide_fits, high_fits) = both_of (line_fits w (after_last is_break (in_group (page_number s.at.page_just) new))) (area_fits s.at.rectangle.height new) fit in
+            let (wide_fits, high_fits) = and_parts (line_fits w (after_last is_break (in_group (page_number s.at.page_just) new))) (area_fits s.at.rectangle.height new)
+            (both_fit (line_fits w (after_last is_break (in_group (page_number s.at.page_just) new))) (area_fits s.at.rectangle.height new) ∙ sym told ∙ both) in
             let line_fits' = ap (λ l. line_fits w (after_last is_break l)) (sym on.after) ∙ wide_fits in
             let order = order_with sign items number cell found kept of apart goes_on goes at character is' order' sum in
             record {

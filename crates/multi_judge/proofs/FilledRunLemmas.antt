@@ -32,7 +32,6 @@ use Rattle.multi_judge.specs.Run.{IsBehindOne, IsRun, kept_height, lengthened, l
 use Rattle.multi_judge.specs.Sums.{IsBelow, IsCharacter, IsLineBelow, area_sum_in, group_sum, line_sum, segment_sum}
 use Rattle.multi_judge.proofs.AreaFillLemmas.{area_filled}
 use Rattle.multi_judge.proofs.AreaSumLemmas.{group_of_own}
-use Rattle.multi_judge.proofs.LimitLemmas.{area_told, open_told}
 use Rattle.multi_judge.proofs.FillGroupLemmas.{Joins, present_glyphs, present_line, stands_there}
 use Rattle.multi_judge.proofs.FillSplitLemmas.{line_below, split_none, split_space, split_word}
 use Rattle.multi_judge.proofs.FilledJudgedLemmas.{filled_free}
@@ -192,7 +191,6 @@ module _ (sign : SignData) (octets : List ℕ) (at : ℕ) (kept : Pass) (r : Rea
       let st = of.state_is in
       let attributes = kept.state.attributes in
       let line = line_in_force kept.state in
-      let known = st.below.group.line.known in
       let below = subst (λ n. IsBelow (1024 * n) kept.state.area) (laid_count sign items) st.below in
       let longer = lengthened_line (line.part.width + (gap + wide)) (line.part.count + 1) line in
       let area : Area = lengthened_area (line.part.width + (gap + wide)) (line.part.count + 1) kept.state.area in
@@ -204,9 +202,6 @@ module _ (sign : SignData) (octets : List ℕ) (at : ℕ) (kept : Pass) (r : Rea
       (seen attributes wide) refl refl is refl area (split_one attributes gap wide (octet == 32) line kept.split) None
       (λ cell found. fills_one kept run gap runs wide fits (octet == 32))
       kept.state.limits (record { width = of.limited.width; height = of.limited.height })
-      (nat_le longer.part.width kept.state.limits.width) (nat_le (kept_height area.group) kept.state.limits.height)
-      (λ l glyphs e before. open_told l longer attributes.rectangle.width kept.state.limits.width glyphs e known before of.limited.width)
-      (λ l placing e low above. area_told l area attributes.rectangle.height kept.state.limits.height e placing low (omega (arith, st.below.known)) above (of.limited.height low))
       kept.order (λ line s just apart goes stays. order_stays line s kept.order (goes refl) (run.order.0 ∙ ap line_number (sym just)) (run.order.1 ∙ ap (λ j. nat_lt (line_number j) 5) (sym just)))
       (longer_below (1024 * length items) (line.part.width + (gap + wide)) (line.part.count + 1) kept.state.area below (omega (arith, below.group.line.part.width, runs.narrow, small)) (omega (arith, below.group.line.part.count)))
       (split_grows attributes gap wide runs.gap_is (1024 * length items) (octet == 32) line kept.split runs.narrow small below.group.line of.split_below) in
