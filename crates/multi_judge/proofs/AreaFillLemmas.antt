@@ -8,6 +8,7 @@ use Rattle.multi_meaning.specs.Filling.{filled}
 use Rattle.multi_meaning.specs.kept.Present.{IsFilledOn}
 use Rattle.multi_meaning.specs.Line.{height_of}
 use Rattle.multi_judge.specs.declared.area.Area.{Area}
+use Rattle.multi_judge.specs.declared.area.Group.{Group}
 use Rattle.multi_judge.specs.declared.fill.Split.{Split}
 use Rattle.multi_judge.specs.Adding.{ReachesGroup}
 use Rattle.multi_judge.specs.FillSums.{split_sum}
@@ -32,7 +33,7 @@ area_filled old new group s just width on kept r is present top middle own =
     whole ∙ ap (λ n. area_sum_in n new) (sym on.last)
 
 -- an area that goes on to the group with a page justification, or doesn't where that is before its present one
-module _ (page height : ℕ) (page_known : (2 ≤ page) × (page ≤ 4)) (old : Area) (most : ℕ) (reached : Bool) (new : Area) (most' : ℕ) (r : ReachesGroup page height old most reached new most') where
+module _ {page height : ℕ} {old : Area} {most : ℕ} {reached : Bool} {new : Area} {most' : ℕ} (r : ReachesGroup page height old most reached new most') (page_known : (2 ≤ page) × (page ≤ 4)) where
   before : reached ≡ false → page < old.present
   before off = leb-false old.present page (sym r.order ∙ off)
 
@@ -45,6 +46,12 @@ module _ (page height : ℕ) (page_known : (2 ≤ page) × (page ≤ 4)) (old : 
         (top, middle, group, bare, omega (arith, goes.present, page_known.0), omega (arith, goes.present, page_known.1))
     | inr off ↦ rw ((r.left off).0) (omega (arith, b.top), omega (arith, b.middle), b.group, b.bare, omega (arith, before off, page_known.0), b.known)
   ]
+
+  -- and so it has with another group there, whose numbers may have grown
+  pub regrouped_below : (k : ℕ) → IsBelow k old → (group : Group) → (IsGroupBelow k new.group → IsGroupBelow (k + 1024) group) → IsBare group.line → IsBelow (k + 1024) (record new { group = group })
+  regrouped_below k b group below bare =
+      let (top, middle, old_group, old_bare, least, known) = reached_below k b in
+      record { top = top; middle = middle; group = below old_group; known = known; some = λ any. least; bare = bare; empty = λ none. absurd (omega (arith, none, least)) }
 
   -- and the limits of its present group and of its present line are known where they were
   pub reached_group : (2 ≤ old.present → most ≡ group_room old height) → most' ≡ group_room new height

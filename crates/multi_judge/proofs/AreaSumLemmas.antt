@@ -5,7 +5,7 @@ use Rattle.multi_meaning.specs.Words.{largest}
 use Rattle.std.specs.Prelude.{nat_lt}
 use Rattle.std.specs.List.{list_any, after_last}
 use Rattle.std.proofs.Math.Bool.{or-false}
-use Rattle.std.proofs.lemmas.Bool.{cases_eq, cases_lt, eq-eqb, false≢true, le-ltb, lt-ltb, ne_eqb}
+use Rattle.std.proofs.lemmas.Bool.{ltb-false, or_parts, cases_eq, cases_lt, eq-eqb, le-ltb, lt-ltb, ne_eqb}
 use Rattle.std.proofs.lemmas.List.Elements.{All-head, All-weaker}
 use Rattle.sign_font.specs.declared.parts.LineFill.TheVariants.{Off}
 use Rattle.multi_meaning.specs.Address.{Spot, is_glyph, is_break, area_of, in_group, line_before, lines_of}
@@ -87,15 +87,33 @@ module _ (area : List Spot) (a : Area) (e : a ≡ area_sum area) where
 back : (before : List Spot) (s : Spot) (page_just most : ℕ) → page_number s.at.page_just ≡ page_just → most ≡ largest (λ t. page_number t.at.page_just) (area_of s before) → nat_lt page_just most ≡ list_any (goes_back s) (area_of s before)
 back before s page_just most page e = ap (λ n. nat_lt n most) (sym page) ∙ ap (nat_lt (page_number s.at.page_just)) e ∙ sym (group_goes_back s (area_of s before))
 
--- a character conflicts if its group is before the present one, or it clashes with one on the present line of its group
+-- an item conflicts if its group is before the present one, or it is a character that clashes with one on the present line of its group
+conflict_is : (before : List Spot) (s : Spot) (page_just present : ℕ) → page_number s.at.page_just ≡ page_just → present ≡ largest (λ t. page_number t.at.page_just) (area_of s before)
+    → conflicts before s ≡ (nat_lt page_just present || (is_glyph s && list_any (clashes s) (after_last is_break (in_group page_just (area_of s before)))))
+conflict_is before s page_just present page e =
+    ap (λ b. b || (is_glyph s && list_any (clashes s) (line_before before s))) (sym (back before s page_just present page e))
+    ∙ ap (λ n. nat_lt page_just present || (is_glyph s && list_any (clashes s) (after_last is_break (in_group n (area_of s before))))) page
+
 pub conflicts_character : (before : List Spot) (s : Spot) (page_just present : ℕ) → is_glyph s ≡ true → page_number s.at.page_just ≡ page_just → present ≡ largest (λ t. page_number t.at.page_just) (area_of s before)
     → (nat_lt page_just present || list_any (clashes s) (after_last is_break (in_group page_just (area_of s before)))) ≡ conflicts before s
 conflicts_character before s page_just present g page e =
-    let goes = list_any (goes_back s) (area_of s before) in
-    let clashing = list_any (clashes s) (after_last is_break (in_group page_just (area_of s before))) in
-    ap (λ b. b || clashing) (back before s page_just present page e)
-    ∙ ap (λ n. goes || list_any (clashes s) (after_last is_break (in_group n (area_of s before)))) (sym page)
-    ∙ ap (λ b. goes || (b && list_any (clashes s) (line_before before s))) (sym g)
+    sym (conflict_is before s page_just present page e ∙ ap (λ b. nat_lt page_just present || (b && list_any (clashes s) (after_last is_break (in_group page_just (area_of s before))))) g)
+
+pub conflicts_break : (before : List Spot) (s : Spot) (page_just most : ℕ) → is_glyph s ≡ false → page_number s.at.page_just ≡ page_just → most ≡ largest (λ t. page_number t.at.page_just) (area_of s before)
+    → nat_lt page_just most ≡ conflicts before s
+conflicts_break before s page_just most g page e =
+    sym (conflict_is before s page_just most page e ∙ ap (λ b. nat_lt page_just most || (b && list_any (clashes s) (after_last is_break (in_group page_just (area_of s before))))) g ∙ or-false (nat_lt page_just most))
+
+-- one that doesn't conflict isn't before the present group
+pub no_back : (before : List Spot) (s : Spot) (page_just present : ℕ) → page_number s.at.page_just ≡ page_just → present ≡ largest (λ t. page_number t.at.page_just) (area_of s before) → conflicts before s ≡ false → present ≤ page_just
+no_back before s page_just present page e none = ltb-false page_just present (or_parts _ _ (sym (conflict_is before s page_just present page e) ∙ none)).0
+
+-- and clashes with none on the present line of its group, if it is a character
+pub no_clash : (before : List Spot) (s : Spot) (page_just : ℕ) → is_glyph s ≡ true → page_number s.at.page_just ≡ page_just → conflicts before s ≡ false
+    → list_any (clashes s) (after_last is_break (in_group page_just (area_of s before))) ≡ false
+no_clash before s page_just g page none =
+    ap (λ b. b && list_any (clashes s) (after_last is_break (in_group page_just (area_of s before)))) (sym g)
+    ∙ (or_parts _ _ (sym (conflict_is before s page_just (largest (λ t. page_number t.at.page_just) (area_of s before)) page refl) ∙ none)).1
 
 -- a character on a line with this clash, if its group is the present one
 clash_by : (before : List Spot) (s : Spot) (page_just present : ℕ) (clash : Bool) → present ≡ largest (λ (t : Spot). page_number t.at.page_just) (area_of s before)
@@ -116,37 +134,6 @@ clash_by before s page_just present clash e c = elim (cases_eq page_just present
 pub conflicts_kept : (before : List Spot) (s : Spot) (page_just present : ℕ) (clash : Bool) → is_glyph s ≡ true → page_number s.at.page_just ≡ page_just → present ≡ largest (λ t. page_number t.at.page_just) (area_of s before)
     → clash ≡ list_any (clashes s) (after_last is_break (in_group present (area_of s before))) → (nat_lt page_just present || ((page_just == present) && clash)) ≡ conflicts before s
 conflicts_kept before s page_just present clash g page e c = clash_by before s page_just present clash e c ∙ conflicts_character before s page_just present g page e
-
--- an item that doesn't conflict isn't before the present group
-pub no_back : (before : List Spot) (s : Spot) (page_just present : ℕ) → page_number s.at.page_just ≡ page_just → present ≡ largest (λ t. page_number t.at.page_just) (area_of s before) → conflicts before s ≡ false → present ≤ page_just
-no_back before s page_just present page e none = elim (cases_lt page_just present) [
-  | inl goes ↦ absurd (false≢true (sym (left _ _ none) ∙ sym (back before s page_just present page e) ∙ lt-ltb page_just present goes))
-  | inr on ↦ on
-]
-  where
-    left : (a b : Bool) → (a || b) ≡ false → a ≡ false
-    left true b h = absurd (false≢true (sym h))
-    left false b h = refl
-
-pub conflicts_break : (before : List Spot) (s : Spot) (page_just most : ℕ) → is_glyph s ≡ false → page_number s.at.page_just ≡ page_just → most ≡ largest (λ t. page_number t.at.page_just) (area_of s before)
-    → nat_lt page_just most ≡ conflicts before s
-conflicts_break before s page_just most g page e =
-    let goes = list_any (goes_back s) (area_of s before) in
-    back before s page_just most page e
-    ∙ sym (or-false goes)
-    ∙ ap (λ b. goes || (b && list_any (clashes s) (line_before before s))) (sym g)
-
--- a character that doesn't conflict clashes with none on the present line of its group
-pub no_clash : (before : List Spot) (s : Spot) (page_just : ℕ) → is_glyph s ≡ true → page_number s.at.page_just ≡ page_just → conflicts before s ≡ false
-    → list_any (clashes s) (after_last is_break (in_group page_just (area_of s before))) ≡ false
-no_clash before s page_just g page none =
-    ap (λ n. list_any (clashes s) (after_last is_break (in_group n (area_of s before)))) (sym page)
-    ∙ ap (λ b. b && list_any (clashes s) (line_before before s)) (sym g)
-    ∙ or_right (list_any (goes_back s) (area_of s before)) (is_glyph s && list_any (clashes s) (line_before before s)) none
-  where
-    or_right : (a b : Bool) → (a || b) ≡ false → b ≡ false
-    or_right true b h = absurd (false≢true (sym h))
-    or_right false b h = h
 
 -- FIT
 

@@ -6,6 +6,7 @@ use Rattle.multi_meaning.proofs.GroupLemmas.{own_group, placing_group}
 use Rattle.multi_tag.proofs.JustLemmas.{page_number_known}
 use Rattle.multi_judge.specs.declared.area.Area.{Area}
 use Rattle.multi_judge.specs.Sums.{group_sum}
+use Rattle.multi_judge.proofs.AreaFillLemmas.{reached_below, regrouped_below}
 use Rattle.multi_judge.proofs.AreaSumLemmas.{area_with, conflicts_break}
 use Rattle.multi_judge.proofs.state.State.put_break.Goals as goal
 
@@ -18,7 +19,7 @@ returns-then-not-reach-clause-conflicts c before s e g page =
     ∙ conflicts_break before s here state.area.present g (ap page_number page) (ap (λ (a : Area). a.present) e)
 
 pub add_break-requires : goal.add_break-requires
-add_break-requires c = let (top, middle, group, bare) = (c.reach.ensures.reached.goes c.if-not-reach.false).grows (2 ^ 62) c.requires.ready.below in record { below = group }
+add_break-requires c = record { below = (reached_below c.reach.ensures.reached (page_number_known c.args.self.now.attributes.page_just) (2 ^ 62) c.requires.ready.below).2 }
 
 pub returns-clause-conflicts : goal.returns-clause-conflicts
 returns-clause-conflicts c before s e g page =
@@ -39,17 +40,7 @@ returns-clause-added c = λ is.
           let on = goes.sum area placing e in
           area_with area s here (ap page_number page) state.area e order c.reach.new.self _ on refl refl refl
           (ended.sum (in_group here area) s (placing_group here area placing) (ap (λ (a : Area). a.group) on) own ∙ ap group_sum (sym (own_group here area s (ap page_number page))));
-      grows = λ k below.
-          let (top, middle, group, bare) = goes.grows k below in
-          record {
-            top = top;
-            middle = middle;
-            group = ended.grows k group;
-            known = omega (arith, goes.present, (page_number_known state.attributes.page_just).1);
-            some = λ any. omega (arith, goes.present, (page_number_known state.attributes.page_just).0);
-            bare = ended.bare;
-            empty = λ none. absurd (omega (arith, none, goes.present, (page_number_known state.attributes.page_just).0));
-          };
+      grows = λ k below. regrouped_below c.reach.ensures.reached (page_number_known state.attributes.page_just) k below c.add_break.new.self (ended.grows k) ended.bare;
       present = λ order. goes.present;
       none = ended.none;
       same = refl;
