@@ -11,7 +11,7 @@ use Rattle.multi_meaning.specs.Words.{successive}
 use Rattle.multi_meaning.proofs.FillLemmas.{le_test}
 use Rattle.multi_meaning.proofs.FitLemmas.{smaller_fits}
 use Rattle.std.proofs.lemmas.List.Elements.{All-nil, All-cons, All-head, All-tail}
-use Rattle.multi_meaning.proofs.WordLemmas.{All-around}
+use Rattle.multi_meaning.proofs.WordLemmas.{All-around, none_mapped}
 use Rattle.multi_meaning.specs.Address.{Spot, is_break, is_glyph, segment}
 use Rattle.multi_meaning.specs.Fit.{fit, line_fits}
 use Rattle.multi_meaning.specs.Filling.{cut_at_last, dropped, filled, is_space}
@@ -35,7 +35,7 @@ use Rattle.multi_judge.specs.Run.{FitsBefore}
 use Rattle.multi_judge.specs.State.{IsMost, segment_room}
 use Rattle.multi_judge.specs.Sums.{IsBreak, IsCharacter, group_sum, line_sum}
 use Rattle.multi_judge.proofs.BreakLemmas.{all_glyphs, none_behind, relined}
-use Rattle.multi_judge.proofs.FillSplitLemmas.{no_split, parts_of, split_none}
+use Rattle.multi_judge.proofs.FillSplitLemmas.{parts_of, split_none}
 use Rattle.multi_judge.proofs.LimitLemmas.{fits_behind, none_before, told_behind}
 use Rattle.multi_judge.proofs.GroupSumLemmas.{present_push}
 
@@ -180,7 +180,7 @@ module _ {width : ℕ} {group : List Spot} {s : Spot} {character : Character} {s
     pub stays_there : nat_le grown.part.width most ≡ false → is_space s ≡ false → None ≡ split_sum open' → Joined width group s (with_line self grown) None None
     stays_there big word none =
         on_line (stays width group s j.placing j.is.glyph fits (sym answer ∙ big) word
-        (ap (cut_at_last is_space) (sym line_is) ∙ no_split (cut_at_last is_space open') (sym none))) None (split_none open' s word none)
+        (ap (cut_at_last is_space) (sym line_is) ∙ none_mapped parts_sum (cut_at_last is_space open') (sym none))) None (split_none open' s word none)
 
     -- it is a space that is dropped, and ends its line
     pub drops_there : nat_le grown.part.width most ≡ false → is_space s ≡ true → (new : Group)

@@ -25,7 +25,7 @@ use Rattle.multi_meaning.specs.Verdict.{pages_of}
 use Rattle.multi_meaning.proofs.OffenceLemmas.{offence-undefined, offence-character, offence-page, offence-rectangle}
 use Rattle.multi_meaning.proofs.StandingLemmas.{standing_push}
 use Rattle.multi_meaning.proofs.StateLemmas.{present_area-nothing, present_area-cover, present_area-new}
-use Rattle.multi_meaning.proofs.WordLemmas.{some_after_push}
+use Rattle.multi_meaning.proofs.WordLemmas.{some_after_push, none_mapped}
 use Rattle.multi_meaning.proofs.UnplacedLemmas as unplaced
 use Rattle.multi_judge.specs.declared.area.Area.{Area}
 use Rattle.multi_judge.specs.declared.attributes.Attributes.{Attributes}
@@ -83,13 +83,10 @@ found_again sign n font e = ap (font_numbered sign) (found_number sign.fonts n f
 pub cell_of_font : (sign : SignData) (font : FontData) (number : ℕ) → font_numbered sign font.number ≡ Some font → cell_in sign font.number number ≡ option_map (sized font) (cell_numbered font number)
 cell_of_font sign font number e = ap (option_and_then (λ f. option_map (sized f) (cell_numbered f number))) e
 
-none_mapped : (font : FontData) (o : Option CellData) → option_map (sized font) o ≡ None → o ≡ None
-none_mapped font None e = refl
-none_mapped font (Some cell) e = cc
-
-some_mapped : (font : FontData) (o : Option CellData) (c : SizedCell) → option_map (sized font) o ≡ Some c → (cell : CellData) × (o ≡ Some cell) × (c.width ≡ cell.width)
-some_mapped font None c e = cc
-some_mapped font (Some cell) c e = (cell, refl, ap (λ (z : SizedCell). z.width) (sym (same_Some (sized font cell) c e)))
+-- what a function made of a value that there may be, it made of one that there is
+pub some_mapped : {X Y : Type 0} (f : X → Y) (o : Option X) (y : Y) → option_map f o ≡ Some y → (x : X) × (o ≡ Some x) × (y ≡ f x)
+some_mapped f None y e = cc
+some_mapped f (Some x) y e = (x, refl, sym (same_Some (f x) y e))
 
 -- ---- one more item that begins no page
 
@@ -161,7 +158,7 @@ module _ (sign : SignData) (items : List Meaning) (state : State) (st : IsStateO
   pub cell_missing : (number : ℕ) → cell_in sign state.attributes.font.number number ≡ None → cell_numbered (standing sign items).font number ≡ None
   cell_missing number none =
       let font = (standing sign items).font in
-      none_mapped font (cell_numbered font number) (sym (cell_is number) ∙ none)
+      none_mapped (sized font) (cell_numbered font number) (sym (cell_is number) ∙ none)
 
   pub judged-undefined : (number : ℕ) → cell_in sign state.attributes.font.number number ≡ None → offence Off sign items (Shows number) ≡ Some 7
   judged-undefined number none = offence-undefined (too_big Off) sign items number (cell_missing number none)
@@ -173,7 +170,8 @@ module _ (sign : SignData) (items : List Meaning) (state : State) (st : IsStateO
       → (cell : CellData) × (cell_numbered (standing sign items).font number ≡ Some cell) × (c.width ≡ cell.width)
   cell_found number c some =
       let font = (standing sign items).font in
-      some_mapped font (cell_numbered font number) c (sym (cell_is number) ∙ some)
+      let (cell, found, is) = some_mapped (sized font) (cell_numbered font number) c (sym (cell_is number) ∙ some) in
+      (cell, found, ap (λ (z : SizedCell). z.width) is)
 
   -- ---- new pages and rectangles
 
@@ -210,10 +208,6 @@ module _ (sign : SignData) (items : List Meaning) (state : State) (st : IsStateO
 
 -- ---- the start
 
-pub font_of_info : (o : Option FontData) (info : FontInfo) → option_map info_of o ≡ Some info → (font : FontData) × (o ≡ Some font) × (info ≡ info_of font)
-font_of_info None info e = cc
-font_of_info (Some font) info e = (font, refl, sym (same_Some (info_of font) info e))
-
 -- the state before the first item
 pub state-start : (sign : SignData) (info : FontInfo) (area : Area) (limits : Limits) → option_map info_of (font_numbered sign sign.defaults.font) ≡ Some info → area ≡ area_sum [] → IsBelow 0 area
     → IsStateOf sign [] (record {
@@ -236,7 +230,7 @@ pub state-start : (sign : SignData) (info : FontInfo) (area : Area) (limits : Li
     })
 unfolding standing spots
 state-start sign info area limits is sum below =
-    let (font, found, same) = font_of_info (font_numbered sign sign.defaults.font) info is in
+    let (font, found, same) = some_mapped info_of (font_numbered sign sign.defaults.font) info is in
     let none : FontData = record { number = 0; version = 0; height = 0; char_spacing = 0; line_spacing = 0; cells = [] } in
     let default : default_font sign ≡ font = ap (λ o. unwrap_or o none) found in
     record {

@@ -123,14 +123,6 @@ place_is before all spot line found =
     ∙ ap (λ n. place_by spot part_before height n (moved (length part) n) line.bottom) width
     ∙ ap (λ n. place_by spot part_before height (width_in just line) n line.bottom) (spread_if (just == 5) (length part_before) (length part) line.characters (spare (width_in just line)) characters)
 
--- the width of a segment with one more character, from the segment's sum
-pub width_with : (earlier : List Spot) (spot : Spot) (just : ℕ) (part : Segment) → is_glyph spot ≡ true → just ≡ line_number spot.at.line_just → part ≡ segment_sum just (earlier ++ spot ∷ []) → part.width ≡ width_of (segment (line_number spot.at.line_just) earlier ++ spot ∷ [])
-width_with earlier spot just part glyph own sum =
-    let passes : (is_glyph spot && (line_number spot.at.line_just == line_number spot.at.line_just)) ≡ true = ap (λ b. b && (line_number spot.at.line_just == line_number spot.at.line_just)) glyph ∙ eq-eqb (line_number spot.at.line_just) (line_number spot.at.line_just) refl in
-    ap (λ (p : Segment). p.width) sum
-    ∙ ap (λ just. width_of (segment just (earlier ++ spot ∷ []))) own
-    ∙ ap width_of (filter_yes (λ t. is_glyph t && (line_number t.at.line_just == line_number spot.at.line_just)) earlier spot passes)
-
 -- the present segment of a line whose last character this is
 pub part_with : (earlier : List Spot) (spot : Spot) (line : Line) → is_glyph spot ≡ true → line ≡ line_sum (earlier ++ spot ∷ []) → list_any (clashes spot) earlier ≡ false
     → (line.part.width ≡ width_of (segment (line_number spot.at.line_just) earlier ++ spot ∷ [])) × (line.part.count - 1 ≡ length (segment (line_number spot.at.line_just) earlier))
@@ -142,7 +134,7 @@ part_with earlier spot line glyph is apart =
     let part : line.part ≡ segment_sum just all = ap (λ (l : Line). l.part) is ∙ ap (λ n. segment_sum n all) (sym seen ∙ present) in
     let passes : (is_glyph spot && (line_number spot.at.line_just == line_number spot.at.line_just)) ≡ true = ap (λ b. b && (line_number spot.at.line_just == line_number spot.at.line_just)) glyph ∙ eq-eqb (line_number spot.at.line_just) (line_number spot.at.line_just) refl in
     let more : segment just all ≡ segment just earlier ++ spot ∷ [] = filter_yes (λ t. is_glyph t && (line_number t.at.line_just == just)) earlier spot passes in
-    (width_with earlier spot just line.part glyph refl part, omega (arith, ap (λ (p : Segment). p.count) part, ap length more, length-append (segment just earlier) (spot ∷ [])))
+    (ap (λ (p : Segment). p.width) part ∙ ap width_of more, omega (arith, ap (λ (p : Segment). p.count) part, ap length more, length-append (segment just earlier) (spot ∷ [])))
 
 -- a character's column, from the columns of its segment before it and their number
 pub column_is : (line : CountedLine) (earlier : List Spot) (spot : Spot) (a : Attributes) (columns before : ℕ)

@@ -31,6 +31,7 @@ use Rattle.multi_judge.proofs.GroupHeightLemmas.{height_ended, height_present}
 use Rattle.multi_judge.proofs.GroupSumLemmas.{group_character, present_glyphs}
 use Rattle.multi_judge.proofs.LineSumLemmas.{kept_width_is, line_with, segment_own, whole_before}
 use Rattle.multi_judge.proofs.PlacingLemmas.{character-accepted}
+use Rattle.multi_judge.proofs.BoundLemmas.{lined_below, part_below}
 
 -- ---- what is kept of a line and of a group
 
@@ -140,17 +141,7 @@ pub longer_below : (k width count : ℕ) (area : Area) → IsBelow k area → wi
 longer_below k width count area below wide many = record {
   top = omega (arith, below.top);
   middle = omega (arith, below.middle);
-  group = record {
-    ended = omega (arith, below.group.ended);
-    closed = omega (arith, below.group.closed);
-    line = record {
-      left = omega (arith, below.group.line.left);
-      centre = omega (arith, below.group.line.centre);
-      right = omega (arith, below.group.line.right);
-      part = record { width = wide; count = many };
-      known = below.group.line.known;
-    };
-  };
+  group = lined_below k area.group (lengthened_line width count area.group.line) below.group (part_below k width count area.group.line below.group.line wide many);
   known = below.known;
   some = below.some;
   bare = λ none. below.bare none;

@@ -1,7 +1,7 @@
 -- One more octet of a run, in the string that is read.
 use Rattle.std.proofs.Common.{◌≡◌, ℕ, suc, ◌+◌, ◌^◌, ◌<◌, ◌≤◌, List, [], ◌∷◌, ◌++◌, length, map, drop, take, slice_get, Option, Some, None, refl, sym, ◌∙◌, arith, true, false, ◌&&◌, ◌||◌, ◌==◌, ap}
 use Rattle.std.specs.Prelude.{nat_le, nat_lt}
-use Rattle.std.specs.List.{All, after_last, list_any, sum_by}
+use Rattle.std.specs.List.{All, after_last, sum_by}
 use Rattle.std.proofs.lemmas.Bool.{and_from, and_right, le-leb, le-ltb}
 use Rattle.multi_tag.specs.Just.{line_number, page_number}
 use Rattle.sign_font.specs.declared.parts.LineFill.TheVariants.{Off}
@@ -20,8 +20,8 @@ use Rattle.sign_font.specs.Sound.{IsWithin}
 use Rattle.sign_font.specs.Text.{HasWidth, width_in}
 use Rattle.multi_meaning.specs.Address.{Spot, area_of, is_break, is_glyph, in_group}
 use Rattle.multi_meaning.specs.Meaning.{Meaning, Shows, meaning}
-use Rattle.multi_meaning.specs.Offence.{clashes, conflicts, offence}
-use Rattle.multi_meaning.specs.Words.{some_after, largest}
+use Rattle.multi_meaning.specs.Offence.{conflicts, offence}
+use Rattle.multi_meaning.specs.Words.{some_after}
 use Rattle.multi_judge.specs.declared.area.Area.{Area}
 use Rattle.multi_judge.specs.declared.line.Line.{Line}
 use Rattle.multi_judge.specs.declared.state.State.{State}
@@ -32,18 +32,19 @@ use Rattle.multi_judge.specs.Sums.{area_sum, line_sum}
 use Rattle.multi_judge.specs.Adding.{AddsCharacter}
 use Rattle.multi_judge.proofs.AreaSumLemmas.{conflicts_kept, own_line}
 use Rattle.multi_judge.proofs.LimitLemmas.{character_judged}
-use Rattle.multi_judge.proofs.LineSumLemmas.{line_clashes}
 use Rattle.multi_judge.proofs.ReadLemmas.{unfilled_more}
-use Rattle.multi_judge.proofs.RunLemmas.{area_beside, behind_stays, longer_below, not_full, run_stays}
+use Rattle.multi_judge.proofs.RunLemmas.{area_beside, behind_stays, longer_below, run_stays}
+use Rattle.multi_meaning.proofs.WordLemmas.{none_mapped}
+use Rattle.multi_judge.proofs.JudgedLemmas.{some_mapped}
+use Rattle.multi_judge.proofs.FilledOrderLemmas.{order_apart}
+use Rattle.multi_judge.specs.FillSums.{order_sum}
 
 -- a cell of which the width is known
 pub cell_of_width : (o : Option SizedCell) (width : ℕ) → Some width ≡ option_map (λ (c : SizedCell). c.width) o → (c : SizedCell) × (o ≡ Some c) × (width ≡ c.width)
-cell_of_width None width e = absurd (cc)
-cell_of_width (Some c) width e = (c, refl, cc)
+cell_of_width o width e = some_mapped (λ (c : SizedCell). c.width) o width (sym e)
 
 pub no_cell : (o : Option SizedCell) → None ≡ option_map (λ (c : SizedCell). c.width) o → o ≡ None
-no_cell None e = refl
-no_cell (Some c) e = absurd (cc)
+no_cell o e = none_mapped (λ (c : SizedCell). c.width) o (sym e)
 
 -- ---- what a character of the run does
 
@@ -59,15 +60,9 @@ module _ (sign : SignData) (items : List Meaning) (state : State) (st : IsStateO
   agrees before s sum glyph page line =
       let spots = after_last is_break (in_group state.area.present (area_of s before)) in
       let here : line_in_force state ≡ line_sum spots = own_line (area_of s before) state.area sum in
-      let present : largest (λ (t : Spot). line_number t.at.line_just) spots ≡ line_number state.attributes.line_just = sym (ap (λ (l : Line). l.present) here) ∙ run.behind.line.segment in
-      let parts : list_any (λ (t : Spot). nat_lt (line_number t.at.line_just) 5) spots ≡ nat_lt (line_number state.attributes.line_just) 5 = sym (ap (λ (l : Line). l.has_parts) here) ∙ run.behind.line.parts in
-      let clash : list_any (clashes s) spots ≡ false =
-      line_clashes spots s
-      ∙ ap (λ n. nat_lt n (largest (λ (t : Spot). line_number t.at.line_just) spots) || ((n == 5) && list_any (λ (t : Spot). nat_lt (line_number t.at.line_just) 5) spots)) (ap line_number line)
-      ∙ ap (λ n. nat_lt (line_number state.attributes.line_just) n || ((line_number state.attributes.line_just == 5) && list_any (λ (t : Spot). nat_lt (line_number t.at.line_just) 5) spots)) present
-      ∙ ap (λ b. nat_lt (line_number state.attributes.line_just) (line_number state.attributes.line_just) || ((line_number state.attributes.line_just == 5) && b)) parts
-      ∙ ap (λ b. b || ((line_number state.attributes.line_just == 5) && nat_lt (line_number state.attributes.line_just) 5)) (le-ltb (line_number state.attributes.line_just) (line_number state.attributes.line_just) (omega arith))
-      ∙ not_full (line_number state.attributes.line_just) in
+      let own = ap line_number line in
+      let clash = order_apart spots s (order_sum spots) refl (sym (ap (λ (l : Line). l.present) here) ∙ run.behind.line.segment ∙ sym own)
+      (sym (ap (λ (l : Line). l.has_parts) here) ∙ run.behind.line.parts ∙ ap (λ n. nat_lt n 5) (sym own)) in
       let whole = conflicts_kept before s (page_number state.attributes.page_just) state.area.present false glyph (ap page_number page) (ap (λ (a : Area). a.present) sum) (sym clash) in
       sym (and_right (page_number state.attributes.page_just == state.area.present) false refl)
       ∙ ap (λ b. b || ((page_number state.attributes.page_just == state.area.present) && false)) (sym (le-ltb (page_number state.attributes.page_just) state.area.present (omega (arith, run.behind.group))))

@@ -5,7 +5,7 @@ use Rattle.multi_judge.specs.Judging.{ReadSoFar}
 use Rattle.multi_judge.specs.State.{IsUnfilledOf}
 use Rattle.multi_judge.proofs.RunReadLemmas.{front_read}
 use Rattle.multi_judge.specs.Judging.{IsAt, IsBehind}
-use Rattle.multi_judge.specs.PassState.{IsPassBehind, IsPassOf}
+use Rattle.multi_judge.specs.PassState.{IsPassOf}
 use Rattle.multi_judge.proofs.PassLemmas.{is_false}
 use Rattle.multi_judge.specs.declared.pass.Pass.{Pass}
 use Rattle.multi_judge.proofs.run.judge_run.Goals as goal
