@@ -4,7 +4,6 @@ use Rattle.multi_tag.specs.Just.{page_number}
 use Rattle.multi_meaning.specs.Words.{largest}
 use Rattle.std.specs.Prelude.{nat_lt}
 use Rattle.std.specs.List.{list_any, after_last}
-use Rattle.std.proofs.Math.Bool.{or-false}
 use Rattle.std.proofs.lemmas.Bool.{ltb-false, or_parts, cases_eq, cases_lt, eq-eqb, le-ltb, lt-ltb, ne_eqb}
 use Rattle.std.proofs.lemmas.List.Elements.{All-head, All-weaker}
 use Rattle.sign_font.specs.declared.parts.LineFill.TheVariants.{Off}
@@ -88,7 +87,7 @@ back : (before : List Spot) (s : Spot) (page_just most : ℕ) → page_number s.
 back before s page_just most page e = ap (λ n. nat_lt n most) (sym page) ∙ ap (nat_lt (page_number s.at.page_just)) e ∙ sym (group_goes_back s (area_of s before))
 
 -- an item conflicts if its group is before the present one, or it is a character that clashes with one on the present line of its group
-conflict_is : (before : List Spot) (s : Spot) (page_just present : ℕ) → page_number s.at.page_just ≡ page_just → present ≡ largest (λ t. page_number t.at.page_just) (area_of s before)
+pub conflict_is : (before : List Spot) (s : Spot) (page_just present : ℕ) → page_number s.at.page_just ≡ page_just → present ≡ largest (λ t. page_number t.at.page_just) (area_of s before)
     → conflicts before s ≡ (nat_lt page_just present || (is_glyph s && list_any (clashes s) (after_last is_break (in_group page_just (area_of s before)))))
 conflict_is before s page_just present page e =
     ap (λ b. b || (is_glyph s && list_any (clashes s) (line_before before s))) (sym (back before s page_just present page e))
@@ -98,11 +97,6 @@ pub conflicts_character : (before : List Spot) (s : Spot) (page_just present : �
     → (nat_lt page_just present || list_any (clashes s) (after_last is_break (in_group page_just (area_of s before)))) ≡ conflicts before s
 conflicts_character before s page_just present g page e =
     sym (conflict_is before s page_just present page e ∙ ap (λ b. nat_lt page_just present || (b && list_any (clashes s) (after_last is_break (in_group page_just (area_of s before))))) g)
-
-pub conflicts_break : (before : List Spot) (s : Spot) (page_just most : ℕ) → is_glyph s ≡ false → page_number s.at.page_just ≡ page_just → most ≡ largest (λ t. page_number t.at.page_just) (area_of s before)
-    → nat_lt page_just most ≡ conflicts before s
-conflicts_break before s page_just most g page e =
-    sym (conflict_is before s page_just most page e ∙ ap (λ b. nat_lt page_just most || (b && list_any (clashes s) (after_last is_break (in_group page_just (area_of s before))))) g ∙ or-false (nat_lt page_just most))
 
 -- one that doesn't conflict isn't before the present group
 pub no_back : (before : List Spot) (s : Spot) (page_just present : ℕ) → page_number s.at.page_just ≡ page_just → present ≡ largest (λ t. page_number t.at.page_just) (area_of s before) → conflicts before s ≡ false → present ≤ page_just

@@ -1,33 +1,25 @@
-use Rattle.std.proofs.Common.{◌^◌, refl, sym, ap, ◌∙◌, arith}
-use Rattle.std.proofs.lemmas.Bool.{false≢true, le-ltb, leb-false, leb-true, lt-ltb}
+use Rattle.std.proofs.Common.{◌^◌, refl, sym, ap, ◌∙◌}
+use Rattle.std.proofs.lemmas.Bool.{false≢true}
 use Rattle.multi_tag.specs.Just.{page_number}
 use Rattle.multi_meaning.specs.Address.{in_group}
 use Rattle.multi_meaning.proofs.GroupLemmas.{own_group, placing_group}
 use Rattle.multi_tag.proofs.JustLemmas.{page_number_known}
 use Rattle.multi_judge.specs.declared.area.Area.{Area}
 use Rattle.multi_judge.specs.Sums.{group_sum}
-use Rattle.multi_judge.proofs.AreaFillLemmas.{reached_below, regrouped_below}
-use Rattle.multi_judge.proofs.AreaSumLemmas.{area_with, conflicts_break}
+use Rattle.multi_judge.proofs.AreaFillLemmas.{reached_below, reached_conflicts, regrouped_below}
+use Rattle.multi_judge.proofs.AreaSumLemmas.{area_with}
 use Rattle.multi_judge.proofs.state.State.put_break.Goals as goal
 
 pub returns-then-not-reach-clause-conflicts : goal.returns-then-not-reach-clause-conflicts
 returns-then-not-reach-clause-conflicts c before s e g page =
-    let state = c.args.self.now in
-    let here = page_number state.attributes.page_just in
-    let back = leb-false state.area.present here (sym c.reach.ensures.reached.order ∙ c.if-not-reach.true) in
-    sym (lt-ltb here state.area.present (omega (arith, back)))
-    ∙ conflicts_break before s here state.area.present g (ap page_number page) (ap (λ (a : Area). a.present) e)
+    sym (reached_conflicts c.reach.ensures.reached (page_number_known c.args.self.now.attributes.page_just) before s e (ap page_number page) ∙ rw c.if-not-reach.true refl)
 
 pub add_break-requires : goal.add_break-requires
 add_break-requires c = record { below = (reached_below c.reach.ensures.reached (page_number_known c.args.self.now.attributes.page_just) (2 ^ 62) c.requires.ready.below).2 }
 
 pub returns-clause-conflicts : goal.returns-clause-conflicts
 returns-clause-conflicts c before s e g page =
-    let state = c.args.self.now in
-    let here = page_number state.attributes.page_just in
-    let order = leb-true state.area.present here (sym c.reach.ensures.reached.order ∙ c.if-not-reach.false) in
-    sym (le-ltb here state.area.present order)
-    ∙ conflicts_break before s here state.area.present g (ap page_number page) (ap (λ (a : Area). a.present) e)
+    sym (reached_conflicts c.reach.ensures.reached (page_number_known c.args.self.now.attributes.page_just) before s e (ap page_number page) ∙ rw (c.if-not-reach.false, g) refl)
 
 pub returns-clause-added : goal.returns-clause-added
 returns-clause-added c = λ is.
