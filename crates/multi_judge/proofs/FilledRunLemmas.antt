@@ -1,10 +1,9 @@
 -- A character with the attributes of the one before it, where lines are filled: it only lengthens what is kept.
-use Rattle.std.proofs.Common.{◌≡◌, ℕ, ◌+◌, ◌-◌, ◌*◌, ◌^◌, ◌<◌, ◌≤◌, Bool, true, false, cond, ◌&&◌, ◌||◌, ◌==◌, List, [], ◌∷◌, ◌++◌, length, map, slice_get, Option, Some, None, refl, sym, ap, subst, ◌∙◌, arith}
+use Rattle.std.proofs.Common.{◌≡◌, ℕ, ◌+◌, ◌-◌, ◌*◌, ◌^◌, ◌<◌, ◌≤◌, Bool, true, false, cond, ◌&&◌, ◌||◌, ◌==◌, List, [], ◌∷◌, ◌++◌, length, map, slice_get, Option, Some, None, refl, sym, ap, subst, ◌∙◌, arith, rules}
 use Rattle.std.specs.Prelude.{nat_le, nat_lt}
 use Rattle.std.specs.List.{AllPass, after_last, list_any}
 use Rattle.std.specs.Option.{option_map, unwrap_or}
 use Rattle.std.proofs.lemmas.Bool.{and_from, and_right, eq-eqb, false≢true, le-leb, le-ltb}
-use Rattle.std.proofs.lemmas.List.Elements.{All-nil}
 use Rattle.multi_token.specs.declared.token.Token.{Token}
 use Rattle.multi_token.specs.declared.token.Kind.TheVariants as kinds
 use Rattle.multi_token.specs.Spelling.{IsPlain}
@@ -22,13 +21,12 @@ use Rattle.multi_judge.specs.declared.attributes.Attributes.{Attributes}
 use Rattle.multi_judge.specs.declared.fill.Split.{Split}
 use Rattle.multi_judge.specs.declared.pass.Pass.{Pass}
 use Rattle.multi_judge.specs.declared.line.Line.{Line}
-use Rattle.multi_judge.specs.declared.line.Segment.{Segment}
 use Rattle.multi_judge.specs.FilledRun.{GoesOnBehind, IsFilledRun, even_line, longer_line, with_run, with_run_behind}
 use Rattle.multi_judge.specs.FilledState.{IsFilledFor}
 use Rattle.multi_judge.specs.FillSums.{FillsArea, IsSplitBelow, split_sum}
 use Rattle.multi_judge.specs.Judging.{ReadSoFar}
 use Rattle.multi_judge.specs.Run.{IsBehindOne, IsRun, kept_height, lengthened, lengthened_area, lengthened_line, line_in_force}
-use Rattle.multi_judge.specs.Sums.{IsBelow, IsCharacter, IsLineBelow, area_sum_in, group_sum, line_sum, segment_sum}
+use Rattle.multi_judge.specs.Sums.{IsBelow, IsCharacter, IsLineBelow, area_sum_in, group_sum, line_sum}
 use Rattle.multi_judge.proofs.AreaFillLemmas.{area_filled}
 use Rattle.multi_judge.proofs.AreaSumLemmas.{group_of_own}
 use Rattle.multi_judge.proofs.FillGroupLemmas.{Joins, present_glyphs, present_line, stands_there}
@@ -37,7 +35,7 @@ use Rattle.multi_judge.proofs.FilledJudgedLemmas.{filled_free}
 use Rattle.multi_judge.proofs.FilledKeptLemmas.{filled_put, laid_count}
 use Rattle.multi_judge.proofs.FilledOrderLemmas.{order_apart, order_stays}
 use Rattle.multi_judge.proofs.ReadLemmas.{read_more}
-use Rattle.multi_judge.proofs.LineSumLemmas.{cond_zero, line_with, segment_own, no_character}
+use Rattle.multi_judge.proofs.LineSumLemmas.{no_character}
 use Rattle.multi_judge.proofs.RunLemmas.{line_lengthened, longer_below, behind_stays}
 use Rattle.multi_judge.proofs.RunReadLemmas.{cell_of_width}
 use Rattle.multi_judge.proofs.BoundLemmas.{part_below}
@@ -51,13 +49,7 @@ run_some here gap pixels count line some = ap (λ b. cond b (longer_line pixels 
 module _ (here : Attributes) (width : ℕ) where
   -- a line of one
   pub first_line : (s : Spot) → IsCharacter s (character_of here width) → even_line here width 1 (line_sum []) ≡ line_sum (s ∷ [])
-  first_line s is =
-      let none = line_sum [] in
-      let part : ◌≡◌ {A = Segment} (record { width = width; count = 1; last = Some here.font.char_spacing }) (segment_sum (line_number here.line_just) (s ∷ [])) =
-      let wide : 0 + (0 + width) ≡ width = omega arith in
-      rw wide at (segment_own (line_number here.line_just) [] s (character_of here width) is refl (segment_sum (line_number here.line_just) []) 0 width refl refl refl) in
-      line_with [] s (character_of here width) (All-nil (λ x. is_glyph x ≡ true)) is none refl (omega arith) (even_line here width 1 none) refl
-      (sym (cond_zero (nat_lt 2 (line_number here.line_just)) 0 refl)) (sym (cond_zero (nat_lt 3 (line_number here.line_just)) 0 refl)) (sym (cond_zero (nat_lt 4 (line_number here.line_just)) 0 refl)) part refl (omega arith) (omega arith) refl
+  first_line s is = search (rules, is.glyph, is.just, is.font, is.width, is.spacing)
 
   -- a line with one more, if its last one has these attributes
   pub line_more : (gap : ℕ) → gap ≡ unwrap_or here.spacing here.font.char_spacing → (kept : Line) → (kept.any ≡ true → IsBehindOne here.line_just here.font kept) → (line : List Spot) (s : Spot) → AllPass is_glyph line
