@@ -41,7 +41,7 @@ use Rattle.multi_judge.specs.declared.area.Area.{Area}
 use Rattle.multi_judge.specs.declared.pass.Pass.{Pass}
 use Rattle.multi_judge.specs.declared.state.State.{State}
 use Rattle.multi_judge.specs.FilledState.{IsFilledOf, begins_line}
-use Rattle.multi_judge.specs.FillSums.{order_sum, split_sum}
+use Rattle.multi_judge.specs.FillSums.{order_sum, split_sum, IsSplitBelow}
 use Rattle.multi_judge.specs.PassState.{IsItemJudged}
 use Rattle.multi_judge.specs.State.{AreaFits, IsJudged, IsLimited, IsStateOf}
 use Rattle.multi_judge.proofs.AreaSumLemmas.{no_back, empty_area}
@@ -77,6 +77,27 @@ filled_start sign items state st none =
       fits = subst (AllOpenFit (Some width)) (sym none) (λ just. nothing_fits width);
     }
 
+-- what is kept of more items, where only the group with this page justification may have changed since these, and the rectangle is as wide
+pub filled_of : (sign : SignData) (items more : List Meaning) (old new : Pass) → IsFilledOf sign items old → IsStateOf sign (laid_items Words sign more more) new.state → IsLimited new.state
+    → AreaFits sign (laid_items Words sign more more) → IsSplitBelow (1024 * length more) new.split → (standing sign more).rectangle.width ≡ (standing sign items).rectangle.width
+    → (page : ℕ) → new.state.area.present ≡ page → ((j : ℕ) → (page ≡ j → ⊥) → in_group j (present_area sign more) ≡ in_group j (present_area sign items))
+    → (group : List Spot) → in_group page (present_area sign more) ≡ group → new.split ≡ split_sum (after_last is_break (filled (Some (standing sign items).rectangle.width) group))
+    → new.order ≡ order_sum (after_last is_break group) → line_fits (standing sign items).rectangle.width (after_last is_break (filled (Some (standing sign items).rectangle.width) group)) ≡ true → IsFilledOf sign more new
+filled_of sign items more old new of st limited area_fits below width page present others group own split order fits =
+    let group_is = ap (λ j. in_group j (present_area sign more)) present ∙ own in
+    record {
+      state_is = st;
+      split_is = split ∙ sym (λ i. split_sum (after_last is_break (filled (Some (width i)) (group_is i))));
+      order_is = order ∙ sym (ap (λ l. order_sum (after_last is_break l)) group_is);
+      split_below = below;
+      limited = limited;
+      area_fits = area_fits;
+      fits = λ j. elim (cases_eq page j) [
+        | inl same ↦ (λ i. line_fits (width i) (after_last is_break (filled (Some (width i)) ((ap (λ j. in_group j (present_area sign more)) (sym same) ∙ own) i)))) ∙ fits
+        | inr differ ↦ (λ i. line_fits (width i) (after_last is_break (filled (Some (width i)) (others j differ i)))) ∙ of.fits j
+      ];
+    }
+
 module _ (sign : SignData) (items : List Meaning) (kept : Pass) (of : IsFilledOf sign items kept) (tag : Tag) (state : State)
     (st : IsStateOf sign (laid_items Words sign items items ++ Does tag ∷ []) state) (limited : IsLimited state) (fine : offence Off sign (laid_items Words sign items items) (Does tag) ≡ None) where
   abbrev more : List Meaning
@@ -98,15 +119,9 @@ module _ (sign : SignData) (items : List Meaning) (kept : Pass) (of : IsFilledOf
   stays area width =
       let present : state.area.present ≡ kept.state.area.present =
       present_laid sign more state laid_state ∙ ap (largest (λ (t : Spot). page_number t.at.page_just)) area ∙ sym (present_laid sign items kept.state of.state_is) in
-      record {
-        state_is = laid_state;
-        split_is = of.split_is ∙ sym (λ i. split_sum (after_last is_break (filled (Some (width i)) (in_group (present i) (area i)))));
-        order_is = of.order_is ∙ sym (λ i. order_sum (after_last is_break (in_group (present i) (area i))));
-        split_below = split_more (1024 * length items) (1024 * length more) kept.split count of.split_below;
-        limited = limited;
-        area_fits = still_fits;
-        fits = λ j. (λ i. line_fits (width i) (after_last is_break (filled (Some (width i)) (in_group j (area i))))) ∙ of.fits j;
-      }
+      filled_of sign items more kept (record { state = state; split = kept.split; order = kept.order }) of laid_state limited still_fits
+      (split_more (1024 * length items) (1024 * length more) kept.split count of.split_below) width kept.state.area.present present (λ j other. ap (in_group j) area)
+      (in_group kept.state.area.present (present_area sign items)) (ap (in_group kept.state.area.present) area) of.split_is of.order_is (of.fits kept.state.area.present)
 
 -- a line ends
 module _ (sign : SignData) (items : List Meaning) (kept : Pass) (of : IsFilledOf sign items kept) (gap : Option ℕ) (fine : offence Off sign (laid_items Words sign items items) (Does (NewLine gap)) ≡ None)
@@ -145,32 +160,17 @@ module _ (sign : SignData) (items : List Meaning) (kept : Pass) (of : IsFilledOf
   own = ap (in_group (page_number nl.at.page_just)) area_is ∙ own_group (page_number nl.at.page_just) (present_area sign items) nl refl
 
   -- nothing stands on the line behind it
-  hard : after_last is_break (in_group (page_number nl.at.page_just) (present_area sign behind)) ≡ []
-  hard = ap (after_last is_break) own ∙ after_last_push is_break (in_group (page_number nl.at.page_just) (present_area sign items)) nl
-
-  soft : after_last is_break (filled (Some (standing sign behind).rectangle.width) (in_group (page_number nl.at.page_just) (present_area sign behind))) ≡ []
-  soft =
-      let group = in_group (page_number nl.at.page_just) (present_area sign items) in
-      (λ i. after_last is_break (filled (Some (width i)) (own i)))
-      ∙ ap (after_last is_break) (filled_break nl.at.rectangle.width group nl (placing_group (page_number nl.at.page_just) (present_area sign items) (area_placing (spots sign items) nl)) refl)
-      ∙ after_last_push is_break (filled (Some nl.at.rectangle.width) group) nl
-
   ends : IsFilledOf sign behind (record { state = state; split = None; order = order_sum [] })
-  ends = record {
-    state_is = laid_state sign items kept of (NewLine gap) state st limited fine;
-    split_is = sym (ap (λ j. split_sum (after_last is_break (filled (Some (standing sign behind).rectangle.width) (in_group j (present_area sign behind))))) present ∙ ap split_sum soft);
-    order_is = sym (ap (λ j. order_sum (after_last is_break (in_group j (present_area sign behind)))) present ∙ ap order_sum hard);
-    split_below = tt;
-    limited = limited;
-    area_fits = still_fits sign items kept of (NewLine gap) state st limited fine;
-    fits = λ j. elim (cases_eq (page_number nl.at.page_just) j) [
-      | inl same ↦
-          ap (λ j. line_fits (standing sign behind).rectangle.width (after_last is_break (filled (Some (standing sign behind).rectangle.width) (in_group j (present_area sign behind))))) (sym same)
-          ∙ ap (line_fits (standing sign behind).rectangle.width) soft ∙ nothing_fits (standing sign behind).rectangle.width
-      | inr differ ↦
-          (λ i. line_fits (width i) (after_last is_break (filled (Some (width i)) ((ap (in_group j) area_is ∙ in_group_other j (present_area sign items) nl differ) i)))) ∙ of.fits j
-    ];
-  }
+  ends =
+      let page = page_number nl.at.page_just in
+      let group = in_group page (present_area sign items) in
+      let w = nl.at.rectangle.width in
+      let hard = after_last_push is_break group nl in
+      let soft = ap (after_last is_break) (filled_break w group nl (placing_group page (present_area sign items) (area_placing (spots sign items) nl)) refl) ∙ after_last_push is_break (filled (Some w) group) nl in
+      filled_of sign items behind kept (record { state = state; split = None; order = order_sum [] }) of (laid_state sign items kept of (NewLine gap) state st limited fine) limited
+      (still_fits sign items kept of (NewLine gap) state st limited fine) tt width page present
+      (λ j differ. ap (in_group j) area_is ∙ in_group_other j (present_area sign items) nl differ) (group ++ nl ∷ []) own
+      (sym (ap split_sum soft)) (sym (ap order_sum hard)) (ap (line_fits w) soft ∙ nothing_fits w)
 
 -- what is kept behind a tag that is judged behind the items as they are laid out
 module _ (sign : SignData) (items : List Meaning) (kept : Pass) (of : IsFilledOf sign items kept) where

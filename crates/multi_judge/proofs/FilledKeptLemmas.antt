@@ -42,6 +42,7 @@ use Rattle.multi_judge.proofs.FilledJudgedLemmas.{Fills, attributes_here, filled
 use Rattle.multi_judge.proofs.FilledStateLemmas.{filled_state}
 use Rattle.multi_judge.proofs.GroupSumLemmas.{present_push}
 use Rattle.multi_judge.proofs.JudgedLemmas.{no_conflict}
+use Rattle.multi_judge.proofs.FilledBehindLemmas.{filled_of}
 
 none_of_both : (a b : Bool) → first_code ((a, 11) ∷ (b, 5) ∷ []) ≡ None → (a ≡ false) × (b ≡ false)
 none_of_both true b e = cc
@@ -109,21 +110,11 @@ module _ (sign : SignData) (items : List Meaning) (number : ℕ) (cell : CellDat
         let present : area'.present ≡ page_number s.at.page_just = ap (λ (a : Area). a.present) area ∙ (goes_behind sign items number cell found apart).last in
         let count : 1024 * length more ≡ 1024 * length items + 1024 = omega (arith, length-append items (Shows number ∷ [])) in
         let laid : 1024 * length (laid_items Words sign more more) ≡ 1024 * length items + 1024 = ap (λ n. 1024 * n) (laid_count sign more) ∙ count in
-        let group_is : in_group area'.present (present_area sign more) ≡ group_of s (spots sign items) ++ s ∷ [] = ap (λ j. in_group j (present_area sign more)) present ∙ own in
-        record {
-          state_is = filled_state Words sign items number cell found kept.state area' limits' of.state_is area (subst (λ n. IsBelow n area') (sym laid) below);
-          split_is = split ∙ sym (λ i. split_sum (after_last is_break (filled (Some (width_more i)) (group_is i))));
-          order_is = order ∙ ap (λ j. order_sum (after_last is_break (in_group j (present_area sign more)))) (sym present);
-          split_below = subst (λ n. IsSplitBelow n split') (sym count) split_below;
-          limited = limited;
-          area_fits = ap (λ (t : Standing). area_fits t.rectangle.height (area_with sign items number cell found)) ((are_laid Words sign more more [] (sym (append-nil more))).0 ∙ standing_push sign items (Shows number)) ∙ high;
-          fits = λ j. elim (cases_eq (page_number s.at.page_just) j) [
-            | inl same ↦
-                let group : in_group j (present_area sign more) ≡ group_of s (spots sign items) ++ s ∷ [] = ap (λ j. in_group j (present_area sign more)) (sym same) ∙ own in
-                (λ i. line_fits (width_more i) (after_last is_break (filled (Some (width_more i)) (group i)))) ∙ fits
-            | inr differ ↦ (λ i. line_fits (width_more i) (after_last is_break (filled (Some (width_more i)) (other j differ i)))) ∙ of.fits j
-          ];
-        }
+        filled_of sign items more kept (record { state = record kept.state { area = area'; limits = limits' }; split = split'; order = order' }) of
+        (filled_state Words sign items number cell found kept.state area' limits' of.state_is area (subst (λ n. IsBelow n area') (sym laid) below)) limited
+        (ap (λ (t : Standing). area_fits t.rectangle.height (area_with sign items number cell found)) ((are_laid Words sign more more [] (sym (append-nil more))).0 ∙ standing_push sign items (Shows number)) ∙ high)
+        (subst (λ n. IsSplitBelow n split') (sym count) split_below) width_more (page_number s.at.page_just) present other (group_of s (spots sign items) ++ s ∷ []) own split
+        (order ∙ ap (λ l. order_sum (after_last is_break l)) own) fits
 
 -- a character that doesn't offend isn't before the present group
 module _ (sign : SignData) (items : List Meaning) (kept : Pass) (of : IsFilledOf sign items kept) (number : ℕ) (fine : offence Words sign items (Shows number) ≡ None) where
