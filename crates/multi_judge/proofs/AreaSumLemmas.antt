@@ -3,22 +3,20 @@ use Rattle.std.proofs.Common.{◌≡◌, inl, inr, ℕ, ◌<◌, ◌≤◌, Bool
 use Rattle.multi_tag.specs.Just.{page_number}
 use Rattle.multi_meaning.specs.Words.{largest}
 use Rattle.std.specs.Prelude.{nat_lt}
-use Rattle.std.specs.List.{list_any, after_last, All}
-use Rattle.std.proofs.Math.Bool.{or-false}
-use Rattle.std.proofs.lemmas.Bool.{cases_eq, cases_lt, eq-eqb, false≢true, le-ltb, lt-ltb, ne_eqb}
-use Rattle.std.proofs.lemmas.List.Elements.{All-push, All-weaker}
+use Rattle.std.specs.List.{list_any, after_last}
+use Rattle.std.proofs.lemmas.Bool.{ltb-false, or_parts, cases_eq, cases_lt, eq-eqb, le-ltb, lt-ltb, ne_eqb}
+use Rattle.std.proofs.lemmas.List.Elements.{All-head, All-weaker}
 use Rattle.sign_font.specs.declared.parts.LineFill.TheVariants.{Off}
 use Rattle.multi_meaning.specs.Address.{Spot, is_glyph, is_break, area_of, in_group, line_before, lines_of}
 use Rattle.multi_meaning.specs.Fit.{line_fits, area_fits}
 use Rattle.multi_meaning.specs.Line.{height_of}
 use Rattle.multi_meaning.specs.Laid.{too_big}
 use Rattle.multi_meaning.specs.Offence.{goes_back, clashes, conflicts}
-use Rattle.multi_meaning.specs.kept.Present.{IsPlacing}
+use Rattle.multi_tag.proofs.JustLemmas.{page_number_known}
 use Rattle.multi_meaning.proofs.WordLemmas.{largest_most, largest_push}
 use Rattle.multi_meaning.proofs.AreaLemmas.{filter_none}
 use Rattle.multi_meaning.proofs.CheckLemmas.{group_goes_back}
-use Rattle.multi_meaning.proofs.GroupLemmas.{break_put, own_group, placing_group, area_placing, in_group_other}
-use Rattle.multi_judge.proofs.LineSumLemmas.{cond_zero}
+use Rattle.multi_meaning.proofs.GroupLemmas.{break_put, own_group, in_group_other}
 use Rattle.multi_judge.specs.declared.area.Area.{Area}
 use Rattle.multi_judge.specs.declared.area.Group.{Group}
 use Rattle.multi_judge.specs.Sums.{group_sum, area_sum, area_sum_in, height_before, line_sum}
@@ -31,44 +29,12 @@ group_behind just area less =
     (All-weaker (λ (t : Spot). page_number t.at.page_just ≤ largest (λ (t : Spot). page_number t.at.page_just) area) (λ t. (page_number t.at.page_just == just) ≡ false)
     (λ t most. ne_eqb (page_number t.at.page_just) just (λ e. omega arith)) area (largest_most (λ t. page_number t.at.page_just) area))
 
--- what answers the height of whatever group it is of
-abbrev pub IsHeightOf : Group → ℕ → Type 0
-IsHeightOf group height = (spots : List Spot) → All IsPlacing spots → group ≡ group_sum spots → height ≡ height_of (lines_of spots)
-
--- an area whose present group becomes a later one
-module _ (area : List Spot) (just : ℕ) (a : Area) (e : a ≡ area_sum area) (later : a.present < just) where
-  present_is : a.present ≡ largest (λ (t : Spot). page_number t.at.page_just) area
-  present_is = ap (λ (a : Area). a.present) e
-
-  -- the height of a group that isn't the present one stays as it was kept
-  kept : (j h : ℕ) → h ≡ height_before (largest (λ (t : Spot). page_number t.at.page_just) area) j area → (a.present ≡ j → ⊥) → h ≡ height_before just j area
-  kept j h is other = elim (cases_lt j a.present) [
-    | inl before ↦
-        is ∙ ap (λ b. cond b (height_of (lines_of (in_group j area))) 0) (lt-ltb j (largest (λ (t : Spot). page_number t.at.page_just) area) (omega (arith, present_is)) ∙ sym (lt-ltb j just (omega arith)))
-    | inr behind ↦
-        let none : height_of (lines_of (in_group j area)) ≡ 0 = ap (λ l. height_of (lines_of l)) (group_behind j area (omega (arith, present_is, other))) in
-        is ∙ ap (λ b. cond b (height_of (lines_of (in_group j area))) 0) (le-ltb j (largest (λ (t : Spot). page_number t.at.page_just) area) (omega (arith, present_is)))
-        ∙ sym (cond_zero (nat_lt j just) (height_of (lines_of (in_group j area))) none)
-  ]
-
-  pub top_kept : (a.present ≡ 2 → ⊥) → a.top ≡ height_before just 2 area
-  top_kept other = kept 2 a.top (ap (λ (a : Area). a.top) e) other
-
-  pub middle_kept : (a.present ≡ 3 → ⊥) → a.middle ≡ height_before just 3 area
-  middle_kept other = kept 3 a.middle (ap (λ (a : Area). a.middle) e) other
-
-  -- the group that was the present one is passed
-  pub height_passed : All IsPlacing area → (j height : ℕ) → a.present ≡ j → IsHeightOf a.group height → height ≡ height_before just j area
-  height_passed placing j height is answer =
-      answer (in_group j area) (placing_group j area placing) (ap (λ (a : Area). a.group) e ∙ ap (λ n. group_sum (in_group n area)) (sym present_is ∙ is))
-      ∙ ap (λ b. cond b (height_of (lines_of (in_group j area))) 0) (sym (lt-ltb j just (omega (arith, is))))
-
-  -- the area then
-  pub area_turned : (top middle : ℕ) (group : Group) → top ≡ height_before just 2 area → middle ≡ height_before just 3 area → group ≡ group_sum []
-      → ◌≡◌ {A = Area} (record { present = just; top = top; middle = middle; group = group }) (area_sum_in just area)
-  area_turned top middle group t m begun =
-      let none : group ≡ group_sum (in_group just area) = begun ∙ ap group_sum (sym (group_behind just area (omega (arith, present_is)))) in
-      rw (t, m, none) refl
+-- an area in which no page justification is largest has no item
+pub empty_area : (area : List Spot) → largest (λ (t : Spot). page_number t.at.page_just) area ≡ 0 → area ≡ []
+empty_area [] e = refl
+empty_area (s ∷ area) e =
+    let f : Spot → ℕ = λ t. page_number t.at.page_just in
+    absurd (omega (arith, e, All-head (λ t. f t ≤ largest f (s ∷ area)) s area (largest_most f (s ∷ area)), (page_number_known s.at.page_just).0))
 
 -- an area that stays in its present group
 pub area_stays : (area : List Spot) (just : ℕ) (a : Area) → a ≡ area_sum area → just ≤ a.present → a.present ≤ just → a ≡ area_sum_in just area
@@ -101,17 +67,6 @@ module _ (area : List Spot) (a : Area) (e : a ≡ area_sum area) where
   most_is : a.present ≡ largest (λ (t : Spot). page_number t.at.page_just) area
   most_is = ap (λ (a : Area). a.present) e
 
-  pub present_height : All IsPlacing area → (just height : ℕ) → just ≡ a.present → IsHeightOf a.group height → height ≡ height_of (lines_of (in_group just area))
-  present_height placing just height own answer =
-      answer (in_group just area) (placing_group just area placing) (ap (λ (a : Area). a.group) e ∙ ap (λ n. group_sum (in_group n area)) (sym (own ∙ most_is)))
-
-  pub other_height : (just h : ℕ) → h ≡ height_before (largest (λ (t : Spot). page_number t.at.page_just) area) just area → (just ≡ a.present → ⊥) → h ≡ height_of (lines_of (in_group just area))
-  other_height just h is other = elim (cases_lt just a.present) [
-    | inl before ↦ is ∙ ap (λ b. cond b (height_of (lines_of (in_group just area))) 0) (lt-ltb just (largest (λ (t : Spot). page_number t.at.page_just) area) (omega (arith, most_is)))
-    | inr behind ↦ is ∙ ap (λ b. cond b (height_of (lines_of (in_group just area))) 0) (le-ltb just (largest (λ (t : Spot). page_number t.at.page_just) area) (omega (arith, most_is)))
-        ∙ sym (ap (λ l. height_of (lines_of l)) (group_behind just area (omega (arith, most_is, other))))
-  ]
-
   pub none_of_later_group : (just : ℕ) → a.present < just → in_group just area ≡ []
   none_of_later_group just later = group_behind just area (omega (arith, most_is))
 
@@ -131,15 +86,28 @@ module _ (area : List Spot) (a : Area) (e : a ≡ area_sum area) where
 back : (before : List Spot) (s : Spot) (page_just most : ℕ) → page_number s.at.page_just ≡ page_just → most ≡ largest (λ t. page_number t.at.page_just) (area_of s before) → nat_lt page_just most ≡ list_any (goes_back s) (area_of s before)
 back before s page_just most page e = ap (λ n. nat_lt n most) (sym page) ∙ ap (nat_lt (page_number s.at.page_just)) e ∙ sym (group_goes_back s (area_of s before))
 
--- a character conflicts if its group is before the present one, or it clashes with one on the present line of its group
+-- an item conflicts if its group is before the present one, or it is a character that clashes with one on the present line of its group
+pub conflict_is : (before : List Spot) (s : Spot) (page_just present : ℕ) → page_number s.at.page_just ≡ page_just → present ≡ largest (λ t. page_number t.at.page_just) (area_of s before)
+    → conflicts before s ≡ (nat_lt page_just present || (is_glyph s && list_any (clashes s) (after_last is_break (in_group page_just (area_of s before)))))
+conflict_is before s page_just present page e =
+    ap (λ b. b || (is_glyph s && list_any (clashes s) (line_before before s))) (sym (back before s page_just present page e))
+    ∙ ap (λ n. nat_lt page_just present || (is_glyph s && list_any (clashes s) (after_last is_break (in_group n (area_of s before))))) page
+
 pub conflicts_character : (before : List Spot) (s : Spot) (page_just present : ℕ) → is_glyph s ≡ true → page_number s.at.page_just ≡ page_just → present ≡ largest (λ t. page_number t.at.page_just) (area_of s before)
     → (nat_lt page_just present || list_any (clashes s) (after_last is_break (in_group page_just (area_of s before)))) ≡ conflicts before s
 conflicts_character before s page_just present g page e =
-    let goes = list_any (goes_back s) (area_of s before) in
-    let clashing = list_any (clashes s) (after_last is_break (in_group page_just (area_of s before))) in
-    ap (λ b. b || clashing) (back before s page_just present page e)
-    ∙ ap (λ n. goes || list_any (clashes s) (after_last is_break (in_group n (area_of s before)))) (sym page)
-    ∙ ap (λ b. goes || (b && list_any (clashes s) (line_before before s))) (sym g)
+    sym (conflict_is before s page_just present page e ∙ ap (λ b. nat_lt page_just present || (b && list_any (clashes s) (after_last is_break (in_group page_just (area_of s before))))) g)
+
+-- one that doesn't conflict isn't before the present group
+pub no_back : (before : List Spot) (s : Spot) (page_just present : ℕ) → page_number s.at.page_just ≡ page_just → present ≡ largest (λ t. page_number t.at.page_just) (area_of s before) → conflicts before s ≡ false → present ≤ page_just
+no_back before s page_just present page e none = ltb-false page_just present (or_parts _ _ (sym (conflict_is before s page_just present page e) ∙ none)).0
+
+-- and clashes with none on the present line of its group, if it is a character
+pub no_clash : (before : List Spot) (s : Spot) (page_just : ℕ) → is_glyph s ≡ true → page_number s.at.page_just ≡ page_just → conflicts before s ≡ false
+    → list_any (clashes s) (after_last is_break (in_group page_just (area_of s before))) ≡ false
+no_clash before s page_just g page none =
+    ap (λ b. b && list_any (clashes s) (after_last is_break (in_group page_just (area_of s before)))) (sym g)
+    ∙ (or_parts _ _ (sym (conflict_is before s page_just (largest (λ t. page_number t.at.page_just) (area_of s before)) page refl) ∙ none)).1
 
 -- a character on a line with this clash, if its group is the present one
 clash_by : (before : List Spot) (s : Spot) (page_just present : ℕ) (clash : Bool) → present ≡ largest (λ (t : Spot). page_number t.at.page_just) (area_of s before)
@@ -160,37 +128,6 @@ clash_by before s page_just present clash e c = elim (cases_eq page_just present
 pub conflicts_kept : (before : List Spot) (s : Spot) (page_just present : ℕ) (clash : Bool) → is_glyph s ≡ true → page_number s.at.page_just ≡ page_just → present ≡ largest (λ t. page_number t.at.page_just) (area_of s before)
     → clash ≡ list_any (clashes s) (after_last is_break (in_group present (area_of s before))) → (nat_lt page_just present || ((page_just == present) && clash)) ≡ conflicts before s
 conflicts_kept before s page_just present clash g page e c = clash_by before s page_just present clash e c ∙ conflicts_character before s page_just present g page e
-
--- an item that doesn't conflict isn't before the present group
-pub no_back : (before : List Spot) (s : Spot) (page_just present : ℕ) → page_number s.at.page_just ≡ page_just → present ≡ largest (λ t. page_number t.at.page_just) (area_of s before) → conflicts before s ≡ false → present ≤ page_just
-no_back before s page_just present page e none = elim (cases_lt page_just present) [
-  | inl goes ↦ absurd (false≢true (sym (left _ _ none) ∙ sym (back before s page_just present page e) ∙ lt-ltb page_just present goes))
-  | inr on ↦ on
-]
-  where
-    left : (a b : Bool) → (a || b) ≡ false → a ≡ false
-    left true b h = absurd (false≢true (sym h))
-    left false b h = refl
-
-pub conflicts_break : (before : List Spot) (s : Spot) (page_just most : ℕ) → is_glyph s ≡ false → page_number s.at.page_just ≡ page_just → most ≡ largest (λ t. page_number t.at.page_just) (area_of s before)
-    → nat_lt page_just most ≡ conflicts before s
-conflicts_break before s page_just most g page e =
-    let goes = list_any (goes_back s) (area_of s before) in
-    back before s page_just most page e
-    ∙ sym (or-false goes)
-    ∙ ap (λ b. goes || (b && list_any (clashes s) (line_before before s))) (sym g)
-
--- a character that doesn't conflict clashes with none on the present line of its group
-pub no_clash : (before : List Spot) (s : Spot) (page_just : ℕ) → is_glyph s ≡ true → page_number s.at.page_just ≡ page_just → conflicts before s ≡ false
-    → list_any (clashes s) (after_last is_break (in_group page_just (area_of s before))) ≡ false
-no_clash before s page_just g page none =
-    ap (λ n. list_any (clashes s) (after_last is_break (in_group n (area_of s before)))) (sym page)
-    ∙ ap (λ b. b && list_any (clashes s) (line_before before s)) (sym g)
-    ∙ or_right (list_any (goes_back s) (area_of s before)) (is_glyph s && list_any (clashes s) (line_before before s)) none
-  where
-    or_right : (a b : Bool) → (a || b) ≡ false → b ≡ false
-    or_right true b h = absurd (false≢true (sym h))
-    or_right false b h = h
 
 -- FIT
 
@@ -226,9 +163,3 @@ fits_break before s height area b h a =
     a ∙ ap (λ n. area_fits n (area_of s before ++ s ∷ [])) (sym h)
     ∙ no_line (area_fits s.at.rectangle.height (area_of s before ++ s ∷ []))
     ∙ ap (λ b. not ((b && not (line_fits s.at.rectangle.width more)) || not (area_fits s.at.rectangle.height (area_of s before ++ s ∷ [])))) (sym (break_put s.at s.put b))
-
-pub placing_character : (before : List Spot) (s : Spot) → is_glyph s ≡ true → All IsPlacing (area_of s before ++ s ∷ [])
-placing_character before s g = All-push IsPlacing (area_of s before) s (area_placing before s) (inl g)
-
-pub placing_break : (before : List Spot) (s : Spot) → is_break s ≡ true → All IsPlacing (area_of s before ++ s ∷ [])
-placing_break before s b = All-push IsPlacing (area_of s before) s (area_placing before s) (inr b)

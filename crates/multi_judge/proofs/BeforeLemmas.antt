@@ -25,8 +25,8 @@ use Rattle.multi_judge.specs.declared.line.Segment.{Segment}
 use Rattle.multi_judge.specs.State.{group_room}
 use Rattle.multi_judge.specs.Run.{FitsBefore, kept_height, kept_width, lengthened_line}
 use Rattle.multi_judge.specs.Sums.{area_sum, line_sum}
-use Rattle.multi_judge.proofs.LineSumLemmas.{segment_other}
-use Rattle.multi_judge.proofs.RunLemmas.{kept_group_height, kept_group_height_is, kept_width_is}
+use Rattle.multi_judge.proofs.LineSumLemmas.{kept_width_is, segment_other}
+use Rattle.multi_judge.proofs.RunLemmas.{kept_group_height, kept_group_height_is}
 
 -- ---- the line of a character
 
@@ -67,7 +67,7 @@ module _ (height : ℕ) (area more : List Spot) (page : ℕ) (others : (just : �
     | inr other ↦
         let kept : kept_before just a ≡ kept_group_height just a = rw (ne_eqb just a.present other) refl in
         let without = ap (λ l. height_of (lines_of l)) (others just (λ h. other (h ∙ sym own))) in
-        omega (arith, kept, kept_group_height_is more a just placing e low high known, without)
+        omega (arith, kept, kept_group_height_is more a e placing just low high known, without)
   ]
 
   pub groups_fit_before : GroupsFitBefore height a

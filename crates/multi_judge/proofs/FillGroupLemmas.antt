@@ -1,9 +1,9 @@
 -- The sums of a filled group at one more character, in each case that filling tells apart.
-use Rattle.std.proofs.Common.{◌≡◌, ◌≤◌, inl, inr, ℕ, Bool, true, false, cond, ◌&&◌, ◌==◌, arith, List, [], ◌∷◌, ◌++◌, Option, Some, None, refl, sym, ap, subst, ◌∙◌, append_assoc, append-nil}
+use Rattle.std.proofs.Common.{◌≡◌, ◌≤◌, inl, inr, ℕ, Bool, true, false, cond, not, ◌&&◌, ◌==◌, arith, List, [], ◌∷◌, ◌++◌, Option, Some, None, refl, sym, ap, subst, ◌∙◌, append_assoc, append-nil}
 use Rattle.std.specs.List.{after_last, list_any, All, AllPass}
 use Rattle.std.specs.Option.{option_map}
 use Rattle.std.specs.Prelude.{nat_le}
-use Rattle.std.proofs.lemmas.Bool.{and_from, and_parts}
+use Rattle.std.proofs.lemmas.Bool.{and_from, and_parts, false≢true}
 use Rattle.std.proofs.lemmas.List.Sums.{sum_by-append}
 use Rattle.multi_tag.specs.Just.{line_number}
 use Rattle.multi_meaning.specs.Line.{char_gap, glyph_width, width_of}
@@ -11,10 +11,10 @@ use Rattle.multi_meaning.specs.Words.{successive}
 use Rattle.multi_meaning.proofs.FillLemmas.{le_test}
 use Rattle.multi_meaning.proofs.FitLemmas.{smaller_fits}
 use Rattle.std.proofs.lemmas.List.Elements.{All-nil, All-cons, All-head, All-tail}
-use Rattle.sign_font.specs.Sign.{info_of}
+use Rattle.multi_meaning.proofs.WordLemmas.{All-around, none_mapped}
 use Rattle.multi_meaning.specs.Address.{Spot, is_break, is_glyph, segment}
 use Rattle.multi_meaning.specs.Fit.{fit, line_fits}
-use Rattle.multi_meaning.specs.Filling.{CutAt, cut_at_last, dropped, filled, is_space}
+use Rattle.multi_meaning.specs.Filling.{cut_at_last, dropped, filled, is_space}
 use Rattle.multi_meaning.specs.Offence.{clashes}
 use Rattle.multi_meaning.specs.kept.Present.{IsPlacing, ended_lines}
 use Rattle.multi_meaning.proofs.FilledEndedLemmas.{broken_line}
@@ -29,10 +29,14 @@ use Rattle.multi_judge.specs.declared.area.Group.{Group}
 use Rattle.multi_judge.specs.declared.fill.Split.{Split}
 use Rattle.multi_judge.specs.declared.line.Character.{Character}
 use Rattle.multi_judge.specs.declared.line.Line.{Line}
-use Rattle.multi_judge.specs.FillSums.{EndsLine, parts_sum, split_sum}
+use Rattle.multi_judge.specs.Adding.{PutsCharacter}
+use Rattle.multi_judge.specs.FillSums.{BreaksGroup, EndsLine, parts_sum, split_sum}
+use Rattle.multi_judge.specs.Run.{FitsBefore}
+use Rattle.multi_judge.specs.State.{IsMost, segment_room}
 use Rattle.multi_judge.specs.Sums.{IsBreak, IsCharacter, group_sum, line_sum}
 use Rattle.multi_judge.proofs.BreakLemmas.{all_glyphs, none_behind, relined}
-use Rattle.multi_judge.proofs.FillSplitLemmas.{no_split, parts_of}
+use Rattle.multi_judge.proofs.FillSplitLemmas.{parts_of, split_none}
+use Rattle.multi_judge.proofs.LimitLemmas.{fits_behind, none_before, told_behind}
 use Rattle.multi_judge.proofs.GroupSumLemmas.{present_push}
 
 -- a segment is as wide as what stands behind its first character, or wider
@@ -91,175 +95,138 @@ laid_placing (x ∷ xs) (y ∷ ys) h k = All-cons IsPlacing y ys (laid_one x y (
 pub filled_placing : (o : Option ℕ) (group : List Spot) → All IsPlacing group → All IsPlacing (filled o group)
 filled_placing o group placing = laid_placing group (filled o group) placing (filled_laid o group placing)
 
-all_left : (P : Spot → Type 0) (xs ys : List Spot) → All P (xs ++ ys) → All P xs
-all_left P [] ys h = All-nil P
-all_left P (x ∷ xs) ys h = All-cons P x xs (All-head P x (xs ++ ys) h) (all_left P xs ys (All-tail P x (xs ++ ys) h))
+-- a character joins a group whose lines are filled to this width, and these are the group's sums: its open line fits, and the character
+-- clashes with none of it
+pub record Joins (width : ℕ) (group : List Spot) (s : Spot) (character : Character) (self : Group) : Type 0 where
+  pub placing : All IsPlacing group
+  pub is : IsCharacter s character
+  pub fits : line_fits width (after_last is_break (filled (Some width) group)) ≡ true
+  pub apart : list_any (clashes s) (after_last is_break (filled (Some width) group)) ≡ false
+  pub sum : self ≡ group_sum (filled (Some width) group)
 
-item_glyph : (xs : List Spot) (x : Spot) (ys : List Spot) → AllPass is_glyph (xs ++ x ∷ ys) → is_glyph x ≡ true
-item_glyph [] x ys h = All-head (λ x. is_glyph x ≡ true) x ys h
-item_glyph (z ∷ xs) x ys h = item_glyph xs x ys (All-tail (λ x. is_glyph x ≡ true) z (xs ++ x ∷ ys) h)
+-- these are then the group's sums, those around the last space of its open line, and the line that is ended, if one is
+abbrev pub Joined : ℕ → List Spot → Spot → Group → Option Split → Option Line → Type 0
+Joined width group s new split ended =
+    (new ≡ group_sum (filled (Some width) (group ++ s ∷ []))) × (split ≡ split_sum (after_last is_break (filled (Some width) (group ++ s ∷ []))))
+    × EndsLine (filled (Some width) group) (filled (Some width) (group ++ s ∷ [])) ended × FitsBefore width new.line
 
-module _ (width : ℕ) (group : List Spot) (s : Spot) (character : Character) (placing : All IsPlacing group) (is : IsCharacter s character)
-    (fits' : line_fits width (after_last is_break (filled (Some width) group)) ≡ true) (apart : list_any (clashes s) (after_last is_break (filled (Some width) group)) ≡ false)
-    (self : Group) (e : self ≡ group_sum (filled (Some width) group)) where
+module _ {width : ℕ} {group : List Spot} {s : Spot} {character : Character} {self : Group} (j : Joins width group s character self) where
+  abbrev old : List Spot
+  old = filled (Some width) group
+
+  abbrev open' : List Spot
+  open' = after_last is_break old
+
   abbrev front : List Spot
   front = ended width group
 
   abbrev line : List Spot
   line = open_line width group
 
-  abbrev more : List Spot
-  more = filled (Some width) (group ++ s ∷ [])
-
-  line_is : after_last is_break (filled (Some width) group) ≡ line
-  line_is = open_line_is width group placing
+  line_is : open' ≡ line
+  line_is = open_line_is width group j.placing
 
   fits : line_fits width line ≡ true
-  fits = ap (line_fits width) (sym line_is) ∙ fits'
+  fits = ap (line_fits width) (sym line_is) ∙ j.fits
 
-  glyphs : AllPass is_glyph line
-  glyphs = open_line_glyphs width group placing
+  pub present_glyphs : AllPass is_glyph open'
+  present_glyphs = subst (AllPass is_glyph) (sym line_is) (open_line_glyphs width group j.placing)
 
-  pub present_glyphs : AllPass is_glyph (after_last is_break (filled (Some width) group))
-  present_glyphs = subst (AllPass is_glyph) (sym line_is) glyphs
+  pub present_line : self.line ≡ line_sum open'
+  present_line = ap (λ (g : Group). g.line) j.sum
 
-  pub present_line : self.line ≡ line_sum (after_last is_break (filled (Some width) group))
-  present_line = ap (λ (g : Group). g.line) e
+  whole : All IsPlacing old
+  whole = filled_placing (Some width) group j.placing
 
-  none : after_last is_break front ≡ []
-  none = after_last_is is_break front ∙ ends_open width front (ended_ends width group placing)
+  all_is : old ≡ front ++ line
+  all_is = filled_is width group j.placing
 
-  whole : All IsPlacing (filled (Some width) group)
-  whole = filled_placing (Some width) group placing
+  glyphs_more : (l : List Spot) → AllPass is_glyph l → AllPass is_glyph (l ++ s ∷ [])
+  glyphs_more l glyphs = all_glyphs l s [] glyphs j.is.glyph (All-nil (λ x. is_glyph x ≡ true))
 
-  all_is : filled (Some width) group ≡ front ++ line
-  all_is = filled_is width group placing
+  -- the open line with it, and the most that its present segment may have then
+  pub put_line : (r : Bool) (grown : Line) (most most' : ℕ)
+      → ((l : List Spot) (t : Spot) → AllPass is_glyph l → self.line ≡ line_sum l → t.at.line_just ≡ character.just → not r ≡ list_any (clashes t) l)
+      → (r ≡ true → PutsCharacter self.line character grown) → (IsMost width self.line most → IsMost width grown most') → IsMost width self.line most
+      → (grown ≡ line_sum (open' ++ s ∷ [])) × (most' ≡ segment_room grown width)
+  put_line true grown most most' apart puts room is = ((puts refl).sum open' s present_glyphs j.is present_line j.apart, room is (puts refl).behind.any)
+  put_line false grown most most' apart puts room is =
+      absurd (false≢true (sym j.apart ∙ sym (apart open' s present_glyphs present_line (sym j.is.just))))
 
-  glyphs_more : AllPass is_glyph (line ++ s ∷ [])
-  glyphs_more = all_glyphs line s [] glyphs is.glyph (All-nil (λ x. is_glyph x ≡ true))
+  module _ (grown : Line) (sum : grown ≡ line_sum (open' ++ s ∷ [])) (most : ℕ) (room : most ≡ segment_room grown width) where
+    answer : nat_le grown.part.width most ≡ line_fits width (line ++ s ∷ [])
+    answer = told_behind width open' s grown sum j.apart j.fits most room ∙ ap (λ l. line_fits width (l ++ s ∷ [])) line_is
 
-  -- the line with the character, as it fits
-  module _ (grown : Line) (sum : grown ≡ line_sum (after_last is_break (filled (Some width) group) ++ s ∷ [])) (r : Bool) (answer : r ≡ line_fits width (after_last is_break (filled (Some width) group) ++ s ∷ [])) where
-    sum' : grown ≡ line_sum (line ++ s ∷ [])
-    sum' = sum ∙ ap (λ l. line_sum (l ++ s ∷ [])) line_is
+    -- it stands on the open line, and no line is ended
+    on_line : filled (Some width) (group ++ s ∷ []) ≡ old ++ s ∷ [] → (split : Option Split) → split ≡ split_sum (open' ++ s ∷ [])
+        → Joined width group s (with_line self grown) split None
+    on_line is split parts =
+        let glyphs = open_line_glyphs width group j.placing in
+        let none : after_last is_break front ≡ [] = after_last_is is_break front ∙ ends_open width front (ended_ends width group j.placing) in (
+          lined_anew front line (line ++ s ∷ []) none glyphs (glyphs_more line glyphs) self (j.sum ∙ ap group_sum all_is) grown
+              (sum ∙ ap (λ l. line_sum (l ++ s ∷ [])) line_is)
+              ∙ ap group_sum (sym (append_assoc front line (s ∷ [])) ∙ ap (λ l. l ++ s ∷ []) (sym all_is) ∙ sym is),
+          parts ∙ ap split_sum (sym (present_push old s j.is.glyph) ∙ ap (after_last is_break) (sym is)),
+          ap ended_lines is ∙ ended_glyph old s j.is.glyph,
+          fits_behind width open' s grown sum j.apart j.fits,
+        )
 
-    r_is : r ≡ line_fits width (line ++ s ∷ [])
-    r_is = answer ∙ ap (λ l. line_fits width (l ++ s ∷ [])) line_is
+    -- since it fits
+    pub stands_there : nat_le grown.part.width most ≡ true → (split : Option Split) → split ≡ split_sum (open' ++ s ∷ [])
+        → Joined width group s (with_line self grown) split None
+    stands_there fit = on_line (stands width group s j.placing j.is.glyph fits (sym answer ∙ fit))
 
-    one_more : with_line self grown ≡ group_sum (filled (Some width) group ++ s ∷ [])
-    one_more =
-        lined_anew front line (line ++ s ∷ []) none glyphs glyphs_more self (e ∙ ap group_sum all_is) grown sum'
-        ∙ ap group_sum (sym (append_assoc front line (s ∷ [])) ∙ ap (λ l. l ++ s ∷ []) (sym all_is))
+    -- or since the line has no space
+    pub stays_there : nat_le grown.part.width most ≡ false → is_space s ≡ false → None ≡ split_sum open' → Joined width group s (with_line self grown) None None
+    stays_there big word none =
+        on_line (stays width group s j.placing j.is.glyph fits (sym answer ∙ big) word
+        (ap (cut_at_last is_space) (sym line_is) ∙ none_mapped parts_sum (cut_at_last is_space open') (sym none))) None (split_none open' s word none)
 
-    -- it stands there
-    pub stands_sum : r ≡ true → with_line self grown ≡ group_sum more
-    stands_sum h = one_more ∙ ap group_sum (sym (stands width group s placing is.glyph fits (sym r_is ∙ h)))
+    -- it is a space that is dropped, and ends its line
+    pub drops_there : nat_le grown.part.width most ≡ false → is_space s ≡ true → (new : Group)
+        → ((g : List Spot) (t : Spot) → All IsPlacing g → self ≡ group_sum g → IsBreak t None character.font → new ≡ group_sum (g ++ t ∷ []))
+        → Joined width group s new None (Some self.line)
+    drops_there big space new ends =
+        let is = drops width group s j.placing j.is.glyph fits (sym answer ∙ big) space in
+        let empty = ap (after_last is_break) is ∙ none_behind old (dropped s) refl in
+        let all = ends old (dropped s) whole j.sum (record { put = refl; font = j.is.font }) ∙ ap group_sum (sym is) in (
+          all,
+          ap split_sum (sym empty),
+          (open', dropped s, present_line, ([], sym (append-nil open')), refl, ap ended_lines is ∙ ended_break old (dropped s) refl),
+          none_before width new.line (ap (λ (g : Group). g.line) all ∙ ap line_sum empty),
+        )
 
-    pub stands_line : r ≡ true → after_last is_break more ≡ after_last is_break (filled (Some width) group) ++ s ∷ []
-    stands_line h = ap (after_last is_break) (stands width group s placing is.glyph fits (sym r_is ∙ h)) ∙ present_push (filled (Some width) group) s is.glyph
-
-    -- then no line is ended
-    pub stands_ended : r ≡ true → EndsLine (filled (Some width) group) more None
-    stands_ended h = ap ended_lines (stands width group s placing is.glyph fits (sym r_is ∙ h)) ∙ ended_glyph (filled (Some width) group) s is.glyph
-
-    -- it is a space that is dropped
-    pub drops_sum : r ≡ false → is_space s ≡ true → (result : Group)
-        → ((g : List Spot) (t : Spot) → All IsPlacing g → self ≡ group_sum g → IsBreak t None character.font → result ≡ group_sum (g ++ t ∷ [])) → result ≡ group_sum more
-    drops_sum h space result ends =
-        ends (filled (Some width) group) (dropped s) whole e (record { put = refl; font = is.font })
-        ∙ ap group_sum (sym (drops width group s placing is.glyph fits (sym r_is ∙ h) space))
-
-    -- nothing stands behind it
-    pub drops_line : r ≡ false → is_space s ≡ true → after_last is_break more ≡ []
-    drops_line h space = ap (after_last is_break) (drops width group s placing is.glyph fits (sym r_is ∙ h) space) ∙ none_behind (filled (Some width) group) (dropped s) refl
-
-    pub drops_split : r ≡ false → is_space s ≡ true → ◌≡◌ {A = Option Split} None (split_sum (after_last is_break more))
-    drops_split h space = ap split_sum (sym (drops_line h space))
-
-    -- it ends its line
-    pub drops_ended : r ≡ false → is_space s ≡ true → EndsLine (filled (Some width) group) more (Some self.line)
-    drops_ended h space = (
-      after_last is_break (filled (Some width) group),
-      dropped s,
-      present_line,
-      ([], sym (append-nil (after_last is_break (filled (Some width) group)))),
-      refl,
-      ap ended_lines (drops width group s placing is.glyph fits (sym r_is ∙ h) space) ∙ ended_break (filled (Some width) group) (dropped s) refl,
-    )
-
-    -- it stays on a line that has no space
-    no_space : None ≡ split_sum (after_last is_break (filled (Some width) group)) → cut_at_last is_space line ≡ None
-    no_space o = ap (cut_at_last is_space) (sym line_is) ∙ no_split (cut_at_last is_space (after_last is_break (filled (Some width) group))) (sym o)
-
-    pub stays_sum : r ≡ false → is_space s ≡ false → None ≡ split_sum (after_last is_break (filled (Some width) group)) → with_line self grown ≡ group_sum more
-    stays_sum h word o = one_more ∙ ap group_sum (sym (stays width group s placing is.glyph fits (sym r_is ∙ h) word (no_space o)))
-
-    pub stays_line : r ≡ false → is_space s ≡ false → None ≡ split_sum (after_last is_break (filled (Some width) group)) → after_last is_break more ≡ after_last is_break (filled (Some width) group) ++ s ∷ []
-    stays_line h word o = ap (after_last is_break) (stays width group s placing is.glyph fits (sym r_is ∙ h) word (no_space o)) ∙ present_push (filled (Some width) group) s is.glyph
-
-    pub stays_ended : r ≡ false → is_space s ≡ false → None ≡ split_sum (after_last is_break (filled (Some width) group)) → EndsLine (filled (Some width) group) more None
-    stays_ended h word o = ap ended_lines (stays width group s placing is.glyph fits (sym r_is ∙ h) word (no_space o)) ∙ ended_glyph (filled (Some width) group) s is.glyph
-
-    -- the line is broken at its last space
-    module _ (h : r ≡ false) (word : is_space s ≡ false) (parts : Split) (o : Some parts ≡ split_sum (after_last is_break (filled (Some width) group))) where
-      abbrev cut_there : (c : CutAt Spot) × (cut_at_last is_space (after_last is_break (filled (Some width) group)) ≡ Some c) × (parts_sum c ≡ parts) × AllPass is_glyph c.before × AllPass is_glyph c.behind × (list_any (clashes s) c.behind ≡ false)
-      cut_there = parts_of (after_last is_break (filled (Some width) group)) s parts present_glyphs apart o
-
-      abbrev c : CutAt Spot
-      c = cut_there.0
-
-      found : cut_at_last is_space line ≡ Some c
-      found = ap (cut_at_last is_space) (sym line_is) ∙ cut_there.1
-
-      line_parts : line ≡ c.before ++ c.item ∷ c.behind
-      line_parts = (is_cut is_space line c found).parts
-
-      -- what stands behind it fits, since the whole line did
-      pub behind_fits : line_fits width c.behind ≡ true
-      behind_fits = part_fits width (c.before ++ c.item ∷ []) c.behind (ap (line_fits width) (append_assoc c.before (c.item ∷ []) c.behind ∙ sym line_parts) ∙ fits)
-
-      abbrev broken_front : List Spot
-      broken_front = (front ++ c.before) ++ dropped c.item ∷ []
-
-      glyphs_behind : AllPass is_glyph (c.behind ++ s ∷ [])
-      glyphs_behind = all_glyphs c.behind s [] cut_there.4 is.glyph (All-nil (λ x. is_glyph x ≡ true))
-
-      more_is : more ≡ broken_front ++ (c.behind ++ s ∷ [])
-      more_is = breaks width group s placing is.glyph fits c (sym r_is ∙ h) word found
-
-      -- what stands before it is ended
-      pub breaks_ended : EndsLine (filled (Some width) group) more (Some parts.before)
-      breaks_ended = (
-        c.before,
-        dropped c.item,
-        ap (λ (p : Split). p.before) (sym cut_there.2),
-        (c.item ∷ c.behind, line_is ∙ line_parts),
-        refl,
-        broken_line width group s placing is.glyph fits c (sym r_is ∙ h) word found,
-      )
-
-      module _ (first : Group) (breaks_at : (front before behind : List Spot) (space : Spot) → All IsPlacing (front ++ before) → after_last is_break front ≡ [] → AllPass is_glyph before → AllPass is_glyph behind → is_glyph space ≡ true
-          → self ≡ group_sum (front ++ (before ++ space ∷ behind)) → parts.before ≡ line_sum before → parts.font ≡ info_of space.at.font → parts.behind ≡ line_sum behind
-          → first ≡ group_sum (((front ++ before) ++ dropped space ∷ []) ++ behind)) where
-        broken_is : first ≡ group_sum (broken_front ++ c.behind)
-        broken_is =
-            breaks_at front c.before c.behind c.item
-            (all_left IsPlacing (front ++ c.before) (c.item ∷ c.behind) (subst (All IsPlacing) (all_is ∙ ap (λ l. front ++ l) line_parts ∙ sym (append_assoc front c.before (c.item ∷ c.behind))) whole))
-            none cut_there.3 cut_there.4 (item_glyph c.before c.item c.behind (subst (AllPass is_glyph) line_parts glyphs))
-            (e ∙ ap group_sum (all_is ∙ ap (λ l. front ++ l) line_parts))
-            (ap (λ (p : Split). p.before) (sym cut_there.2)) (ap (λ (p : Split). p.font) (sym cut_there.2)) (ap (λ (p : Split). p.behind) (sym cut_there.2))
-
-        empty : after_last is_break broken_front ≡ []
-        empty = none_behind (front ++ c.before) (dropped c.item) refl
-
-        -- what begins the next line, and nothing there clashes
-        pub next_line : (AllPass is_glyph c.behind) × (first.line ≡ line_sum c.behind) × (list_any (clashes s) c.behind ≡ false)
-        next_line = (cut_there.4, ap (λ (g : Group). g.line) broken_is ∙ ap line_sum (line_behind broken_front c.behind empty cut_there.4), cut_there.5)
-
-        pub breaks_sum : (next : Line) → next ≡ line_sum (c.behind ++ s ∷ []) → with_line first next ≡ group_sum more
-        breaks_sum next n = lined_anew broken_front c.behind (c.behind ++ s ∷ []) empty cut_there.4 glyphs_behind first broken_is next n ∙ ap group_sum (sym more_is)
-
-        pub breaks_split : ◌≡◌ {A = Option Split} None (split_sum (after_last is_break more))
-        breaks_split =
-            ap (option_map parts_sum) (sym (word_grows c.behind s None word (is_cut is_space line c found).last))
-            ∙ ap split_sum (sym (ap (after_last is_break) more_is ∙ line_behind broken_front (c.behind ++ s ∷ []) empty glyphs_behind))
+    -- the line is broken at its last space: what stands before it is ended, and what stands behind it fits, since the whole line did
+    pub breaks_there : nat_le grown.part.width most ≡ false → is_space s ≡ false → (parts : Split) → Some parts ≡ split_sum open' → (first : Group)
+        → BreaksGroup self parts first → (next : Line)
+        → ((l : List Spot) → AllPass is_glyph l → first.line ≡ line_sum l → list_any (clashes s) l ≡ false → next ≡ line_sum (l ++ s ∷ []))
+        → Joined width group s (with_line first next) None (Some parts.before)
+    breaks_there big word parts o first breaks_at next puts =
+        let (c, found', same, before, behind, away) = parts_of open' s parts present_glyphs j.apart o in
+        let found = ap (cut_at_last is_space) (sym line_is) ∙ found' in
+        let cut = is_cut is_space line c found in
+        let glyphs = open_line_glyphs width group j.placing in
+        let none : after_last is_break front ≡ [] = after_last_is is_break front ∙ ends_open width front (ended_ends width group j.placing) in
+        let broken = (front ++ c.before) ++ dropped c.item ∷ [] in
+        let is = breaks width group s j.placing j.is.glyph fits c (sym answer ∙ big) word found in
+        let parted = all_is ∙ ap (λ l. front ++ l) cut.parts in
+        let around = All-around IsPlacing (front ++ c.before) c.item c.behind (subst (All IsPlacing) (parted ∙ sym (append_assoc front c.before (c.item ∷ c.behind))) whole) in
+        let space = (All-around (λ x. is_glyph x ≡ true) c.before c.item c.behind (subst (AllPass is_glyph) cut.parts glyphs)).1 in
+        let first_is = breaks_at front c.before c.behind c.item around.0 none before behind space (j.sum ∙ ap group_sum parted)
+        (ap (λ (p : Split). p.before) (sym same)) (ap (λ (p : Split). p.font) (sym same)) (ap (λ (p : Split). p.behind) (sym same)) in
+        let empty = none_behind (front ++ c.before) (dropped c.item) refl in
+        let next_is = puts c.behind behind (ap (λ (g : Group). g.line) first_is ∙ ap line_sum (line_behind broken c.behind empty behind)) away in
+        let behind_fits = part_fits width (c.before ++ c.item ∷ []) c.behind (ap (line_fits width) (append_assoc c.before (c.item ∷ []) c.behind ∙ sym cut.parts) ∙ fits) in (
+          lined_anew broken c.behind (c.behind ++ s ∷ []) empty behind (glyphs_more c.behind behind) first first_is next next_is ∙ ap group_sum (sym is),
+          ap (option_map parts_sum) (sym (word_grows c.behind s None word cut.last))
+              ∙ ap split_sum (sym (ap (after_last is_break) is ∙ line_behind broken (c.behind ++ s ∷ []) empty (glyphs_more c.behind behind))),
+          (
+            c.before,
+            dropped c.item,
+            ap (λ (p : Split). p.before) (sym same),
+            (c.item ∷ c.behind, line_is ∙ cut.parts),
+            refl,
+            broken_line width group s j.placing j.is.glyph fits c (sym answer ∙ big) word found,
+          ),
+          fits_behind width c.behind s next next_is away behind_fits,
+        )

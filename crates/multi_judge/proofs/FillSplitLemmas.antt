@@ -1,5 +1,5 @@
 -- The sums around the last space of a line, at one more character.
-use Rattle.std.proofs.Common.{◌≡◌, ℕ, ◌+◌, true, false, List, [], ◌∷◌, ◌++◌, Option, Some, None, refl, sym, ap, subst, ◌∙◌, arith}
+use Rattle.std.proofs.Common.{◌≡◌, true, false, List, [], ◌∷◌, ◌++◌, Option, Some, None, sym, ap, subst, ◌∙◌}
 use Rattle.std.proofs.lemmas.Bool.{or_parts}
 use Rattle.std.specs.List.{AllPass, list_any}
 use Rattle.std.specs.Option.{option_map}
@@ -14,26 +14,21 @@ use Rattle.multi_judge.specs.declared.fill.Split.{Split}
 use Rattle.multi_judge.specs.declared.line.Character.{Character}
 use Rattle.multi_judge.specs.declared.line.Line.{Line}
 use Rattle.multi_judge.specs.FillSums.{parts_sum, split_sum}
-use Rattle.multi_judge.specs.Sums.{IsCharacter, IsLineBelow, line_sum}
-
-some_split : (split : Split) (o : Option (CutAt Spot)) → option_map parts_sum o ≡ Some split → (c : CutAt Spot) × (o ≡ Some c) × (parts_sum c ≡ split)
-some_split split None e = absurd cc
-some_split split (Some c) e = (c, refl, (let same : parts_sum c ≡ split = cc in same))
-
-pub no_split : (o : Option (CutAt Spot)) → option_map parts_sum o ≡ None → o ≡ None
-no_split None e = refl
-no_split (Some c) e = absurd cc
+use Rattle.multi_judge.specs.Sums.{IsCharacter, line_sum}
+use Rattle.multi_meaning.proofs.WordLemmas.{none_mapped}
+use Rattle.multi_judge.proofs.JudgedLemmas.{some_mapped}
+use Rattle.std.proofs.lemmas.List.Folds.{list_any-append}
 
 -- what doesn't clash with a line doesn't with its end
 pub no_clash_behind : (s : Spot) (xs : List Spot) (x : Spot) (ys : List Spot) → list_any (clashes s) (xs ++ x ∷ ys) ≡ false → list_any (clashes s) ys ≡ false
-no_clash_behind s [] x ys e = (or_parts (clashes s x) (list_any (clashes s) ys) e).1
-no_clash_behind s (z ∷ xs) x ys e = no_clash_behind s xs x ys (or_parts (clashes s z) (list_any (clashes s) (xs ++ x ∷ ys)) e).1
+no_clash_behind s xs x ys e = (or_parts _ _ (or_parts _ _ (sym (list_any-append (clashes s) xs (x ∷ ys)) ∙ e)).1).1
 
 -- a line with a space has parts around it, and what doesn't clash with the line doesn't with the last one
 pub parts_of : (line : List Spot) (s : Spot) (split : Split) → AllPass is_glyph line → list_any (clashes s) line ≡ false → Some split ≡ split_sum line
     → (c : CutAt Spot) × (cut_at_last is_space line ≡ Some c) × (parts_sum c ≡ split) × AllPass is_glyph c.before × AllPass is_glyph c.behind × (list_any (clashes s) c.behind ≡ false)
 parts_of line s split glyphs apart o =
-    let (c, found, parts) = some_split split (cut_at_last is_space line) (sym o) in
+    let (c, found, same) = some_mapped parts_sum (cut_at_last is_space line) split (sym o) in
+    let parts = sym same in
     let at = is_cut is_space line c found in
     let (before, behind) = glyphs_around c.before c.item c.behind (subst (AllPass is_glyph) at.parts glyphs) in
     (c, found, parts, before, behind, no_clash_behind s c.before c.item c.behind (subst (λ l. list_any (clashes s) l ≡ false) at.parts apart))
@@ -50,7 +45,7 @@ split_if : (line : List Spot) (s : Spot) (o : Option (CutAt Spot)) → is_space 
 split_if line s o w e = ap (option_map parts_sum) (word_grows line s o w e)
 
 pub split_none : (line : List Spot) (s : Spot) → is_space s ≡ false → None ≡ split_sum line → ◌≡◌ {A = Option Split} None (split_sum (line ++ s ∷ []))
-split_none line s w o = sym (split_if line s None w (no_split (cut_at_last is_space line) (sym o)))
+split_none line s w o = sym (split_if line s None w (none_mapped parts_sum (cut_at_last is_space line) (sym o)))
 
 pub split_word : (line : List Spot) (s : Spot) (character : Character) → AllPass is_glyph line → IsCharacter s character → is_space s ≡ false → list_any (clashes s) line ≡ false
     → (split : Split) (more : Line) → Some split ≡ split_sum line
@@ -61,13 +56,3 @@ split_word line s character glyphs is w apart split more o grows =
     ap (λ (p : Split). let q : Split = record { before = p.before; font = p.font; behind = more } in Some q) (sym parts)
     ∙ ap (λ l. let q : Split = record { before = line_sum c.before; font = info_of c.item.at.font; behind = l } in Some q) (grows c.behind s behind is (ap (λ (p : Split). p.behind) (sym parts)) away)
     ∙ sym (split_if line s (Some c) w found)
-
--- a line's numbers are at most more
-pub line_below : (k : ℕ) (line : Line) → IsLineBelow k line → IsLineBelow (k + 1024) line
-line_below k line b = record {
-  left = omega (arith, b.left);
-  centre = omega (arith, b.centre);
-  right = omega (arith, b.right);
-  part = record { width = omega (arith, b.part.width); count = omega (arith, b.part.count) };
-  known = b.known;
-}

@@ -1,19 +1,22 @@
 -- What is kept behind one more tag, where lines are filled.
-use Rattle.std.proofs.Common.{◌≡◌, ℕ, ◌*◌, ◌≤◌, true, false, inl, inr, List, [], ◌∷◌, ◌++◌, length, Option, Some, None, Result, Ok, Err, refl, sym, ap, subst, ◌∙◌, arith, append-nil}
+use Rattle.multi_judge.proofs.JudgedLemmas.{area_stays}
+use Rattle.multi_judge.proofs.LimitLemmas.{limited_none}
+use Rattle.multi_judge.specs.Sums.{area_sum}
+use Rattle.multi_meaning.specs.kept.FillOpen.{AllOpenFit}
+use Rattle.std.proofs.Common.{◌≡◌, ℕ, ◌*◌, ◌≤◌, true, false, inl, inr, List, [], ◌∷◌, ◌++◌, length, Option, Some, None, Result, Ok, Err, refl, sym, ap, subst, ◌∙◌, arith, append-nil, ◌&&◌}
 use Rattle.std.specs.List.{after_last}
-use Rattle.std.specs.Option.{unwrap_or}
-use Rattle.std.proofs.lemmas.Bool.{cases_eq}
+use Rattle.std.proofs.lemmas.Bool.{cases_eq, le-leb}
 use Rattle.std.proofs.lemmas.List.{length-append}
 use Rattle.multi_tag.specs.declared.tag.Tag.{Tag}
-use Rattle.multi_tag.specs.declared.tag.Tag.TheVariants.{NewPage, NewLine, Back, Rect}
+use Rattle.multi_tag.specs.declared.tag.Tag.TheVariants.{NewPage, NewLine, Rect}
 use Rattle.multi_tag.specs.Just.{page_number}
 use Rattle.sign_font.specs.declared.parts.LineFill.{LineFill}
 use Rattle.sign_font.specs.declared.parts.LineFill.TheVariants.{Off, Words}
 use Rattle.sign_font.specs.Sign.{SignData}
 use Rattle.multi_meaning.specs.declared.fault.SyntaxError.{SyntaxError}
-use Rattle.multi_meaning.specs.Address.{Break, Cover, Spot, Standing, in_area, in_group, is_break, spots, standing}
+use Rattle.multi_meaning.specs.Address.{Break, Spot, Standing, in_area, in_group, is_break, spots, standing}
 use Rattle.multi_meaning.specs.Filling.{filled}
-use Rattle.multi_meaning.specs.Fit.{line_fits}
+use Rattle.multi_meaning.specs.Fit.{line_fits, area_fits}
 use Rattle.multi_meaning.specs.Laid.{too_big}
 use Rattle.multi_meaning.specs.LaidItems.{laid_items}
 use Rattle.multi_meaning.specs.Meaning.{Meaning, Does}
@@ -31,17 +34,17 @@ use Rattle.multi_meaning.proofs.OffenceLemmas.{offence-break}
 use Rattle.multi_meaning.proofs.RoomLemmas.{fits_next}
 use Rattle.multi_meaning.proofs.UnplacedLemmas.{no_conflict}
 use Rattle.multi_meaning.proofs.StandingLemmas.{standing_push}
-use Rattle.multi_meaning.proofs.StateLemmas.{present_area-cover, present_area-new, present_area-nothing, present_area-placing}
+use Rattle.multi_meaning.proofs.StateLemmas.{present_area-new, present_area-placing}
 use Rattle.multi_meaning.proofs.BehindLemmas.{after_last_push}
 use Rattle.multi_meaning.proofs.WordLemmas.{largest_push}
 use Rattle.multi_judge.specs.declared.area.Area.{Area}
 use Rattle.multi_judge.specs.declared.pass.Pass.{Pass}
 use Rattle.multi_judge.specs.declared.state.State.{State}
 use Rattle.multi_judge.specs.FilledState.{IsFilledOf, begins_line}
-use Rattle.multi_judge.specs.FillSums.{order_sum, split_sum}
+use Rattle.multi_judge.specs.FillSums.{order_sum, split_sum, IsSplitBelow}
 use Rattle.multi_judge.specs.PassState.{IsItemJudged}
 use Rattle.multi_judge.specs.State.{AreaFits, IsJudged, IsLimited, IsStateOf}
-use Rattle.multi_judge.proofs.AreaSumLemmas.{no_back}
+use Rattle.multi_judge.proofs.AreaSumLemmas.{no_back, empty_area}
 use Rattle.multi_judge.proofs.BoundLemmas.{split_more}
 
 -- the group that is present is the last one of the items, whether they are laid out or not
@@ -52,6 +55,48 @@ present_laid sign items state st =
     let (here, are) = are_laid Words sign items items [] (sym (append-nil items)) in
     ap (λ (a : Area). a.present) st.area ∙ (λ i. largest (λ (t : Spot). page_number t.at.page_just) (in_area (here i).area (are i)))
     ∙ largest_laid Words (standing sign items).rectangle.width (standing sign items).area all all [] (sym (append-nil all))
+
+no_height : (height : ℕ) → area_fits height [] ≡ true
+no_height height = ap (λ b. b && true) (le-leb 0 height (omega arith))
+
+-- what is kept where an area begins
+pub filled_start : (sign : SignData) (items : List Meaning) (state : State) → IsStateOf sign (laid_items Words sign items items) state → present_area sign items ≡ []
+    → IsFilledOf sign items (record { state = state; split = None; order = order_sum [] })
+filled_start sign items state st none =
+    let width = (standing sign items).rectangle.width in
+    let laid = laid_items Words sign items items in
+    let empty : present_area sign laid ≡ [] =
+    empty_area (present_area sign laid) (sym (ap (λ (a : Area). a.present) st.area) ∙ present_laid sign items state st ∙ ap (largest (λ (t : Spot). page_number t.at.page_just)) none) in
+    record {
+      limited = limited_none state (st.area ∙ ap area_sum empty);
+      area_fits = ap (area_fits (standing sign laid).rectangle.height) empty ∙ no_height (standing sign laid).rectangle.height;
+      state_is = st;
+      split_is = sym (ap (λ (area : List Spot). split_sum (after_last is_break (filled (Some width) (in_group state.area.present area)))) none);
+      order_is = sym (ap (λ (area : List Spot). order_sum (after_last is_break (in_group state.area.present area))) none);
+      split_below = tt;
+      fits = subst (AllOpenFit (Some width)) (sym none) (λ just. nothing_fits width);
+    }
+
+-- what is kept of more items, where only the group with this page justification may have changed since these, and the rectangle is as wide
+pub filled_of : (sign : SignData) (items more : List Meaning) (old new : Pass) → IsFilledOf sign items old → IsStateOf sign (laid_items Words sign more more) new.state → IsLimited new.state
+    → AreaFits sign (laid_items Words sign more more) → IsSplitBelow (1024 * length more) new.split → (standing sign more).rectangle.width ≡ (standing sign items).rectangle.width
+    → (page : ℕ) → new.state.area.present ≡ page → ((j : ℕ) → (page ≡ j → ⊥) → in_group j (present_area sign more) ≡ in_group j (present_area sign items))
+    → (group : List Spot) → in_group page (present_area sign more) ≡ group → new.split ≡ split_sum (after_last is_break (filled (Some (standing sign items).rectangle.width) group))
+    → new.order ≡ order_sum (after_last is_break group) → line_fits (standing sign items).rectangle.width (after_last is_break (filled (Some (standing sign items).rectangle.width) group)) ≡ true → IsFilledOf sign more new
+filled_of sign items more old new of st limited area_fits below width page present others group own split order fits =
+    let group_is = ap (λ j. in_group j (present_area sign more)) present ∙ own in
+    record {
+      state_is = st;
+      split_is = split ∙ sym (λ i. split_sum (after_last is_break (filled (Some (width i)) (group_is i))));
+      order_is = order ∙ sym (ap (λ l. order_sum (after_last is_break l)) group_is);
+      split_below = below;
+      limited = limited;
+      area_fits = area_fits;
+      fits = λ j. elim (cases_eq page j) [
+        | inl same ↦ (λ i. line_fits (width i) (after_last is_break (filled (Some (width i)) ((ap (λ j. in_group j (present_area sign more)) (sym same) ∙ own) i)))) ∙ fits
+        | inr differ ↦ (λ i. line_fits (width i) (after_last is_break (filled (Some (width i)) (others j differ i)))) ∙ of.fits j
+      ];
+    }
 
 module _ (sign : SignData) (items : List Meaning) (kept : Pass) (of : IsFilledOf sign items kept) (tag : Tag) (state : State)
     (st : IsStateOf sign (laid_items Words sign items items ++ Does tag ∷ []) state) (limited : IsLimited state) (fine : offence Off sign (laid_items Words sign items items) (Does tag) ≡ None) where
@@ -74,27 +119,9 @@ module _ (sign : SignData) (items : List Meaning) (kept : Pass) (of : IsFilledOf
   stays area width =
       let present : state.area.present ≡ kept.state.area.present =
       present_laid sign more state laid_state ∙ ap (largest (λ (t : Spot). page_number t.at.page_just)) area ∙ sym (present_laid sign items kept.state of.state_is) in
-      record {
-        state_is = laid_state;
-        split_is = of.split_is ∙ sym (λ i. split_sum (after_last is_break (filled (Some (width i)) (in_group (present i) (area i)))));
-        order_is = of.order_is ∙ sym (λ i. order_sum (after_last is_break (in_group (present i) (area i))));
-        split_below = split_more (1024 * length items) (1024 * length more) kept.split count of.split_below;
-        limited = limited;
-        area_fits = still_fits;
-        fits = λ j. (λ i. line_fits (width i) (after_last is_break (filled (Some (width i)) (in_group j (area i))))) ∙ of.fits j;
-      }
-
-  -- an area begins
-  begins : present_area sign more ≡ [] → IsFilledOf sign more (record { state = state; split = None; order = order_sum [] })
-  begins area = record {
-    state_is = laid_state;
-    split_is = sym (ap (λ l. split_sum (after_last is_break (filled (Some (standing sign more).rectangle.width) (in_group state.area.present l)))) area);
-    order_is = sym (ap (λ l. order_sum (after_last is_break (in_group state.area.present l))) area);
-    split_below = tt;
-    limited = limited;
-    area_fits = still_fits;
-    fits = λ j. ap (λ l. line_fits (standing sign more).rectangle.width (after_last is_break (filled (Some (standing sign more).rectangle.width) (in_group j l)))) area ∙ nothing_fits (standing sign more).rectangle.width;
-  }
+      filled_of sign items more kept (record { state = state; split = kept.split; order = kept.order }) of laid_state limited still_fits
+      (split_more (1024 * length items) (1024 * length more) kept.split count of.split_below) width kept.state.area.present present (λ j other. ap (in_group j) area)
+      (in_group kept.state.area.present (present_area sign items)) (ap (in_group kept.state.area.present) area) of.split_is of.order_is (of.fits kept.state.area.present)
 
 -- a line ends
 module _ (sign : SignData) (items : List Meaning) (kept : Pass) (of : IsFilledOf sign items kept) (gap : Option ℕ) (fine : offence Off sign (laid_items Words sign items items) (Does (NewLine gap)) ≡ None)
@@ -133,32 +160,17 @@ module _ (sign : SignData) (items : List Meaning) (kept : Pass) (of : IsFilledOf
   own = ap (in_group (page_number nl.at.page_just)) area_is ∙ own_group (page_number nl.at.page_just) (present_area sign items) nl refl
 
   -- nothing stands on the line behind it
-  hard : after_last is_break (in_group (page_number nl.at.page_just) (present_area sign behind)) ≡ []
-  hard = ap (after_last is_break) own ∙ after_last_push is_break (in_group (page_number nl.at.page_just) (present_area sign items)) nl
-
-  soft : after_last is_break (filled (Some (standing sign behind).rectangle.width) (in_group (page_number nl.at.page_just) (present_area sign behind))) ≡ []
-  soft =
-      let group = in_group (page_number nl.at.page_just) (present_area sign items) in
-      (λ i. after_last is_break (filled (Some (width i)) (own i)))
-      ∙ ap (after_last is_break) (filled_break nl.at.rectangle.width group nl (placing_group (page_number nl.at.page_just) (present_area sign items) (area_placing (spots sign items) nl)) refl)
-      ∙ after_last_push is_break (filled (Some nl.at.rectangle.width) group) nl
-
   ends : IsFilledOf sign behind (record { state = state; split = None; order = order_sum [] })
-  ends = record {
-    state_is = laid_state sign items kept of (NewLine gap) state st limited fine;
-    split_is = sym (ap (λ j. split_sum (after_last is_break (filled (Some (standing sign behind).rectangle.width) (in_group j (present_area sign behind))))) present ∙ ap split_sum soft);
-    order_is = sym (ap (λ j. order_sum (after_last is_break (in_group j (present_area sign behind)))) present ∙ ap order_sum hard);
-    split_below = tt;
-    limited = limited;
-    area_fits = still_fits sign items kept of (NewLine gap) state st limited fine;
-    fits = λ j. elim (cases_eq (page_number nl.at.page_just) j) [
-      | inl same ↦
-          ap (λ j. line_fits (standing sign behind).rectangle.width (after_last is_break (filled (Some (standing sign behind).rectangle.width) (in_group j (present_area sign behind))))) (sym same)
-          ∙ ap (line_fits (standing sign behind).rectangle.width) soft ∙ nothing_fits (standing sign behind).rectangle.width
-      | inr differ ↦
-          (λ i. line_fits (width i) (after_last is_break (filled (Some (width i)) ((ap (in_group j) area_is ∙ in_group_other j (present_area sign items) nl differ) i)))) ∙ of.fits j
-    ];
-  }
+  ends =
+      let page = page_number nl.at.page_just in
+      let group = in_group page (present_area sign items) in
+      let w = nl.at.rectangle.width in
+      let hard = after_last_push is_break group nl in
+      let soft = ap (after_last is_break) (filled_break w group nl (placing_group page (present_area sign items) (area_placing (spots sign items) nl)) refl) ∙ after_last_push is_break (filled (Some w) group) nl in
+      filled_of sign items behind kept (record { state = state; split = None; order = order_sum [] }) of (laid_state sign items kept of (NewLine gap) state st limited fine) limited
+      (still_fits sign items kept of (NewLine gap) state st limited fine) tt width page present
+      (λ j differ. ap (in_group j) area_is ∙ in_group_other j (present_area sign items) nl differ) (group ++ nl ∷ []) own
+      (sym (ap split_sum soft)) (sym (ap order_sum hard)) (ap (line_fits w) soft ∙ nothing_fits w)
 
 -- what is kept behind a tag that is judged behind the items as they are laid out
 module _ (sign : SignData) (items : List Meaning) (kept : Pass) (of : IsFilledOf sign items kept) where
@@ -174,26 +186,23 @@ module _ (sign : SignData) (items : List Meaning) (kept : Pass) (of : IsFilledOf
       of_tag (Rect x y w h) e = cc
       of_tag tag e = refl
 
-  area_stays : (tag : Tag) → begins_line tag ≡ false → present_area sign (items ++ Does tag ∷ []) ≡ present_area sign items
-  area_stays NewPage e = cc
-  area_stays (NewLine gap) e = cc
-  area_stays (Rect x y w h) e = cc
-  area_stays (Back colour) e = present_area-cover sign items (Does (Back colour)) (Cover (standing sign items).page (unwrap_or colour sign.defaults.back)) refl refl refl
-  area_stays tag e = present_area-nothing sign items (Does tag) refl refl
-
   as_laid : sign.line_fill ≡ Words → (tag : Tag) → offence sign.line_fill sign items (Does tag) ≡ offence Off sign laid (Does tag)
   as_laid words tag = ap (λ (setting : LineFill). offence setting sign items (Does tag)) words ∙ offends_as_laid sign items tag
 
   pub judged-stays : sign.line_fill ≡ Words → (tag : Tag) (result : Result (Unit {0}) SyntaxError) (state : State) → begins_line tag ≡ false → IsLimited state → IsJudged sign laid (Does tag) result state
       → IsItemJudged true sign items (Does tag) result (record { state = state; split = kept.split; order = kept.order })
   judged-stays words tag (Err error) state e limited j = as_laid words tag ∙ j
-  judged-stays words tag (Ok done) state e limited j = (as_laid words tag ∙ j.0, record { words = words; of = stays sign items kept of tag state j.1 limited j.0 (area_stays tag e) (width_stays tag e) })
+  judged-stays words tag (Ok done) state e limited j = (as_laid words tag ∙ j.0, record { words = words; of = stays sign items kept of tag state j.1 limited j.0 (area_stays sign items tag e) (width_stays tag e) })
+
+  begins : (tag : Tag) (state : State) → IsStateOf sign (laid ++ Does tag ∷ []) state → present_area sign (items ++ Does tag ∷ []) ≡ []
+      → IsFilledOf sign (items ++ Does tag ∷ []) (record { state = state; split = None; order = order_sum [] })
+  begins tag state st none = filled_start sign (items ++ Does tag ∷ []) state (subst (λ l. IsStateOf sign l state) (sym (laid_tag Words sign items tag)) st) none
 
   begins_of : (tag : Tag) (state : State) → begins_line tag ≡ true → IsLimited state → offence Off sign laid (Does tag) ≡ None → IsStateOf sign (laid ++ Does tag ∷ []) state
       → IsFilledOf sign (items ++ Does tag ∷ []) (record { state = state; split = None; order = order_sum [] })
-  begins_of NewPage state e limited fine st = begins sign items kept of NewPage state st limited fine (present_area-new sign items (Does NewPage) refl)
+  begins_of NewPage state e limited fine st = begins NewPage state st (present_area-new sign items (Does NewPage) refl)
   begins_of (NewLine gap) state e limited fine st = ends sign items kept of gap fine state st limited
-  begins_of (Rect x y w h) state e limited fine st = begins sign items kept of (Rect x y w h) state st limited fine (present_area-new sign items (Does (Rect x y w h)) refl)
+  begins_of (Rect x y w h) state e limited fine st = begins (Rect x y w h) state st (present_area-new sign items (Does (Rect x y w h)) refl)
   begins_of tag state e limited fine st = cc
 
   pub judged-begins : sign.line_fill ≡ Words → (tag : Tag) (result : Result (Unit {0}) SyntaxError) (state : State) → begins_line tag ≡ true → IsLimited state → IsJudged sign laid (Does tag) result state

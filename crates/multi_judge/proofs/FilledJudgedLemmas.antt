@@ -1,17 +1,17 @@
 -- One more character is judged where lines are filled, by what is kept of the items before it.
-use Rattle.std.proofs.Common.{◌≡◌, ◌≤◌, ℕ, Bool, true, false, cond, not, ◌&&◌, ◌||◌, ◌==◌, nat_lt, List, [], ◌∷◌, ◌++◌, Option, Some, None, refl, sym, ap, subst, ◌∙◌, arith, append-nil}
-use Rattle.std.specs.List.{All, AllPass, after_last, list_any}
+use Rattle.std.proofs.Common.{◌≡◌, ℕ, Bool, true, false, cond, not, ◌&&◌, ◌||◌, ◌==◌, nat_lt, List, [], ◌∷◌, ◌++◌, Option, Some, None, refl, sym, ap, subst, ◌∙◌, arith, append-nil}
+use Rattle.std.specs.List.{after_last, list_any}
 use Rattle.multi_tag.specs.Just.{page_number}
 use Rattle.sign_font.specs.declared.parts.LineFill.TheVariants.{Words}
 use Rattle.sign_font.specs.Cell.{SizedCell}
 use Rattle.sign_font.specs.Sign.{SignData, CellData, cell_in, cell_numbered}
-use Rattle.multi_meaning.specs.Address.{Glyph, Spot, Standing, area_of, group_of, in_group, is_break, is_glyph, spots, standing}
+use Rattle.multi_meaning.specs.Address.{Glyph, Spot, Standing, area_of, group_of, in_group, is_break, spots, standing}
 use Rattle.multi_meaning.specs.Filling.{filled, is_space}
 use Rattle.multi_meaning.specs.Fit.{area_fits, line_fits}
 use Rattle.multi_meaning.specs.LaidItems.{laid_items}
 use Rattle.multi_meaning.specs.Meaning.{Meaning, Shows}
 use Rattle.multi_meaning.specs.Offence.{clashes, conflicts, first_code, never_big, offence, unsized_offence}
-use Rattle.multi_meaning.specs.kept.Present.{present_area, IsPlacing}
+use Rattle.multi_meaning.specs.kept.Present.{present_area}
 use Rattle.multi_meaning.proofs.GroupLemmas.{area_placing, placing_group}
 use Rattle.multi_tag.proofs.JustLemmas.{page_number_known}
 use Rattle.multi_meaning.proofs.LaidItemLemmas.{are_laid}
@@ -24,21 +24,18 @@ use Rattle.multi_judge.specs.declared.attributes.Attributes.{Attributes}
 use Rattle.multi_judge.specs.declared.pass.Pass.{Pass}
 use Rattle.multi_judge.specs.FillSums.{EndsLine, FillsArea, order_sum, split_sum}
 use Rattle.multi_judge.specs.FilledState.{IsFilledOf}
-use Rattle.multi_judge.specs.Run.{FitsBefore}
-use Rattle.multi_judge.specs.State.{attributes_of}
-use Rattle.multi_judge.specs.Sums.{IsCharacter, area_sum, line_sum}
+use Rattle.multi_judge.specs.Run.{is_within, FitsBefore}
+use Rattle.multi_judge.specs.State.{IsLimited, attributes_of}
+use Rattle.multi_judge.specs.Sums.{IsBelow, IsCharacter, area_sum, line_sum}
+use Rattle.multi_judge.proofs.LimitLemmas.{area_told, open_told}
+use Rattle.multi_judge.specs.declared.state.Limits.{Limits}
+use Rattle.multi_judge.specs.declared.state.State.{State}
 use Rattle.multi_judge.proofs.AreaSumLemmas.{both_fit, no_back, no_clash}
 use Rattle.multi_judge.proofs.FilledCharacterLemmas.{area_with, conflicts_by, doesn't_fit, goes_behind, offends_by, offends_without, present_is, shown}
-use Rattle.multi_judge.proofs.BeforeLemmas.{GroupsFitBefore, groups_fit_before}
+use Rattle.multi_judge.proofs.BeforeLemmas.{groups_fit_before}
 use Rattle.multi_judge.proofs.FilledOrderLemmas.{no_clash_filled}
 use Rattle.multi_judge.proofs.GroupSumLemmas.{present_glyphs}
 use Rattle.multi_judge.proofs.JudgedLemmas.{cell_found, cell_missing}
-
-not_not : (a b : Bool) → not a ≡ not b → a ≡ b
-not_not true true e = refl
-not_not true false e = sym e
-not_not false true e = sym e
-not_not false false e = refl
 
 size_by : (fits big : Bool) → fits ≡ not big → first_code ((false, 11) ∷ (big, 5) ∷ []) ≡ cond fits None (Some 5)
 size_by true true e = cc
@@ -129,46 +126,32 @@ module _ (sign : SignData) (items : List Meaning) (kept : Pass) (of : IsFilledOf
           (no_clash_filled s.at.rectangle.width (group_of s all) s placing (no_clash all s (page_number s.at.page_just) refl refl apart))
           (λ e. of.split_is ∙ ap (λ j. split_sum (after_last is_break (filled (Some s.at.rectangle.width) (in_group j (present_area sign items))))) e)
 
-      module _ (f h : Bool) (line : (l : List Spot) → AllPass is_glyph l → area'.group.line ≡ line_sum l → FitsBefore kept.state.attributes.rectangle.width area'.group.line → f ≡ line_fits kept.state.attributes.rectangle.width l)
-          (height : (l : List Spot) → All IsPlacing l → area' ≡ area_sum l → 2 ≤ area'.present → GroupsFitBefore kept.state.attributes.rectangle.height area' → h ≡ area_fits kept.state.attributes.rectangle.height l) where
-        present : area'.present ≡ page_number (shown sign items number cell found).at.page_just
-        present = ap (λ (a : Area). a.present) filled_grown.0 ∙ (goes_behind sign items number cell found apart).last
-
-        -- its groups before the present one fit, since they did without it
-        above : GroupsFitBefore kept.state.attributes.rectangle.height area'
-        above =
-            let s : Spot = shown sign items number cell found in
-            let laid = laid_items Words sign items items in
-            let more = laid_items Words sign (items ++ Shows number ∷ []) (items ++ Shows number ∷ []) in
-            let new = area_with sign items number cell found in
-            let on = goes_behind sign items number cell found apart in
-            let sum = filled_grown.0 in
-            let last : Spot = record { at = standing sign more; put = Glyph cell } in
-            let fits = subst (λ (a : Attributes). area_fits a.rectangle.height (present_area sign laid) ≡ true) (sym of.state_is.attributes) of.area_fits in
-            groups_fit_before kept.state.attributes.rectangle.height (present_area sign laid) new (page_number s.at.page_just) on.others area' sum (area_placing (spots sign more) last) present
-            (omega (arith, present, (page_number_known s.at.page_just).1)) fits
-
-        fits_is : (f && h) ≡ not (doesn't_fit sign items number cell found)
-        fits_is =
-            let s : Spot = shown sign items number cell found in
-            let more = laid_items Words sign (items ++ Shows number ∷ []) (items ++ Shows number ∷ []) in
-            let new = area_with sign items number cell found in
-            let sum = filled_grown.0 in
-            let line_is : area'.group.line ≡ line_sum (after_last is_break (in_group (page_number s.at.page_just) new)) =
-            ap (λ (a : Area). a.group.line) sum ∙ ap (λ j. line_sum (after_last is_break (in_group j new))) (goes_behind sign items number cell found apart).last in
-            let last : Spot = record { at = standing sign more; put = Glyph cell } in
-            let placing = area_placing (spots sign more) last in
-            let before = subst (λ (a : Attributes). FitsBefore a.rectangle.width area'.group.line) (sym attributes_here) filled_grown.3 in
-            let wide = line (after_last is_break (in_group (page_number s.at.page_just) new)) (present_glyphs (page_number s.at.page_just) new placing) line_is before ∙ ap (λ (a : Attributes). line_fits a.rectangle.width (after_last is_break (in_group (page_number s.at.page_just) new))) attributes_here in
-            let high = height new placing sum (omega (arith, present, (page_number_known s.at.page_just).0)) above ∙ ap (λ (a : Attributes). area_fits a.rectangle.height new) attributes_here in
-            (λ i. wide i && high i) ∙ both_fit (line_fits s.at.rectangle.width (after_last is_break (in_group (page_number s.at.page_just) new))) (area_fits s.at.rectangle.height new)
-
-        -- so its size is told
-        pub filled_size : offence Words sign items (Shows number) ≡ cond (f && h) None (Some 5)
-        filled_size =
+      -- its size is told by the limits that are kept then: its groups before the present one fit, since they did without it
+      pub filled_size : (limits' : Limits) (k : ℕ) → IsBelow k area' →
+          let new : State = record kept.state { area = area'; limits = limits' } in
+          IsLimited new → (is_within new ≡ not (doesn't_fit sign items number cell found)) × (offence Words sign items (Shows number) ≡ cond (is_within new) None (Some 5))
+      filled_size limits' k below limited =
+          let s : Spot = shown sign items number cell found in
+          let page = page_number s.at.page_just in
+          let more = laid_items Words sign (items ++ Shows number ∷ []) (items ++ Shows number ∷ []) in
+          let new = area_with sign items number cell found in
+          let on = goes_behind sign items number cell found apart in
+          let (sum, split, ends, fitted) = filled_grown in
+          let present : area'.present ≡ page = ap (λ (a : Area). a.present) sum ∙ on.last in
+          let known = page_number_known s.at.page_just in
+          let placing = area_placing (spots sign more) (record { at = standing sign more; put = Glyph cell }) in
+          let here = kept.state.attributes.rectangle in
+          let held = subst (λ (a : Attributes). area_fits a.rectangle.height (present_area sign (laid_items Words sign items items)) ≡ true) (sym of.state_is.attributes) of.area_fits in
+          let above = groups_fit_before here.height (present_area sign (laid_items Words sign items items)) new page on.others area' sum placing present (omega (arith, present, known.1)) held in
+          let line_is : area'.group.line ≡ line_sum (after_last is_break (in_group page new)) =
+          ap (λ (a : Area). a.group.line) sum ∙ ap (λ j. line_sum (after_last is_break (in_group j new))) on.last in
+          let before = subst (λ (a : Attributes). FitsBefore a.rectangle.width area'.group.line) (sym attributes_here) fitted in
+          let wide = open_told (after_last is_break (in_group page new)) area'.group.line here.width limits'.width (present_glyphs page new placing) line_is below.group.line.known before limited.width in
+          let high = area_told new area' here.height limits'.height sum placing (omega (arith, present, known.0)) below.known above (limited.height (omega (arith, present, known.0))) in
+          let fits = (λ i. wide i && high i) ∙ ap (λ (a : Attributes). line_fits a.rectangle.width (after_last is_break (in_group page new)) && area_fits a.rectangle.height new) attributes_here
+          ∙ both_fit (line_fits s.at.rectangle.width (after_last is_break (in_group page new))) (area_fits s.at.rectangle.height new) in (
+            fits,
             offends_by sign items number cell found
-            ∙ ap (λ b. first_code ((b, 11) ∷ (doesn't_fit sign items number cell found, 5) ∷ [])) apart
-            ∙ size_by (f && h) (doesn't_fit sign items number cell found) fits_is
-
-        pub filled_fit : (f && h) ≡ true → doesn't_fit sign items number cell found ≡ false
-        filled_fit is = not_not (doesn't_fit sign items number cell found) false (sym fits_is ∙ is)
+                ∙ ap (λ b. first_code ((b, 11) ∷ (doesn't_fit sign items number cell found, 5) ∷ [])) apart
+                ∙ size_by (is_within (record kept.state { area = area'; limits = limits' })) (doesn't_fit sign items number cell found) fits,
+          )

@@ -1,21 +1,21 @@
 -- What is kept behind one more character, where lines are filled.
-use Rattle.std.proofs.Common.{◌≡◌, ℕ, ◌+◌, ◌*◌, ◌≤◌, Bool, true, false, not, ◌&&◌, ◌||◌, ◌==◌, inl, inr, List, [], ◌∷◌, ◌++◌, length, Option, Some, None, refl, sym, ap, subst, ◌∙◌, arith, append-nil}
-use Rattle.std.specs.List.{All, AllPass, after_last, list_any}
+use Rattle.std.proofs.Common.{◌≡◌, ℕ, ◌+◌, ◌*◌, ◌≤◌, Bool, true, false, ◌==◌, inl, inr, List, [], ◌∷◌, ◌++◌, length, Option, Some, None, refl, sym, ap, subst, ◌∙◌, arith, append-nil}
+use Rattle.std.specs.List.{after_last, list_any}
 use Rattle.std.specs.Option.{option_map}
-use Rattle.std.proofs.lemmas.Bool.{cases_eq, eq-eqb, eqb-true, false≢true}
+use Rattle.std.proofs.lemmas.Bool.{and_parts, cases_eq, eq-eqb, eqb-true, false≢true}
 use Rattle.std.proofs.lemmas.List.{length-append}
 use Rattle.multi_tag.specs.Just.{page_number}
 use Rattle.sign_font.specs.declared.parts.LineFill.{LineFill}
 use Rattle.sign_font.specs.declared.parts.LineFill.TheVariants.{Words}
 use Rattle.sign_font.specs.Cell.{SizedCell}
 use Rattle.sign_font.specs.Sign.{SignData, CellData, cell_in, cell_numbered}
-use Rattle.multi_meaning.specs.Address.{Glyph, Spot, Standing, group_of, in_group, is_break, is_glyph, put_at, spots, standing}
+use Rattle.multi_meaning.specs.Address.{Glyph, Spot, Standing, group_of, in_group, is_break, put_at, spots, standing}
 use Rattle.multi_meaning.specs.Filling.{filled}
 use Rattle.multi_meaning.specs.Fit.{area_fits, line_fits}
 use Rattle.multi_meaning.specs.LaidItems.{laid_item, laid_items}
 use Rattle.multi_meaning.specs.Meaning.{Meaning, Shows}
 use Rattle.multi_meaning.specs.Offence.{clashes, conflicts, first_code, offence, unsized_offence}
-use Rattle.multi_meaning.specs.kept.Present.{present_area, IsPlacing}
+use Rattle.multi_meaning.specs.kept.Present.{present_area}
 use Rattle.multi_meaning.proofs.GroupLemmas.{in_group_other, own_group}
 use Rattle.multi_meaning.proofs.LaidItemLemmas.{are_laid}
 use Rattle.multi_meaning.proofs.StandingLemmas.{standing_push}
@@ -33,16 +33,16 @@ use Rattle.multi_judge.specs.declared.line.Line.{Line}
 use Rattle.multi_judge.specs.Passed.{IsFilledPut}
 use Rattle.multi_judge.specs.FilledState.{IsFilledFor, IsFilledOf}
 use Rattle.multi_judge.specs.FillSums.{EndsLine, IsSplitBelow, order_sum, split_sum}
-use Rattle.multi_judge.specs.Run.{FitsBefore}
+use Rattle.multi_judge.specs.Run.{is_within}
 use Rattle.multi_judge.specs.State.{IsLimited}
-use Rattle.multi_judge.specs.Sums.{IsBelow, IsCharacter, area_sum, line_sum}
-use Rattle.multi_judge.proofs.AreaSumLemmas.{group_behind, no_back, no_clash}
-use Rattle.multi_judge.proofs.BeforeLemmas.{GroupsFitBefore}
+use Rattle.multi_judge.specs.Sums.{IsBelow, IsCharacter, area_sum}
+use Rattle.multi_judge.proofs.AreaSumLemmas.{both_fit, group_behind, no_back, no_clash}
 use Rattle.multi_judge.proofs.FilledCharacterLemmas.{area_with, doesn't_fit, goes_behind, offends_by, offends_without, present_is, shown}
-use Rattle.multi_judge.proofs.FilledJudgedLemmas.{Fills, attributes_here, filled_fit, filled_grown, filled_size, found_here, shown_character}
+use Rattle.multi_judge.proofs.FilledJudgedLemmas.{Fills, attributes_here, filled_grown, filled_size, found_here, shown_character}
 use Rattle.multi_judge.proofs.FilledStateLemmas.{filled_state}
 use Rattle.multi_judge.proofs.GroupSumLemmas.{present_push}
 use Rattle.multi_judge.proofs.JudgedLemmas.{no_conflict}
+use Rattle.multi_judge.proofs.FilledBehindLemmas.{filled_of}
 
 none_of_both : (a b : Bool) → first_code ((a, 11) ∷ (b, 5) ∷ []) ≡ None → (a ≡ false) × (b ≡ false)
 none_of_both true b e = cc
@@ -110,21 +110,11 @@ module _ (sign : SignData) (items : List Meaning) (number : ℕ) (cell : CellDat
         let present : area'.present ≡ page_number s.at.page_just = ap (λ (a : Area). a.present) area ∙ (goes_behind sign items number cell found apart).last in
         let count : 1024 * length more ≡ 1024 * length items + 1024 = omega (arith, length-append items (Shows number ∷ [])) in
         let laid : 1024 * length (laid_items Words sign more more) ≡ 1024 * length items + 1024 = ap (λ n. 1024 * n) (laid_count sign more) ∙ count in
-        let group_is : in_group area'.present (present_area sign more) ≡ group_of s (spots sign items) ++ s ∷ [] = ap (λ j. in_group j (present_area sign more)) present ∙ own in
-        record {
-          state_is = filled_state Words sign items number cell found kept.state area' limits' of.state_is area (subst (λ n. IsBelow n area') (sym laid) below);
-          split_is = split ∙ sym (λ i. split_sum (after_last is_break (filled (Some (width_more i)) (group_is i))));
-          order_is = order ∙ ap (λ j. order_sum (after_last is_break (in_group j (present_area sign more)))) (sym present);
-          split_below = subst (λ n. IsSplitBelow n split') (sym count) split_below;
-          limited = limited;
-          area_fits = ap (λ (t : Standing). area_fits t.rectangle.height (area_with sign items number cell found)) ((are_laid Words sign more more [] (sym (append-nil more))).0 ∙ standing_push sign items (Shows number)) ∙ high;
-          fits = λ j. elim (cases_eq (page_number s.at.page_just) j) [
-            | inl same ↦
-                let group : in_group j (present_area sign more) ≡ group_of s (spots sign items) ++ s ∷ [] = ap (λ j. in_group j (present_area sign more)) (sym same) ∙ own in
-                (λ i. line_fits (width_more i) (after_last is_break (filled (Some (width_more i)) (group i)))) ∙ fits
-            | inr differ ↦ (λ i. line_fits (width_more i) (after_last is_break (filled (Some (width_more i)) (other j differ i)))) ∙ of.fits j
-          ];
-        }
+        filled_of sign items more kept (record { state = record kept.state { area = area'; limits = limits' }; split = split'; order = order' }) of
+        (filled_state Words sign items number cell found kept.state area' limits' of.state_is area (subst (λ n. IsBelow n area') (sym laid) below)) limited
+        (ap (λ (t : Standing). area_fits t.rectangle.height (area_with sign items number cell found)) ((are_laid Words sign more more [] (sym (append-nil more))).0 ∙ standing_push sign items (Shows number)) ∙ high)
+        (subst (λ n. IsSplitBelow n split') (sym count) split_below) width_more (page_number s.at.page_just) present other (group_of s (spots sign items) ++ s ∷ []) own split
+        (order ∙ ap (λ l. order_sum (after_last is_break l)) own) fits
 
 -- a character that doesn't offend isn't before the present group
 module _ (sign : SignData) (items : List Meaning) (kept : Pass) (of : IsFilledOf sign items kept) (number : ℕ) (fine : offence Words sign items (Shows number) ≡ None) where
@@ -145,17 +135,10 @@ module _ (sign : SignData) (items : List Meaning) (kept : Pass) (is : IsFilledFo
     (font : character.font ≡ kept.state.attributes.font) (area' : Area) (split' : Option Split) (ended : Option Line)
     (fills : (cell : CellData) (found : cell_numbered (standing sign items).font number ≡ Some cell) → Fills sign items kept is.of number c some character (number == 32) area' split' ended (page_number kept.state.attributes.page_just) kept.state.attributes.rectangle.width)
     (limits' : Limits) (limited : IsLimited (record kept.state { area = area'; limits = limits' }))
-    (f h : Bool) (line : (l : List Spot) → AllPass is_glyph l → area'.group.line ≡ line_sum l → FitsBefore kept.state.attributes.rectangle.width area'.group.line → f ≡ line_fits kept.state.attributes.rectangle.width l)
-    (height : (l : List Spot) → All IsPlacing l → area' ≡ area_sum l → 2 ≤ area'.present → GroupsFitBefore kept.state.attributes.rectangle.height area' → h ≡ area_fits kept.state.attributes.rectangle.height l)
     (order' : Order) (sum : (line : List Spot) (s : Spot) → s.at.line_just ≡ character.just → list_any (clashes s) line ≡ false
     → (goes_on ≡ true → kept.order ≡ order_sum line) → (goes_on ≡ false → line ≡ []) → order' ≡ order_sum (line ++ s ∷ []))
     (below : IsBelow (1024 * length items + 1024) area') (split_below : IsSplitBelow (1024 * length items + 1024) split') where
-  both_of : (a b : Bool) → (not a || not b) ≡ false → (a ≡ true) × (b ≡ true)
-  both_of true true e = (refl, refl)
-  both_of true false e = cc
-  both_of false b e = cc
-
-  pub filled_put : IsFilledPut sign items number kept (record { state = record kept.state { area = area'; limits = limits' }; split = split'; order = order' }) (f && h) ended
+  pub filled_put : IsFilledPut sign items number kept (record { state = record kept.state { area = area'; limits = limits' }; split = split'; order = order' }) (is_within (record kept.state { area = area'; limits = limits' })) ended
   filled_put =
       let of = is.of in
       let (cell, found, width) = found_here sign items kept of number c some in
@@ -170,12 +153,12 @@ module _ (sign : SignData) (items : List Meaning) (kept : Pass) (is : IsFilledFo
       let (area, split, line_ended, before) = filled_grown sign items kept of number c some cell found apart character is' (number == 32) space area' split' ended (fills cell found) in
       let on = goes_behind sign items number cell found apart in
       let new = area_with sign items number cell found in
+      let (told, size) = filled_size sign items kept of number c some cell found apart character is' (number == 32) space area' split' ended (fills cell found) limits' (1024 * length items + 1024) below limited in
       record {
-        size = ap (λ (setting : LineFill). offence setting sign items (Shows number)) is.words
-            ∙ filled_size sign items kept of number c some cell found apart character is' (number == 32) space area' split' ended (fills cell found) f h line height;
+        size = ap (λ (setting : LineFill). offence setting sign items (Shows number)) is.words ∙ size;
         passed = λ both.
-            let fit = filled_fit sign items kept of number c some cell found apart character is' (number == 32) space area' split' ended (fills cell found) f h line height both in
-            let (wide_fits, high_fits) = both_of (line_fits w (after_last is_break (in_group (page_number s.at.page_just) new))) (area_fits s.at.rectangle.height new) fit in
+            let (wide_fits, high_fits) = and_parts (line_fits w (after_last is_break (in_group (page_number s.at.page_just) new))) (area_fits s.at.rectangle.height new)
+            (both_fit (line_fits w (after_last is_break (in_group (page_number s.at.page_just) new))) (area_fits s.at.rectangle.height new) ∙ sym told ∙ both) in
             let line_fits' = ap (λ l. line_fits w (after_last is_break l)) (sym on.after) ∙ wide_fits in
             let order = order_with sign items number cell found kept of apart goes_on goes at character is' order' sum in
             record {

@@ -1,6 +1,6 @@
 -- The order of justifications since a hard break, with one more character; and what clashes with nothing since then doesn't on the
 -- open line.
-use Rattle.std.proofs.Common.{◌≡◌, ℕ, Bool, true, false, ◌&&◌, ◌||◌, ◌==◌, List, [], ◌∷◌, ◌++◌, length, Option, Some, None, zero, suc, refl, sym, ap, ◌∙◌, append_assoc, arith}
+use Rattle.std.proofs.Common.{◌≡◌, ℕ, Bool, false, ◌&&◌, ◌||◌, ◌==◌, List, [], ◌∷◌, ◌++◌, length, Option, Some, None, zero, suc, refl, sym, ap, ◌∙◌, append_assoc, arith}
 use Rattle.std.specs.Prelude.{nat_lt}
 use Rattle.std.specs.List.{after_last, list_any, All}
 use Rattle.std.proofs.lemmas.Bool.{le-ltb, or_parts}
@@ -20,11 +20,12 @@ use Rattle.multi_judge.specs.FillSums.{order_sum}
 use Rattle.multi_judge.specs.Sums.{line_sum}
 use Rattle.multi_judge.proofs.LineSumLemmas.{any_more, in_order, line_clashes}
 use Rattle.multi_judge.proofs.RunLemmas.{not_full, or_same}
+use Rattle.std.proofs.Math.Bool.{or_comm}
+use Rattle.std.proofs.lemmas.List.Folds.{list_any-append}
 
 -- what holds of no item of a list holds of none of its end
 none_behind : (p : Spot → Bool) (xs ys : List Spot) → list_any p (xs ++ ys) ≡ false → list_any p ys ≡ false
-none_behind p [] ys e = e
-none_behind p (x ∷ xs) ys e = none_behind p xs ys (or_parts (p x) (list_any p (xs ++ ys)) e).1
+none_behind p xs ys e = (or_parts _ _ (sym (list_any-append p xs ys) ∙ e)).1
 
 module _ (width : ℕ) where
   -- the open line of characters is their end
@@ -55,14 +56,8 @@ order_more line s just parts is apart e =
     let least = in_order line s (line_sum line) refl apart in
     omega (arith, least, is, largest_push (λ (t : Spot). line_number t.at.line_just) line s) in
     let some : list_any (λ (t : Spot). nat_lt (line_number t.at.line_just) 5) (line ++ s ∷ []) ≡ (nat_lt just 5 || parts) =
-    any_more (λ (t : Spot). nat_lt (line_number t.at.line_just) 5) line s ∙ ap (λ b. b || nat_lt (line_number s.at.line_just) 5) (sym e) ∙ ap (λ n. parts || nat_lt n 5) is ∙ either_way parts (nat_lt just 5) in
+    any_more (λ (t : Spot). nat_lt (line_number t.at.line_just) 5) line s ∙ ap (λ b. b || nat_lt (line_number s.at.line_just) 5) (sym e) ∙ ap (λ n. parts || nat_lt n 5) is ∙ or_comm parts (nat_lt just 5) in
     rw (most, some) refl
-  where
-    either_way : (a b : Bool) → (a || b) ≡ (b || a)
-    either_way true true = refl
-    either_way true false = refl
-    either_way false true = refl
-    either_way false false = refl
 
 -- a character with the justification of the last one clashes with none
 pub order_apart : (line : List Spot) (s : Spot) (order : Order) → order ≡ order_sum line → order.largest ≡ line_number s.at.line_just → order.has_parts ≡ nat_lt (line_number s.at.line_just) 5 → list_any (clashes s) line ≡ false

@@ -1,68 +1,21 @@
 -- The verdict from the items read so far, where lines are filled.
-use Rattle.std.proofs.Common.{◌≡◌, ℕ, ◌*◌, ◌^◌, ◌<◌, ◌≤◌, true, ◌&&◌, List, [], ◌∷◌, length, map, Some, None, refl, sym, ap, subst, ◌∙◌, arith, append-nil}
-use Rattle.std.specs.List.{after_last}
-use Rattle.std.proofs.lemmas.Bool.{le-leb}
-use Rattle.std.proofs.lemmas.List.Elements.{All-head}
-use Rattle.multi_tag.specs.Just.{page_number}
+use Rattle.std.proofs.Common.{◌≡◌, ℕ, ◌*◌, ◌^◌, ◌<◌, ◌≤◌, List, [], length, map, sym, ap, ◌∙◌, arith, append-nil}
 use Rattle.sign_font.specs.declared.parts.LineFill.TheVariants.{Words}
 use Rattle.sign_font.specs.Sign.{SignData}
-use Rattle.multi_meaning.specs.Address.{Spot, Standing, in_group, is_break, standing}
-use Rattle.multi_meaning.specs.Filling.{filled}
-use Rattle.multi_meaning.specs.Fit.{area_fits}
-use Rattle.multi_meaning.specs.kept.FillOpen.{AllOpenFit}
+use Rattle.multi_meaning.specs.Address.{Standing}
 use Rattle.multi_meaning.specs.LaidItems.{laid_items}
 use Rattle.multi_meaning.specs.Meaning.{Meaning, meaning}
-use Rattle.multi_meaning.specs.kept.Present.{present_area}
 use Rattle.multi_meaning.specs.Times.{cycle, ended_times}
 use Rattle.multi_meaning.specs.Verdict.{pages_of}
-use Rattle.multi_meaning.specs.Words.{largest}
-use Rattle.multi_meaning.proofs.FillLemmas.{nothing_fits}
-use Rattle.multi_tag.proofs.JustLemmas.{page_number_known}
 use Rattle.multi_meaning.proofs.LaidItemLemmas.{are_laid}
-use Rattle.multi_meaning.proofs.WordLemmas.{largest_most}
-use Rattle.multi_judge.specs.declared.area.Area.{Area}
 use Rattle.multi_judge.specs.declared.pass.Pass.{Pass}
-use Rattle.multi_judge.specs.declared.state.State.{State}
-use Rattle.multi_judge.specs.FillSums.{order_sum, split_sum}
 use Rattle.multi_judge.specs.FilledState.{IsFilledFor, IsFilledOf, IsFilledReady}
 use Rattle.multi_judge.specs.Judging.{ReadSoFar}
-use Rattle.multi_judge.specs.State.{IsStateOf}
-use Rattle.multi_judge.specs.Sums.{area_sum}
 use Rattle.multi_judge.proofs.BoundLemmas.{split_more}
-use Rattle.multi_judge.proofs.FilledBehindLemmas.{present_laid}
 use Rattle.multi_judge.proofs.FilledKeptLemmas.{laid_count}
 use Rattle.multi_judge.proofs.FilledStateLemmas.{pages_at, same_times}
 use Rattle.multi_judge.proofs.JudgedLemmas.{ready}
-use Rattle.multi_judge.proofs.LimitLemmas.{limited_none}
 use Rattle.multi_judge.proofs.ReadLemmas.{few_here}
-
--- an area in which no page justification is largest has no item
-empty_area : (area : List Spot) → largest (λ (t : Spot). page_number t.at.page_just) area ≡ 0 → area ≡ []
-empty_area [] e = refl
-empty_area (s ∷ area) e =
-    let f : Spot → ℕ = λ t. page_number t.at.page_just in
-    absurd (omega (arith, e, All-head (λ t. f t ≤ largest f (s ∷ area)) s area (largest_most f (s ∷ area)), (page_number_known s.at.page_just).0))
-
-no_height : (height : ℕ) → area_fits height [] ≡ true
-no_height height = ap (λ b. b && true) (le-leb 0 height (omega arith))
-
--- what is kept where an area begins
-pub filled_start : (sign : SignData) (items : List Meaning) (state : State) → IsStateOf sign (laid_items Words sign items items) state → present_area sign items ≡ []
-    → IsFilledOf sign items (record { state = state; split = None; order = order_sum [] })
-filled_start sign items state st none =
-    let width = (standing sign items).rectangle.width in
-    let laid = laid_items Words sign items items in
-    let empty : present_area sign laid ≡ [] =
-    empty_area (present_area sign laid) (sym (ap (λ (a : Area). a.present) st.area) ∙ present_laid sign items state st ∙ ap (largest (λ (t : Spot). page_number t.at.page_just)) none) in
-    record {
-      limited = limited_none state (st.area ∙ ap area_sum empty);
-      area_fits = ap (area_fits (standing sign laid).rectangle.height) empty ∙ no_height (standing sign laid).rectangle.height;
-      state_is = st;
-      split_is = sym (ap (λ (area : List Spot). split_sum (after_last is_break (filled (Some width) (in_group state.area.present area)))) none);
-      order_is = sym (ap (λ (area : List Spot). order_sum (after_last is_break (in_group state.area.present area))) none);
-      split_below = tt;
-      fits = subst (AllOpenFit (Some width)) (sym none) (λ just. nothing_fits width);
-    }
 
 module _ (sign : SignData) (items : List Meaning) (kept : Pass) (of : IsFilledOf sign items kept) where
   -- what is kept of few items is small enough

@@ -1,10 +1,9 @@
 -- A character with the attributes of the one before it, where lines are filled: it only lengthens what is kept.
-use Rattle.std.proofs.Common.{◌≡◌, ℕ, ◌+◌, ◌-◌, ◌*◌, ◌^◌, ◌<◌, ◌≤◌, Bool, true, false, cond, ◌&&◌, ◌||◌, ◌==◌, List, [], ◌∷◌, ◌++◌, length, map, slice_get, Option, Some, None, refl, sym, ap, subst, ◌∙◌, arith}
+use Rattle.std.proofs.Common.{◌≡◌, ℕ, ◌+◌, ◌-◌, ◌*◌, ◌^◌, ◌<◌, ◌≤◌, Bool, true, false, cond, ◌&&◌, ◌||◌, ◌==◌, List, [], ◌∷◌, ◌++◌, length, map, slice_get, Option, Some, None, refl, sym, ap, subst, ◌∙◌, arith, rules}
 use Rattle.std.specs.Prelude.{nat_le, nat_lt}
 use Rattle.std.specs.List.{AllPass, after_last, list_any}
 use Rattle.std.specs.Option.{option_map, unwrap_or}
 use Rattle.std.proofs.lemmas.Bool.{and_from, and_right, eq-eqb, false≢true, le-leb, le-ltb}
-use Rattle.std.proofs.lemmas.List.Elements.{All-head, All-nil}
 use Rattle.multi_token.specs.declared.token.Token.{Token}
 use Rattle.multi_token.specs.declared.token.Kind.TheVariants as kinds
 use Rattle.multi_token.specs.Spelling.{IsPlain}
@@ -21,36 +20,27 @@ use Rattle.multi_judge.specs.declared.area.Area.{Area}
 use Rattle.multi_judge.specs.declared.attributes.Attributes.{Attributes}
 use Rattle.multi_judge.specs.declared.fill.Split.{Split}
 use Rattle.multi_judge.specs.declared.pass.Pass.{Pass}
-use Rattle.multi_judge.specs.declared.line.Character.{Character}
 use Rattle.multi_judge.specs.declared.line.Line.{Line}
-use Rattle.multi_judge.specs.declared.line.Segment.{Segment}
 use Rattle.multi_judge.specs.FilledRun.{GoesOnBehind, IsFilledRun, even_line, longer_line, with_run, with_run_behind}
 use Rattle.multi_judge.specs.FilledState.{IsFilledFor}
 use Rattle.multi_judge.specs.FillSums.{FillsArea, IsSplitBelow, split_sum}
 use Rattle.multi_judge.specs.Judging.{ReadSoFar}
 use Rattle.multi_judge.specs.Run.{IsBehindOne, IsRun, kept_height, lengthened, lengthened_area, lengthened_line, line_in_force}
-use Rattle.multi_judge.specs.Sums.{IsBelow, IsCharacter, IsLineBelow, area_sum_in, group_sum, line_sum, segment_sum}
+use Rattle.multi_judge.specs.Sums.{IsBelow, IsCharacter, IsLineBelow, area_sum_in, group_sum, line_sum}
 use Rattle.multi_judge.proofs.AreaFillLemmas.{area_filled}
 use Rattle.multi_judge.proofs.AreaSumLemmas.{group_of_own}
-use Rattle.multi_judge.proofs.LimitLemmas.{area_told, fits_behind, open_told, told_behind}
-use Rattle.multi_judge.proofs.FillGroupLemmas.{present_glyphs, present_line, stands_ended, stands_line, stands_sum}
-use Rattle.multi_judge.proofs.FillSplitLemmas.{line_below, split_none, split_space, split_word}
+use Rattle.multi_judge.proofs.FillGroupLemmas.{Joins, present_glyphs, present_line, stands_there}
+use Rattle.multi_judge.proofs.FillSplitLemmas.{split_none, split_space, split_word}
 use Rattle.multi_judge.proofs.FilledJudgedLemmas.{filled_free}
 use Rattle.multi_judge.proofs.FilledKeptLemmas.{filled_put, laid_count}
 use Rattle.multi_judge.proofs.FilledOrderLemmas.{order_apart, order_stays}
 use Rattle.multi_judge.proofs.ReadLemmas.{read_more}
-use Rattle.multi_judge.proofs.LineSumLemmas.{cond_zero, line_with, segment_own}
-use Rattle.multi_judge.proofs.RunLemmas.{line_lengthened, longer_below}
+use Rattle.multi_judge.proofs.LineSumLemmas.{no_character}
+use Rattle.multi_judge.proofs.RunLemmas.{line_lengthened, longer_below, behind_stays}
 use Rattle.multi_judge.proofs.RunReadLemmas.{cell_of_width}
-
--- characters of which there is none
-none_there : (line : List Spot) → AllPass is_glyph line → list_any is_glyph line ≡ false → line ≡ []
-none_there [] glyphs none = refl
-none_there (t ∷ line) glyphs none = absurd (false≢true (sym none ∙ ap (λ b. b || list_any is_glyph line) (All-head (λ x. is_glyph x ≡ true) t line glyphs)))
-
--- a character with these attributes
-abbrev pub seen : Attributes → ℕ → Character
-seen here width = record { just = here.line_just; spacing = here.spacing; width = width; font = here.font }
+use Rattle.multi_judge.proofs.BoundLemmas.{part_below}
+use Rattle.multi_judge.proofs.BoundLemmas as bounds
+use Rattle.multi_judge.specs.Adding.{character_of}
 
 -- a line of characters is lengthened
 pub run_some : (here : Attributes) (gap pixels count : ℕ) (line : Line) → line.any ≡ true → with_run here gap pixels count line ≡ longer_line pixels count line
@@ -58,27 +48,21 @@ run_some here gap pixels count line some = ap (λ b. cond b (longer_line pixels 
 
 module _ (here : Attributes) (width : ℕ) where
   -- a line of one
-  pub first_line : (s : Spot) → IsCharacter s (seen here width) → even_line here width 1 (line_sum []) ≡ line_sum (s ∷ [])
-  first_line s is =
-      let none = line_sum [] in
-      let part : ◌≡◌ {A = Segment} (record { width = width; count = 1; last = Some here.font.char_spacing }) (segment_sum (line_number here.line_just) (s ∷ [])) =
-      let wide : 0 + (0 + width) ≡ width = omega arith in
-      rw wide at (segment_own (line_number here.line_just) [] s (seen here width) is refl (segment_sum (line_number here.line_just) []) 0 width refl refl refl) in
-      line_with [] s (seen here width) (All-nil (λ x. is_glyph x ≡ true)) is none refl (omega arith) (even_line here width 1 none) refl
-      (sym (cond_zero (nat_lt 2 (line_number here.line_just)) 0 refl)) (sym (cond_zero (nat_lt 3 (line_number here.line_just)) 0 refl)) (sym (cond_zero (nat_lt 4 (line_number here.line_just)) 0 refl)) part refl (omega arith) (omega arith) refl
+  pub first_line : (s : Spot) → IsCharacter s (character_of here width) → even_line here width 1 (line_sum []) ≡ line_sum (s ∷ [])
+  first_line s is = search (rules, is.glyph, is.just, is.font, is.width, is.spacing)
 
   -- a line with one more, if its last one has these attributes
   pub line_more : (gap : ℕ) → gap ≡ unwrap_or here.spacing here.font.char_spacing → (kept : Line) → (kept.any ≡ true → IsBehindOne here.line_just here.font kept) → (line : List Spot) (s : Spot) → AllPass is_glyph line
-      → IsCharacter s (seen here width) → kept ≡ line_sum line → with_run here gap (gap + width) 1 kept ≡ line_sum (line ++ s ∷ [])
+      → IsCharacter s (character_of here width) → kept ≡ line_sum line → with_run here gap (gap + width) 1 kept ≡ line_sum (line ++ s ∷ [])
   line_more gap gap_is kept on line s glyphs is e = by_any kept.any refl
     where
       by_any : (b : Bool) → kept.any ≡ b → with_run here gap (gap + width) 1 kept ≡ line_sum (line ++ s ∷ [])
       by_any true some =
           let one = on some in
           run_some here gap (gap + width) 1 kept some
-          ∙ line_lengthened line s (seen here width) glyphs is kept e one.segment one.parts one.any one.height one.spacing one.last gap gap_is
+          ∙ line_lengthened line s (character_of here width) glyphs is kept e one.segment one.parts one.any one.height one.spacing one.last gap gap_is
       by_any false none =
-          let nothing : line ≡ [] = none_there line glyphs (sym (ap (λ (l : Line). l.any) e) ∙ none) in
+          let nothing : line ≡ [] = no_character line kept glyphs e none in
           let wide : gap + width - gap ≡ width = omega arith in
           rw (none, nothing, wide, e ∙ ap line_sum nothing) (first_line s is)
 
@@ -88,12 +72,12 @@ split_one here gap width true line split = Some (record { before = line; font = 
 split_one here gap width false line split = option_map (with_run_behind here gap (gap + width) 1) split
 
 module _ (here : Attributes) (gap width : ℕ) (gap_is : gap ≡ unwrap_or here.spacing here.font.char_spacing) where
-  pub split_more : (space : Bool) (split : Option Split) → GoesOnBehind here split → (line : Line) (open' : List Spot) (s : Spot) → AllPass is_glyph open' → IsCharacter s (seen here width) → is_space s ≡ space
+  pub split_more : (space : Bool) (split : Option Split) → GoesOnBehind here split → (line : Line) (open' : List Spot) (s : Spot) → AllPass is_glyph open' → IsCharacter s (character_of here width) → is_space s ≡ space
       → list_any (clashes s) open' ≡ false → line ≡ line_sum open' → split ≡ split_sum open' → split_one here gap width space line split ≡ split_sum (open' ++ s ∷ [])
-  split_more true split on line open' s glyphs is space apart e o = split_space open' s (seen here width) is space line (line_sum []) e refl
+  split_more true split on line open' s glyphs is space apart e o = split_space open' s (character_of here width) is space line (line_sum []) e refl
   split_more false None on line open' s glyphs is space apart e o = split_none open' s space o
   split_more false (Some parts) on line open' s glyphs is space apart e o =
-      split_word open' s (seen here width) glyphs is space apart parts (with_run here gap (gap + width) 1 parts.behind) o (λ l t glyphs is e apart. line_more here width gap gap_is parts.behind on l t glyphs is e)
+      split_word open' s (character_of here width) glyphs is space apart parts (with_run here gap (gap + width) 1 parts.behind) o (λ l t glyphs is e apart. line_more here width gap gap_is parts.behind on l t glyphs is e)
 
   -- a character behind it would have these attributes too
   pub split_goes_on : (space : Bool) (line : Line) (split : Option Split) → GoesOnBehind here split → GoesOnBehind here (split_one here gap width space line split)
@@ -111,20 +95,13 @@ module _ (here : Attributes) (gap width : ℕ) (gap_is : gap ≡ unwrap_or here.
   -- its numbers grow by no more than the character's
   pub split_grows : (k : ℕ) (space : Bool) (line : Line) (split : Option Split) → gap ≤ 255 → width ≤ 64 → IsLineBelow k line → IsSplitBelow k split → IsSplitBelow (k + 1024) (split_one here gap width space line split)
   split_grows k true line split narrow small below b =
-      (line_below k line below, record { left = omega arith; centre = omega arith; right = omega arith; part = record { width = omega arith; count = omega arith }; known = omega arith })
+      (bounds.line_more k (k + 1024) line (omega arith) below, record { left = omega arith; centre = omega arith; right = omega arith; part = record { width = omega arith; count = omega arith }; known = omega arith })
   split_grows k false line None narrow small below b = tt
-  split_grows k false line (Some parts) narrow small below b = (line_below k parts.before b.0, by_any parts.behind.any refl)
+  split_grows k false line (Some parts) narrow small below b = (bounds.line_more k (k + 1024) parts.before (omega arith) b.0, by_any parts.behind.any refl)
     where
       by_any : (a : Bool) → parts.behind.any ≡ a → IsLineBelow (k + 1024) (with_run here gap (gap + width) 1 parts.behind)
-      by_any true some =
-          let l = b.1 in
-          rw some (record {
-            left = omega (arith, l.left);
-            centre = omega (arith, l.centre);
-            right = omega (arith, l.right);
-            part = record { width = omega (arith, l.part.width, narrow, small); count = omega (arith, l.part.count) };
-            known = l.known;
-          })
+      by_any true some = subst (IsLineBelow (k + 1024)) (sym (run_some here gap (gap + width) 1 parts.behind some))
+          (part_below k (parts.behind.part.width + (gap + width)) (parts.behind.part.count + 1) parts.behind b.1 (omega (arith, b.1.part.width, narrow, small)) (omega (arith, b.1.part.count)))
       by_any false none = let l = b.1 in rw none (record { left = omega (arith, l.left); centre = omega (arith, l.centre); right = omega (arith, l.right); part = record { width = omega (arith, small); count = omega arith }; known = (line_number_known here.line_just).1 })
 
 -- what is kept with one more character of this width
@@ -154,35 +131,27 @@ module _ (kept : Pass) (run : IsFilledRun kept) (gap : ℕ) (runs : IsRun kept.s
   -- what is kept with it is that of a run
   pub one_goes_on : IsFilledRun (with_one gap width space kept)
   one_goes_on =
-      let one = run.behind.line in
       record {
-        behind = record {
-          group = run.behind.group;
-          line = record { segment = one.segment; parts = one.parts; any = one.any; height = one.height; spacing = one.spacing; last = one.last };
-        };
+        behind = behind_stays kept.state (line.part.width + (gap + width)) (line.part.count + 1) run.behind;
         order = run.order;
         split = split_goes_on here gap width runs.gap_is space line kept.split run.split;
       }
 
   -- the group grows by it
-  fills_one : FillsArea (page_number here.page_just) here.rectangle.width kept.state.area kept.split (seen here width) space area' (split_one here gap width space line kept.split) None
+  fills_one : FillsArea (page_number here.page_just) here.rectangle.width kept.state.area kept.split (character_of here width) space area' (split_one here gap width space line kept.split) None
   fills_one old new group s placing placing' e order on is spaces fits' apart o =
       let w = here.rectangle.width in
       let area = kept.state.area in
       let own : area.group ≡ group_sum (filled (Some w) group) = group_of_own old area e (page_number here.page_just) (sym run.behind.group) ∙ ap group_sum on.before in
-      let glyphs = present_glyphs w group s (seen here width) placing' is fits' apart area.group own in
-      let line_is = present_line w group s (seen here width) placing' is fits' apart area.group own in
+      let j : Joins w group s (character_of here width) area.group = record { placing = placing'; is = is; fits = fits'; apart = apart; sum = own } in
+      let glyphs = present_glyphs j in
       let one = run.behind.line in
-      let grown = line_lengthened (after_last is_break (filled (Some w) group)) s (seen here width) glyphs is line line_is one.segment one.parts one.any one.height one.spacing one.last gap runs.gap_is in
       let open' = after_last is_break (filled (Some w) group) in
-      let told = sym still_fits ∙ told_behind w open' s longer grown apart fits' kept.state.limits.width (runs.limited.width one.any) in
-      let turned : area ≡ area_sum_in (page_number here.page_just) old = e ∙ ap (λ n. area_sum_in n old) (sym (ap (λ (a : Area). a.present) e) ∙ run.behind.group) in (
-        area_filled old new group s (page_number here.page_just) w on area area' turned refl refl refl (stands_sum w group s (seen here width) placing' is fits' apart area.group own longer grown true told refl),
-        split_more here gap width runs.gap_is space kept.split run.split line (after_last is_break (filled (Some w) group)) s glyphs is spaces apart line_is (o run.behind.group)
-            ∙ ap split_sum (sym (stands_line w group s (seen here width) placing' is fits' apart area.group own longer grown true told refl)),
-        stands_ended w group s (seen here width) placing' is fits' apart area.group own longer grown true told refl,
-        fits_behind w open' s longer grown apart fits',
-      )
+      let grown = line_lengthened open' s (character_of here width) glyphs is line (present_line j) one.segment one.parts one.any one.height one.spacing one.last gap runs.gap_is in
+      let turned : area ≡ area_sum_in (page_number here.page_just) old = e ∙ ap (λ n. area_sum_in n old) (sym (ap (λ (a : Area). a.present) e) ∙ run.behind.group) in
+      let (group_is, parts, ended, before) = stands_there j longer grown kept.state.limits.width (runs.limited.width one.any) still_fits (split_one here gap width space line kept.split)
+      (split_more here gap width runs.gap_is space kept.split run.split line open' s glyphs is spaces apart (present_line j) (o run.behind.group)) in
+      (area_filled old new group s (page_number here.page_just) w on area area' turned refl refl refl group_is, parts, ended, before)
 
 -- one more octet of a run
 module _ (sign : SignData) (octets : List ℕ) (at : ℕ) (kept : Pass) (r : ReadSoFar sign octets at (IsFilledFor sign kept)) (octet : ℕ) (short : length octets < 2 ^ 63) (here : slice_get octets at ≡ Some octet) (plain : IsPlain octet)
@@ -196,7 +165,6 @@ module _ (sign : SignData) (octets : List ℕ) (at : ℕ) (kept : Pass) (r : Rea
       let st = of.state_is in
       let attributes = kept.state.attributes in
       let line = line_in_force kept.state in
-      let known = st.below.group.line.known in
       let below = subst (λ n. IsBelow (1024 * n) kept.state.area) (laid_count sign items) st.below in
       let longer = lengthened_line (line.part.width + (gap + wide)) (line.part.count + 1) line in
       let area : Area = lengthened_area (line.part.width + (gap + wide)) (line.part.count + 1) kept.state.area in
@@ -205,12 +173,9 @@ module _ (sign : SignData) (octets : List ℕ) (at : ℕ) (kept : Pass) (r : Rea
       (λ line s e just. sym (order_apart line s kept.order e (run.order.0 ∙ ap line_number (sym just)) (run.order.1 ∙ ap (λ j. nat_lt (line_number j) 5) (sym just))))
       (ap (λ b. b || ((page_number attributes.page_just == kept.state.area.present) && false)) (le-ltb (page_number attributes.page_just) kept.state.area.present (omega (arith, run.behind.group))) ∙ and_right (page_number attributes.page_just == kept.state.area.present) false refl))
       true (sym (eq-eqb (page_number attributes.page_just) kept.state.area.present (sym run.behind.group)))
-      (seen attributes wide) refl refl is refl area (split_one attributes gap wide (octet == 32) line kept.split) None
+      (character_of attributes wide) refl refl is refl area (split_one attributes gap wide (octet == 32) line kept.split) None
       (λ cell found. fills_one kept run gap runs wide fits (octet == 32))
       kept.state.limits (record { width = of.limited.width; height = of.limited.height })
-      (nat_le longer.part.width kept.state.limits.width) (nat_le (kept_height area.group) kept.state.limits.height)
-      (λ l glyphs e before. open_told l longer attributes.rectangle.width kept.state.limits.width glyphs e known before of.limited.width)
-      (λ l placing e low above. area_told l area attributes.rectangle.height kept.state.limits.height e placing low (omega (arith, st.below.known)) above (of.limited.height low))
       kept.order (λ line s just apart goes stays. order_stays line s kept.order (goes refl) (run.order.0 ∙ ap line_number (sym just)) (run.order.1 ∙ ap (λ j. nat_lt (line_number j) 5) (sym just)))
       (longer_below (1024 * length items) (line.part.width + (gap + wide)) (line.part.count + 1) kept.state.area below (omega (arith, below.group.line.part.width, runs.narrow, small)) (omega (arith, below.group.line.part.count)))
       (split_grows attributes gap wide runs.gap_is (1024 * length items) (octet == 32) line kept.split runs.narrow small below.group.line of.split_below) in

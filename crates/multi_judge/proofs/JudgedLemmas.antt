@@ -1,5 +1,5 @@
 -- The state of the items read so far, at one more item.
-use Rattle.std.proofs.Common.{◌≡◌, ℕ, ◌+◌, ◌*◌, ◌^◌, ◌≤◌, Bool, true, false, cond, inl, inr, List, [], ◌∷◌, ◌++◌, length, Option, Some, None, refl, sym, ap, ◌∙◌, subst, arith, append-nil}
+use Rattle.std.proofs.Common.{◌≡◌, ℕ, ◌+◌, ◌*◌, ◌^◌, ◌≤◌, true, false, cond, inl, inr, List, [], ◌∷◌, ◌++◌, length, Option, Some, None, refl, sym, ap, ◌∙◌, subst, arith, append-nil}
 use Rattle.std.specs.Prelude.{nat_lt, ◌==◌}
 use Rattle.std.specs.List.{count_by, cons_option, find}
 use Rattle.std.specs.Option.{option_map, option_and_then, unwrap_or}
@@ -7,23 +7,26 @@ use Rattle.std.proofs.lemmas.Bool.{cases_Bool, eqb-true}
 use Rattle.std.proofs.lemmas.Option.{same_Some}
 use Rattle.std.proofs.lemmas.List.{length-append}
 use Rattle.std.proofs.lemmas.List.Sums.{sum_by_push, sum_by-append}
-use Rattle.multi_tag.specs.declared.tag.Tag.TheVariants.{NewPage, NewLine, Back, Rect}
+use Rattle.multi_tag.specs.declared.tag.Tag.{Tag}
+use Rattle.multi_tag.specs.declared.tag.Tag.TheVariants.{Back, NewLine, NewPage, Rect}
+use Rattle.multi_judge.specs.FilledState.{begins_line}
 use Rattle.sign_font.specs.declared.parts.LineFill.TheVariants.{Off}
 use Rattle.multi_meaning.specs.Laid.{too_big}
 use Rattle.sign_font.specs.Cell.{SizedCell}
 use Rattle.sign_font.specs.Sign.{SignData, CellData, FontData, cell_in, cell_numbered, font_numbered, info_of, sized}
 use Rattle.sign_font.specs.declared.font.FontInfo.{FontInfo}
 use Rattle.multi_meaning.specs.Attributes.{default_font, default_line_just, default_page_just, whole_sign}
-use Rattle.multi_meaning.specs.Address.{Break, Cover, Glyph, Standing, put_at, spots, standing}
-use Rattle.multi_meaning.specs.Meaning.{Meaning, Shows, Does, begins_area, is_new_page}
+use Rattle.multi_meaning.specs.Address.{Spot, Cover, Glyph, Standing, spots, standing}
+use Rattle.multi_meaning.specs.Meaning.{Meaning, Shows, Does, is_new_page}
 use Rattle.multi_meaning.specs.Offence.{conflicts, never_big, offence, unsized_offence}
 use Rattle.multi_meaning.specs.kept.Present.{present_area, standing_behind}
 use Rattle.multi_meaning.specs.Times.{Times, cycle, ended_times, times_at}
 use Rattle.multi_meaning.specs.Verdict.{pages_of}
-use Rattle.multi_meaning.proofs.OffenceLemmas.{offence-undefined, offence-character, offence-break, offence-page, offence-rectangle}
+use Rattle.multi_meaning.proofs.OffenceLemmas.{offence-undefined, offence-character, offence-page, offence-rectangle}
 use Rattle.multi_meaning.proofs.StandingLemmas.{standing_push}
-use Rattle.multi_meaning.proofs.StateLemmas.{present_area-placing, present_area-nothing, present_area-cover, present_area-new}
-use Rattle.multi_meaning.proofs.WordLemmas.{some_after_push}
+use Rattle.multi_meaning.proofs.StateLemmas.{present_area-nothing, present_area-cover, present_area-new}
+use Rattle.multi_meaning.proofs.WordLemmas.{some_after_push, none_mapped}
+use Rattle.multi_meaning.proofs.UnplacedLemmas as unplaced
 use Rattle.multi_judge.specs.declared.area.Area.{Area}
 use Rattle.multi_judge.specs.declared.attributes.Attributes.{Attributes}
 use Rattle.multi_judge.specs.declared.state.Limits.{Limits}
@@ -80,18 +83,15 @@ found_again sign n font e = ap (font_numbered sign) (found_number sign.fonts n f
 pub cell_of_font : (sign : SignData) (font : FontData) (number : ℕ) → font_numbered sign font.number ≡ Some font → cell_in sign font.number number ≡ option_map (sized font) (cell_numbered font number)
 cell_of_font sign font number e = ap (option_and_then (λ f. option_map (sized f) (cell_numbered f number))) e
 
-none_mapped : (font : FontData) (o : Option CellData) → option_map (sized font) o ≡ None → o ≡ None
-none_mapped font None e = refl
-none_mapped font (Some cell) e = cc
-
-some_mapped : (font : FontData) (o : Option CellData) (c : SizedCell) → option_map (sized font) o ≡ Some c → (cell : CellData) × (o ≡ Some cell) × (c.width ≡ cell.width)
-some_mapped font None c e = cc
-some_mapped font (Some cell) c e = (cell, refl, ap (λ (z : SizedCell). z.width) (sym (same_Some (sized font cell) c e)))
+-- what a function made of a value that there may be, it made of one that there is
+pub some_mapped : {X Y : Type 0} (f : X → Y) (o : Option X) (y : Y) → option_map f o ≡ Some y → (x : X) × (o ≡ Some x) × (y ≡ f x)
+some_mapped f None y e = cc
+some_mapped f (Some x) y e = (x, refl, sym (same_Some (f x) y e))
 
 -- ---- one more item that begins no page
 
 -- the state behind an item that begins no page, from what it makes of the values in force and of the present area
-state-same_page : (sign : SignData) (items : List Meaning) (state new : State) (x : Meaning) → IsStateOf sign items state → is_new_page x ≡ false
+pub state-same_page : (sign : SignData) (items : List Meaning) (state new : State) (x : Meaning) → IsStateOf sign items state → is_new_page x ≡ false
     → new.pages ≡ state.pages → new.cycle ≡ state.cycle
     → new.attributes ≡ attributes_of (standing_behind sign (standing sign items) x)
     → new.area ≡ area_sum (present_area sign (items ++ x ∷ []))
@@ -110,16 +110,22 @@ state-same_page sign items state new x st same pages times attributes area font 
       short = omega (arith, st.short, pages, times);
     }
 
--- an item that puts nothing and begins neither a page nor an area, as a tag that sets an attribute
+-- a tag behind which no line begins leaves the present area
+pub area_stays : (sign : SignData) (items : List Meaning) (tag : Tag) → begins_line tag ≡ false → present_area sign (items ++ Does tag ∷ []) ≡ present_area sign items
+area_stays sign items NewPage e = cc
+area_stays sign items (NewLine gap) e = cc
+area_stays sign items (Rect x y w h) e = cc
+area_stays sign items (Back colour) e = present_area-cover sign items (Does (Back colour)) (Cover (standing sign items).page (unwrap_or colour sign.defaults.back)) refl refl refl
+area_stays sign items tag e = present_area-nothing sign items (Does tag) refl refl
+
+-- an item that leaves the present area, and begins no page
 pub state-attribute : (sign : SignData) (items : List Meaning) (state : State) (attributes : Attributes) (x : Meaning) → IsStateOf sign items state
-    → is_new_page x ≡ false → begins_area x ≡ false → put_at sign.defaults (standing sign items) x ≡ None
-    → attributes ≡ attributes_of (standing_behind sign (standing sign items) x)
+    → is_new_page x ≡ false → present_area sign (items ++ x ∷ []) ≡ present_area sign items → attributes ≡ attributes_of (standing_behind sign (standing sign items) x)
     → font_numbered sign (standing_behind sign (standing sign items) x).font.number ≡ Some (standing_behind sign (standing sign items) x).font
-    → IsBelow (1024 * length items + 1024) state.area
     → IsStateOf sign (items ++ x ∷ []) (record state { attributes = attributes })
-state-attribute sign items state attributes x st page area put is font below =
-    state-same_page sign items state (record state { attributes = attributes }) x st page refl refl is
-    (st.area ∙ ap area_sum (sym (present_area-nothing sign items x area put))) font below
+state-attribute sign items state attributes x st page area is font =
+    state-same_page sign items state (record state { attributes = attributes }) x st page refl refl is (st.area ∙ ap area_sum (sym area)) font
+    (below_more (1024 * length items) (1024 * length items + 1024) state.area (omega arith) st.below)
 
 -- what the items so far make of a state doesn't hang on its limits
 pub state-limits : (sign : SignData) (items : List Meaning) (state new : State) → new ≡ record state { area = new.area; limits = new.limits } → IsStateOf sign items (record state { area = new.area }) → IsStateOf sign items new
@@ -134,26 +140,12 @@ state-limits sign items state new same st =
       short = st.short;
     })
 
--- ---- placing items
-
--- the two cases of a placing item
-case_11 : (a b : Bool) → a ≡ true → cond {A = Option ℕ} a (Some 11) (cond b (Some 5) None) ≡ Some 11
-case_11 a b p = ap (λ c. cond {A = Option ℕ} c (Some 11) (cond b (Some 5) None)) p
-
-case_5 : (a b : Bool) → a ≡ false → b ≡ true → cond {A = Option ℕ} a (Some 11) (cond b (Some 5) None) ≡ Some 5
-case_5 a b p q = ap (λ c. cond {A = Option ℕ} c (Some 11) (cond b (Some 5) None)) p ∙ ap (λ c. cond {A = Option ℕ} c (Some 5) None) q
-
-case_none : (a b : Bool) → a ≡ false → b ≡ false → cond {A = Option ℕ} a (Some 11) (cond b (Some 5) None) ≡ None
-case_none a b p q = ap (λ c. cond {A = Option ℕ} c (Some 11) (cond b (Some 5) None)) p ∙ ap (λ c. cond {A = Option ℕ} c (Some 5) None) q
-
 -- a character that doesn't offend doesn't conflict
 pub no_conflict : (sign : SignData) (items : List Meaning) (number : ℕ) (cell : CellData) → cell_numbered (standing sign items).font number ≡ Some cell → unsized_offence sign items (Shows number) ≡ None
     → conflicts (spots sign items) (record { at = standing sign items; put = Glyph cell }) ≡ false
-no_conflict sign items number cell found fine = none_first _ _ (sym (offence-character never_big sign items number cell found) ∙ fine)
-  where
-    none_first : (a : Bool) (o : Option ℕ) → cond {A = Option ℕ} a (Some 11) o ≡ None → a ≡ false
-    none_first true o e = cc
-    none_first false o e = refl
+no_conflict sign items number cell found fine =
+    let spot : Spot = record { at = standing sign items; put = Glyph cell } in
+    unplaced.no_conflict (conflicts (spots sign items) spot) false (sym (offence-character never_big sign items number cell found) ∙ fine)
 
 module _ (sign : SignData) (items : List Meaning) (state : State) (st : IsStateOf sign items state) where
   -- the font in force
@@ -166,7 +158,7 @@ module _ (sign : SignData) (items : List Meaning) (state : State) (st : IsStateO
   pub cell_missing : (number : ℕ) → cell_in sign state.attributes.font.number number ≡ None → cell_numbered (standing sign items).font number ≡ None
   cell_missing number none =
       let font = (standing sign items).font in
-      none_mapped font (cell_numbered font number) (sym (cell_is number) ∙ none)
+      none_mapped (sized font) (cell_numbered font number) (sym (cell_is number) ∙ none)
 
   pub judged-undefined : (number : ℕ) → cell_in sign state.attributes.font.number number ≡ None → offence Off sign items (Shows number) ≡ Some 7
   judged-undefined number none = offence-undefined (too_big Off) sign items number (cell_missing number none)
@@ -178,46 +170,8 @@ module _ (sign : SignData) (items : List Meaning) (state : State) (st : IsStateO
       → (cell : CellData) × (cell_numbered (standing sign items).font number ≡ Some cell) × (c.width ≡ cell.width)
   cell_found number c some =
       let font = (standing sign items).font in
-      some_mapped font (cell_numbered font number) c (sym (cell_is number) ∙ some)
-
-  module _ (number : ℕ) (cell : CellData) (found : cell_numbered (standing sign items).font number ≡ Some cell) where
-    pub character-conflict : conflicts (spots sign items) (record { at = standing sign items; put = Glyph cell }) ≡ true → offence Off sign items (Shows number) ≡ Some 11
-    character-conflict p = offence-character (too_big Off) sign items number cell found ∙ case_11 _ _ p
-
-    pub character-too_big : conflicts (spots sign items) (record { at = standing sign items; put = Glyph cell }) ≡ false → too_big Off (spots sign items) (record { at = standing sign items; put = Glyph cell }) ≡ true
-        → offence Off sign items (Shows number) ≡ Some 5
-    character-too_big p q = offence-character (too_big Off) sign items number cell found ∙ case_5 _ _ p q
-
-    pub character-fits : conflicts (spots sign items) (record { at = standing sign items; put = Glyph cell }) ≡ false → too_big Off (spots sign items) (record { at = standing sign items; put = Glyph cell }) ≡ false
-        → offence Off sign items (Shows number) ≡ None
-    character-fits p q = offence-character (too_big Off) sign items number cell found ∙ case_none _ _ p q
-
-    pub state-character : (area : Area) → area ≡ area_sum (present_area sign items ++ record { at = standing sign items; put = Glyph cell } ∷ []) → IsBelow (1024 * length items + 1024) area
-        → IsStateOf sign (items ++ Shows number ∷ []) (record state { area = area })
-    state-character area sum below =
-        let puts : put_at sign.defaults (standing sign items) (Shows number) ≡ Some (Glyph cell) = ap (option_map Glyph) found in
-        state-same_page sign items state (record state { area = area }) (Shows number) st refl refl refl st.attributes
-        (sum ∙ ap area_sum (sym (present_area-placing sign items (Shows number) (Glyph cell) refl puts refl)))
-        st.font below
-
-  module _ (gap : Option ℕ) where
-    pub break-conflict : conflicts (spots sign items) (record { at = standing sign items; put = Break gap }) ≡ true → offence Off sign items (Does (NewLine gap)) ≡ Some 11
-    break-conflict p = offence-break (too_big Off) sign items gap ∙ case_11 _ _ p
-
-    pub break-too_big : conflicts (spots sign items) (record { at = standing sign items; put = Break gap }) ≡ false → too_big Off (spots sign items) (record { at = standing sign items; put = Break gap }) ≡ true
-        → offence Off sign items (Does (NewLine gap)) ≡ Some 5
-    break-too_big p q = offence-break (too_big Off) sign items gap ∙ case_5 _ _ p q
-
-    pub break-fits : conflicts (spots sign items) (record { at = standing sign items; put = Break gap }) ≡ false → too_big Off (spots sign items) (record { at = standing sign items; put = Break gap }) ≡ false
-        → offence Off sign items (Does (NewLine gap)) ≡ None
-    break-fits p q = offence-break (too_big Off) sign items gap ∙ case_none _ _ p q
-
-    pub state-break : (area : Area) → area ≡ area_sum (present_area sign items ++ record { at = standing sign items; put = Break gap } ∷ []) → IsBelow (1024 * length items + 1024) area
-        → IsStateOf sign (items ++ Does (NewLine gap) ∷ []) (record state { area = area })
-    state-break area sum below =
-        state-same_page sign items state (record state { area = area }) (Does (NewLine gap)) st refl refl refl st.attributes
-        (sum ∙ ap area_sum (sym (present_area-placing sign items (Does (NewLine gap)) (Break gap) refl refl refl)))
-        st.font below
+      let (cell, found, is) = some_mapped (sized font) (cell_numbered font number) c (sym (cell_is number) ∙ some) in
+      (cell, found, ap (λ (z : SizedCell). z.width) is)
 
   -- ---- new pages and rectangles
 
@@ -254,10 +208,6 @@ module _ (sign : SignData) (items : List Meaning) (state : State) (st : IsStateO
 
 -- ---- the start
 
-pub font_of_info : (o : Option FontData) (info : FontInfo) → option_map info_of o ≡ Some info → (font : FontData) × (o ≡ Some font) × (info ≡ info_of font)
-font_of_info None info e = cc
-font_of_info (Some font) info e = (font, refl, sym (same_Some (info_of font) info e))
-
 -- the state before the first item
 pub state-start : (sign : SignData) (info : FontInfo) (area : Area) (limits : Limits) → option_map info_of (font_numbered sign sign.defaults.font) ≡ Some info → area ≡ area_sum [] → IsBelow 0 area
     → IsStateOf sign [] (record {
@@ -280,24 +230,13 @@ pub state-start : (sign : SignData) (info : FontInfo) (area : Area) (limits : Li
     })
 unfolding standing spots
 state-start sign info area limits is sum below =
-    let (font, found, same) = font_of_info (font_numbered sign sign.defaults.font) info is in
+    let (font, found, same) = some_mapped info_of (font_numbered sign sign.defaults.font) info is in
     let none : FontData = record { number = 0; version = 0; height = 0; char_spacing = 0; line_spacing = 0; cells = [] } in
     let default : default_font sign ≡ font = ap (λ o. unwrap_or o none) found in
     record {
       pages = refl;
       times = refl;
-      attributes = λ i. record {
-        font = (same ∙ ap info_of (sym default)) i;
-        line_just = default_line_just sign.defaults;
-        page_just = default_page_just sign.defaults;
-        spacing = None;
-        fore = sign.defaults.fore;
-        back = sign.defaults.back;
-        on = sign.defaults.page_on;
-        off = sign.defaults.page_off;
-        flash = None;
-        rectangle = whole_sign sign;
-      };
+      attributes = ap (λ f. let a : Attributes = record (attributes_of (standing sign [])) { font = f } in a) (same ∙ ap info_of (sym default));
       area = sum;
       font = subst (λ (f : FontData). font_numbered sign f.number ≡ Some f) (sym default) (found_again sign sign.defaults.font font found);
       below = below;
@@ -310,15 +249,6 @@ ready sign items state st few = record {
   below = below_more (1024 * length items) (2 ^ 62) state.area (omega arith) st.below;
   short = st.short;
 }
-
--- a `pb`, which covers the page and places nothing
-pub state-cover : (sign : SignData) (items : List Meaning) (state : State) (attributes : Attributes) (colour : Option ℕ) → IsStateOf sign items state
-    → attributes ≡ attributes_of (standing_behind sign (standing sign items) (Does (Back colour)))
-    → IsBelow (1024 * length items + 1024) state.area
-    → IsStateOf sign (items ++ Does (Back colour) ∷ []) (record state { attributes = attributes })
-state-cover sign items state attributes colour st is below =
-    state-same_page sign items state (record state { attributes = attributes }) (Does (Back colour)) st refl refl refl is
-    (st.area ∙ ap area_sum (sym (present_area-cover sign items (Does (Back colour)) (Cover (standing sign items).page (unwrap_or colour sign.defaults.back)) refl refl refl))) st.font below
 
 -- a rectangle, in which an empty area begins
 pub state-rectangle : (sign : SignData) (items : List Meaning) (state new : State) (x y w h : ℕ) → IsStateOf sign items state

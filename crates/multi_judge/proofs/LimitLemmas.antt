@@ -1,39 +1,43 @@
 -- What the present segment and the present group may have: the limits that are kept, and what fits them.
-use Rattle.std.proofs.Common.{◌≡◌, ℕ, ◌≤◌, Bool, true, false, ◌&&◌, not, [], ◌∷◌, ◌++◌, List, Option, refl, sym, ap, subst, ◌∙◌, arith}
+use Rattle.std.proofs.Common.{◌≡◌, inl, inr, ℕ, ◌+◌, ◌*◌, ◌≤◌, Bool, true, false, cond, ◌&&◌, not, [], ◌∷◌, ◌++◌, List, length, Option, Some, None, refl, sym, ap, subst, ◌∙◌, arith}
 use Rattle.std.specs.Prelude.{nat_le}
 use Rattle.std.specs.List.{All, AllPass, list_any}
-use Rattle.std.proofs.lemmas.List.Elements.{All-head}
+use Rattle.std.proofs.lemmas.List.Elements.{All-head, All-push}
 use Rattle.std.proofs.lemmas.Bool.{and_parts, false≢true, le-leb}
 use Rattle.std.proofs.lemmas.Bool.Decides.{nat_tests}
 use Rattle.multi_tag.specs.Just.{line_number, page_number}
 use Rattle.sign_font.specs.declared.parts.LineFill.TheVariants.{Off}
 use Rattle.multi_meaning.specs.declared.attributes.Rectangle.{Rectangle}
-use Rattle.multi_meaning.specs.Address.{Spot, Standing, area_of, in_area, in_group, is_break, is_glyph, line_before, spots, standing}
-use Rattle.multi_meaning.specs.Meaning.{Meaning}
-use Rattle.multi_meaning.specs.Fit.{FitsWithout, area_fits, fit, line_fits, room_for}
+use Rattle.multi_meaning.specs.Address.{Spot, Standing, area_of, is_glyph, line_before, spots, standing}
+use Rattle.multi_meaning.specs.Meaning.{Does, Meaning, Shows}
+use Rattle.multi_meaning.specs.Fit.{area_fits, fit, line_fits, room_for}
 use Rattle.multi_meaning.specs.Laid.{too_big}
 use Rattle.multi_meaning.proofs.FitLemmas.{room_end, room_middle, room_start}
 use Rattle.multi_meaning.proofs.FillLemmas.{nothing_fits}
-use Rattle.multi_meaning.proofs.GroupLemmas.{in_group_other}
+use Rattle.multi_meaning.proofs.GroupLemmas.{area_placing, in_group_other}
 use Rattle.multi_meaning.proofs.LinesFitLemmas.{each_just}
 use Rattle.multi_meaning.proofs.WordLemmas.{largest_most, largest_push}
-use Rattle.multi_meaning.specs.Offence.{clashes}
-use Rattle.multi_meaning.specs.Words.{largest}
-use Rattle.multi_meaning.specs.kept.Present.{IsPlacing}
+use Rattle.multi_meaning.specs.Offence.{clashes, conflicts, offence}
+use Rattle.multi_meaning.specs.Words.{largest, some_after}
+use Rattle.multi_meaning.specs.kept.Present.{IsPlacing, present_area}
 use Rattle.multi_tag.proofs.JustLemmas.{line_number_known, page_number_known}
 use Rattle.multi_judge.specs.declared.area.Area.{Area}
-use Rattle.sign_font.specs.Sign.{SignData}
+use Rattle.sign_font.specs.Cell.{SizedCell}
+use Rattle.sign_font.specs.Sign.{SignData, cell_in}
+use Rattle.multi_tag.specs.declared.tag.Tag.TheVariants.{NewLine}
 use Rattle.multi_judge.specs.declared.area.Group.{Group}
 use Rattle.multi_judge.specs.declared.line.Line.{Line}
 use Rattle.multi_judge.specs.declared.state.State.{State}
 use Rattle.multi_judge.specs.declared.attributes.Attributes.{Attributes}
-use Rattle.multi_judge.specs.Adding.{AddsBreak, AddsCharacter}
-use Rattle.multi_judge.specs.Run.{FitsBefore, IsBehindCharacter, IsBehindOne, kept_fits, kept_height, lengthened_line}
-use Rattle.multi_judge.specs.State.{AreaFits, IsLimited, IsMost, IsStateOf, attributes_of, group_room, segment_room}
-use Rattle.multi_judge.specs.Sums.{area_sum, line_sum}
-use Rattle.multi_judge.proofs.AreaSumLemmas.{fits_break, fits_character, group_of_own, placing_break, placing_character, present_line}
-use Rattle.multi_judge.proofs.BeforeLemmas.{GroupsFitBefore, group_room_fits, groups_fit_before, segments_fit_before}
+use Rattle.multi_judge.specs.Adding.{AddsBreak, AddsCharacter, character_of}
+use Rattle.multi_judge.specs.Run.{FitsBefore, IsBehindCharacter, is_within, kept_fits, kept_height, lengthened_line}
+use Rattle.multi_judge.specs.State.{AreaFits, IsLimited, IsMost, IsStateOf, group_room, segment_room}
+use Rattle.multi_judge.specs.Sums.{IsBelow, area_sum, line_sum}
+use Rattle.multi_judge.proofs.AreaSumLemmas.{fits_break, fits_character, group_of_own, no_clash, present_line}
+use Rattle.multi_judge.proofs.BeforeLemmas.{GroupsFitBefore, fits_without, group_room_fits, groups_fit_before, segments_fit_before}
+use Rattle.multi_judge.proofs.JudgedLemmas.{cell_found, state-limits}
 use Rattle.multi_judge.proofs.LineSumLemmas.{in_order, no_character}
+use Rattle.multi_judge.proofs.PlacingLemmas.{IsFound, Placed, break-grown, character-grown, line_end, item_of, line_here, page_here, placed_order, placed_size, shown, spot_of, state-placed}
 use Rattle.multi_judge.proofs.RunLemmas.{kept_area_fits, kept_fits_is}
 
 -- ---- what fits them
@@ -122,85 +126,78 @@ module _ (width : ℕ) (line : List Spot) (s : Spot) (l : Line) (e : l ≡ line_
   pub told_behind : (most : ℕ) → most ≡ segment_room l width → nat_le l.part.width most ≡ line_fits width (line ++ s ∷ [])
   told_behind most is = line_told (line ++ s ∷ []) l width most e known.0 known.1 fits_behind is
 
--- one more item leaves the groups that it isn't in
-one_apart : (area : List Spot) (s : Spot) (just : ℕ) → (just ≡ page_number s.at.page_just → ⊥) → in_group just (area ++ s ∷ []) ≡ in_group just area
-one_apart area s just other = in_group_other just area s (λ h. other (sym h))
+-- an area with one more item, which is in its present group, is told by its limit, where it fitted without the item
+higher_told : (before : List Spot) (s : Spot) (a : Area) (most : ℕ) → IsPlacing s → a ≡ area_sum (area_of s before ++ s ∷ []) → a.present ≡ page_number s.at.page_just
+    → area_fits s.at.rectangle.height (area_of s before) ≡ true → most ≡ group_room a s.at.rectangle.height → nat_le (kept_height a.group) most ≡ area_fits s.at.rectangle.height (area_of s before ++ s ∷ [])
+higher_told before s a most is e present without room =
+    let page = page_number_known s.at.page_just in
+    let high : a.present ≤ 4 = omega (arith, present, page.1) in
+    let placing = All-push IsPlacing (area_of s before) s (area_placing before s) is in
+    let others = λ (just : ℕ) (other : just ≡ page_number s.at.page_just → ⊥). in_group_other just (area_of s before) s (λ h. other (sym h)) in
+    area_told (area_of s before ++ s ∷ []) a s.at.rectangle.height most e placing (omega (arith, present, page.0)) high
+    (groups_fit_before s.at.rectangle.height (area_of s before) (area_of s before ++ s ∷ []) (page_number s.at.page_just) others a e placing present high without) room
 
--- a character that was put where all before it fits
-module _ (before : List Spot) (s : Spot) (glyph : is_glyph s ≡ true) (area : Area) (is : area ≡ area_sum (area_of s before ++ s ∷ [])) (present : area.present ≡ page_number s.at.page_just) (just : area.group.line.present ≡ line_number s.at.line_just)
-    (page_known : (2 ≤ area.present) × (area.present ≤ 4)) (line_known : (2 ≤ area.group.line.present) × (area.group.line.present ≤ 5)) where
-  pub within_limits : FitsWithout before s → (width height : ℕ) → width ≡ segment_room area.group.line s.at.rectangle.width → height ≡ group_room area s.at.rectangle.height
-      → (nat_le area.group.line.part.width width && nat_le (kept_height area.group) height) ≡ not (too_big Off before s)
-  within_limits without width height w h =
+-- what stands behind one more character
+pub behind_added : (state new : State) (cell_width : ℕ) → AddsCharacter state cell_width new → IsBehindCharacter new
+behind_added state new cell_width added = subst IsBehindCharacter (sym added.same) (record { group = added.behind.0; line = added.behind.1 })
+
+-- one more item with a place is put behind items whose state this is, and doesn't conflict: whether it offends is told by the limits that
+-- are kept then
+module _ (sign : SignData) (items : List Meaning) (state : State) (st : IsStateOf sign items state) (new : State) (same : new ≡ record state { area = new.area; limits = new.limits }) where
+  abbrev at : Standing
+  at = standing sign items
+
+  -- what may stand there, in the rectangle in force
+  rectangle : new.attributes.rectangle ≡ at.rectangle
+  rectangle = ap (λ (t : State). t.attributes.rectangle) same ∙ ap (λ (a : Attributes). a.rectangle) st.attributes
+
+  height_room : IsLimited new → 2 ≤ new.area.present → new.limits.height ≡ group_room new.area at.rectangle.height
+  height_room now low = now.height low ∙ ap (λ (r : Rectangle). group_room new.area r.height) rectangle
+
+  -- the state then, and whether the item offends
+  placed_judged : (p : Placed) → IsFound sign items p → conflicts (spots sign items) (spot_of sign items p) ≡ false → new.area ≡ area_sum (present_area sign items ++ spot_of sign items p ∷ []) → IsBelow (1024 * length items + 1024) new.area
+      → (fits : Bool) → fits ≡ not (too_big Off (spots sign items) (spot_of sign items p)) → (offence Off sign items (item_of p) ≡ cond fits None (Some 5)) × IsStateOf sign (items ++ item_of p ∷ []) new
+  placed_judged p found apart grown below fits is =
+      (placed_size sign items p found apart fits is, state-limits sign (items ++ item_of p ∷ []) state new same (state-placed sign items state st p found new.area grown below))
+
+  pub character_judged : some_after (offence Off sign) items ≡ [] → IsLimited state → (number : ℕ) (c : SizedCell) → cell_in sign state.attributes.font.number number ≡ Some c → (width : ℕ) → width ≡ c.width → AddsCharacter state width new
+      → (r : Bool) → ((before : List Spot) (s : Spot) → state.area ≡ area_sum (area_of s before) → is_glyph s ≡ true → s.at.page_just ≡ state.attributes.page_just → s.at.line_just ≡ state.attributes.line_just → r ≡ conflicts before s)
+      → r ≡ false → (offence Off sign items (Shows number) ≡ cond (is_within new) None (Some 5)) × IsStateOf sign (items ++ Shows number ∷ []) new
+  character_judged none limited number c some width wide added r answer free =
+      let (cell, found, cell_width) = cell_found sign items state st number c some in
+      let p = shown number cell in
+      let s = spot_of sign items p in
+      let before = spots sign items in
+      let apart = sym (answer before s st.area refl (page_here sign items state st) (line_here sign items state st)) ∙ free in
+      let grown = character-grown sign items state st number c cell cell_width apart (character_of state.attributes width) refl refl wide refl new.area added.sum in
       let page = page_number s.at.page_just in
-      let more = area_of s before ++ s ∷ [] in
-      let spots = line_before before s ++ s ∷ [] in
-      let own = present_line before s page glyph refl in
-      let line : area.group.line ≡ line_sum spots = ap (λ (g : Group). g.line) (group_of_own more area is page (sym present)) ∙ ap line_sum own in
-      let wide = s.at.rectangle.width in
-      let high = s.at.rectangle.height in
-      let placing = placing_character before s glyph in
-      let earlier = segments_fit_before wide (line_before before s) s area.group.line line just line_known.1 without.0 in
-      let above = groups_fit_before high (area_of s before) more page (one_apart (area_of s before) s) area is placing present page_known.1 without.1 in
-      fits_character before s page wide high _ _ glyph refl refl refl
-      (line_told spots area.group.line wide width line line_known.0 line_known.1 earlier w ∙ ap (line_fits wide) (sym own))
-      (area_told more area high height is placing page_known.0 page_known.1 above h)
+      let present : new.area.present ≡ page = added.behind.0 ∙ ap page_number (sym (page_here sign items state st)) in
+      let without = fits_without sign items none s refl in
+      let now = added.limited limited in
+      let width_room = now.width added.behind.1.any ∙ ap (λ (r : Rectangle). segment_room new.area.group.line r.width) rectangle in
+      let own = present_line before s page refl refl in
+      let line : new.area.group.line ≡ line_sum (line_before before s ++ s ∷ []) =
+      ap (λ (g : Group). g.line) (group_of_own (area_of s before ++ s ∷ []) new.area grown page (sym present)) ∙ ap line_sum own in
+      placed_judged p found apart grown (added.grows (1024 * length items) st.below) (is_within new)
+      (fits_character before s page s.at.rectangle.width s.at.rectangle.height (nat_le new.area.group.line.part.width new.limits.width) (nat_le (kept_height new.area.group) new.limits.height) refl refl refl refl
+      (told_behind s.at.rectangle.width (line_before before s) s new.area.group.line line (no_clash before s page refl refl apart) without.0 new.limits.width width_room ∙ ap (line_fits s.at.rectangle.width) (sym own))
+      (higher_told before s new.area new.limits.height (inl refl) grown present without.1 (height_room now (omega (arith, present, (page_number_known s.at.page_just).0)))))
 
--- one more character, which doesn't conflict
-module _ (state new : State) (cell_width : ℕ) (added : AddsCharacter state cell_width new) where
-  behind : (new.area.present ≡ page_number state.attributes.page_just) × IsBehindOne state.attributes.line_just state.attributes.font new.area.group.line
-  behind = added.behind
-
-  pub behind_added : IsBehindCharacter new
-  behind_added = subst IsBehindCharacter (sym added.same) (record { group = behind.0; line = behind.1 })
-
-  module _ (limited : IsLimited state) where
-    page : (2 ≤ new.area.present) × (new.area.present ≤ 4)
-    page = let known = page_number_known state.attributes.page_just in (omega (arith, known.0, behind.0), omega (arith, known.1, behind.0))
-
-    line : (2 ≤ new.area.group.line.present) × (new.area.group.line.present ≤ 5)
-    line = let known = line_number_known state.attributes.line_just in (omega (arith, known.0, behind.1.segment), omega (arith, known.1, behind.1.segment))
-
-    pub added_fits : (before : List Spot) (s : Spot) → is_glyph s ≡ true → new.area ≡ area_sum (area_of s before ++ s ∷ []) → new.area.present ≡ page_number s.at.page_just → s.at.line_just ≡ state.attributes.line_just
-        → s.at.rectangle.width ≡ state.attributes.rectangle.width → s.at.rectangle.height ≡ state.attributes.rectangle.height → FitsWithout before s
-        → (nat_le new.area.group.line.part.width new.limits.width && nat_le (kept_height new.area.group) new.limits.height) ≡ not (too_big Off before s)
-    added_fits before s glyph is present own wide high without =
-        let rectangle : new.attributes.rectangle ≡ state.attributes.rectangle = ap (λ (t : State). t.attributes.rectangle) added.same in
-        let now = added.limited limited in
-        let w : new.limits.width ≡ segment_room new.area.group.line s.at.rectangle.width =
-        now.width behind.1.any ∙ ap (λ (r : Rectangle). segment_room new.area.group.line r.width) rectangle ∙ ap (segment_room new.area.group.line) (sym wide) in
-        let h : new.limits.height ≡ group_room new.area s.at.rectangle.height =
-        now.height page.0 ∙ ap (λ (r : Rectangle). group_room new.area r.height) rectangle ∙ ap (group_room new.area) (sym high) in
-        within_limits before s glyph new.area is present (behind.1.segment ∙ ap line_number (sym own)) page line without new.limits.width new.limits.height w h
-
--- one more end of a line, behind which no group is before that of the items so far
-module _ (state new : State) (gap : Option ℕ) (added : AddsBreak state gap new) (limited : IsLimited state) where
-  pub break_fits : (before : List Spot) (s : Spot) → is_break s ≡ true → state.area.present ≤ page_number state.attributes.page_just → s.at.page_just ≡ state.attributes.page_just
-      → s.at.rectangle.height ≡ state.attributes.rectangle.height → new.area ≡ area_sum (area_of s before ++ s ∷ []) → area_fits s.at.rectangle.height (area_of s before) ≡ true
-      → nat_le new.area.group.closed new.limits.height ≡ not (too_big Off before s)
-  break_fits before s ends order page high is without =
-      let on = added.present order in
-      let known = page_number_known state.attributes.page_just in
-      let low : 2 ≤ new.area.present = omega (arith, known.0, on) in
-      let top : new.area.present ≤ 4 = omega (arith, known.1, on) in
-      let placing = placing_break before s ends in
-      let more = area_of s before ++ s ∷ [] in
-      let height = s.at.rectangle.height in
-      let rectangle : new.attributes.rectangle ≡ state.attributes.rectangle = ap (λ (t : State). t.attributes.rectangle) added.same in
-      let h : new.limits.height ≡ group_room new.area height =
-      (added.limited limited).height low ∙ ap (λ (r : Rectangle). group_room new.area r.height) rectangle ∙ ap (group_room new.area) (sym high) in
-      let above = groups_fit_before height (area_of s before) more (page_number s.at.page_just) (one_apart (area_of s before) s) new.area is placing (on ∙ ap page_number (sym page)) top without in
+  pub break_judged : AreaFits sign items → IsLimited state → (gap : Option ℕ) → AddsBreak state gap new
+      → (r : Bool) → ((before : List Spot) (s : Spot) → state.area ≡ area_sum (area_of s before) → is_glyph s ≡ false → s.at.page_just ≡ state.attributes.page_just → r ≡ conflicts before s)
+      → r ≡ false → (offence Off sign items (Does (NewLine gap)) ≡ cond (nat_le new.area.group.closed new.limits.height) None (Some 5)) × IsStateOf sign (items ++ Does (NewLine gap) ∷ []) new
+  break_judged fits limited gap added r answer free =
+      let p = line_end gap in
+      let s = spot_of sign items p in
+      let before = spots sign items in
+      let apart = sym (answer before s st.area refl (page_here sign items state st)) ∙ free in
+      let grown = break-grown sign items state st gap apart new.area added.sum in
+      let present : new.area.present ≡ page_number s.at.page_just = added.present (placed_order sign items state st p apart) ∙ ap page_number (sym (page_here sign items state st)) in
       let closed : kept_height new.area.group ≡ new.area.group.closed = rw added.none refl in
-      fits_break before s height _ ends refl
-      (ap (λ n. nat_le n new.limits.height) (sym closed) ∙ area_told more new.area height new.limits.height is placing low top above h)
-
-  -- the same behind these items, whose area fits
-  pub break_told : (sign : SignData) (items : List Meaning) → IsStateOf sign items state → AreaFits sign items → (s : Spot) → s.at ≡ standing sign items → is_break s ≡ true → state.area.present ≤ page_number state.attributes.page_just
-      → new.area ≡ area_sum (area_of s (spots sign items) ++ s ∷ []) → nat_le new.area.group.closed new.limits.height ≡ not (too_big Off (spots sign items) s)
-  break_told sign items st fits s at ends order grown =
-      let own : attributes_of s.at ≡ state.attributes = ap attributes_of at ∙ sym st.attributes in
-      break_fits (spots sign items) s ends order (ap (λ (a : Attributes). a.page_just) own) (ap (λ (a : Attributes). a.rectangle.height) own) grown
-      (subst (λ (t : Standing). area_fits t.rectangle.height (in_area t.area (spots sign items)) ≡ true) (sym at) fits)
+      placed_judged p tt apart grown (added.grows (1024 * length items) st.below) (nat_le new.area.group.closed new.limits.height)
+      (fits_break before s s.at.rectangle.height (nat_le new.area.group.closed new.limits.height) refl refl
+      (ap (λ n. nat_le n new.limits.height) (sym closed)
+      ∙ higher_told before s new.area new.limits.height (inr refl) grown present fits (height_room (added.limited limited) (omega (arith, present, (page_number_known s.at.page_just).0)))))
 
 -- an area of no item has no limits yet
 pub limited_none : (state : State) → state.area ≡ area_sum [] → IsLimited state

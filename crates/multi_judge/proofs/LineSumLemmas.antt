@@ -3,7 +3,7 @@ use Rattle.std.proofs.Common.{◌≡◌, ℕ, ◌+◌, ◌<◌, ◌≤◌, max, 
 use Rattle.std.specs.Prelude.{nat_lt}
 use Rattle.std.specs.List.{last_or, list_any, AllPass}
 use Rattle.std.specs.Option.{unwrap_or, option_map, option_map_or}
-use Rattle.std.proofs.lemmas.Bool.{and_right, cases_lt, eq-eqb, false≢true, le-ltb, lt-ltb, ne_eqb, or_parts}
+use Rattle.std.proofs.lemmas.Bool.{and_right, cases_eq, cases_lt, eq-eqb, false≢true, le-ltb, lt-ltb, ne_eqb, or_parts}
 use Rattle.std.proofs.lemmas.List.{append-nil}
 use Rattle.std.proofs.lemmas.List.Elements.{All-weaker, filter-append}
 use Rattle.std.proofs.lemmas.List.Folds.{list_any-append}
@@ -16,11 +16,13 @@ use Rattle.multi_meaning.proofs.WordLemmas.{largest_most, largest_push, last_or_
 use Rattle.multi_meaning.proofs.AreaLemmas.{filter_none}
 use Rattle.multi_meaning.proofs.CheckLemmas.{any_largest}
 use Rattle.multi_meaning.proofs.HeightLemmas.{any_glyph, bearers_glyphs}
+use Rattle.multi_meaning.proofs.LinesFitLemmas.{each_just}
 use Rattle.multi_meaning.proofs.LayoutLemmas.{width_push}
 use Rattle.multi_meaning.proofs.GroupLemmas.{filter_yes}
 use Rattle.multi_judge.specs.declared.line.Character.{Character}
 use Rattle.multi_judge.specs.declared.line.Segment.{Segment}
 use Rattle.multi_judge.specs.declared.line.Line.{Line}
+use Rattle.multi_judge.specs.Run.{kept_width}
 use Rattle.multi_judge.specs.Sums.{segment_sum, width_before, line_sum, line_sum_in, IsCharacter}
 
 -- the gap before one more character, from the spacing of the last one's font
@@ -95,59 +97,64 @@ segment_behind just line less =
     (All-weaker (λ (t : Spot). line_number t.at.line_just ≤ largest (λ (t : Spot). line_number t.at.line_just) line) (λ t. (is_glyph t && (line_number t.at.line_just == just)) ≡ false)
     (λ t most. and_right (is_glyph t) (line_number t.at.line_just == just) (ne_eqb (line_number t.at.line_just) just (λ e. omega arith))) line (largest_most (λ t. line_number t.at.line_just) line))
 
--- a line whose present segment becomes a later one
-module _ (line : List Spot) (just : ℕ) (l : Line) (e : l ≡ line_sum line) (later : l.present < just) where
-  present_is : l.present ≡ largest (λ (t : Spot). line_number t.at.line_just) line
-  present_is = ap (λ (l : Line). l.present) e
+-- what is kept of a part before the present one is its size, where no other part has any
+pub whole_before : (size : ℕ → ℕ) (present just : ℕ) → (present ≤ just → size just ≡ 0) → cond (nat_lt just present) (size just) 0 ≡ size just
+whole_before size present just none = elim (cases_lt just present) [
+  | inl before ↦ rw (lt-ltb just present before) refl
+  | inr behind ↦ rw (le-ltb just present behind) (sym (none behind))
+]
 
-  -- the width before the present segment of one that the line had not come to
-  none_behind : (j : ℕ) → l.present < j → width_of (segment j line) ≡ 0
-  none_behind j behind = ap width_of (segment_behind j line (omega (arith, present_is)))
+-- the widths of the segments, by what is kept of the line
+module _ (line : List Spot) (l : Line) (e : l ≡ line_sum line) where
+  most_is : l.present ≡ largest (λ (t : Spot). line_number t.at.line_just) line
+  most_is = ap (λ (l : Line). l.present) e
 
-  -- the width of a segment that isn't the present one stays as it was kept
-  kept : (j : ℕ) (w : ℕ) → w ≡ width_before (largest (λ (t : Spot). line_number t.at.line_just) line) j line → (l.present ≡ j → ⊥) → w ≡ width_before just j line
-  kept j w is other = elim (cases_lt j l.present) [
-    | inl before ↦ is ∙ ap (λ b. cond b (width_of (segment j line)) 0) (lt-ltb j (largest (λ (t : Spot). line_number t.at.line_just) line) (omega (arith, present_is)) ∙ sym (lt-ltb j just (omega arith)))
-    | inr behind ↦
-        let none = none_behind j (omega (arith, other)) in
-        is ∙ ap (λ b. cond b (width_of (segment j line)) 0) (le-ltb j (largest (λ (t : Spot). line_number t.at.line_just) line) (omega (arith, present_is))) ∙ sym (cond_zero (nat_lt j just) (width_of (segment j line)) none)
+  pub none_of_later : (just : ℕ) → l.present < just → segment just line ≡ []
+  none_of_later just later = segment_behind just line (omega (arith, most_is))
+
+  pub width_present : (just : ℕ) → just ≡ l.present → l.part.width ≡ width_of (segment just line)
+  width_present just own = ap (λ (l : Line). l.part.width) e ∙ ap (λ n. width_of (segment n line)) (sym (own ∙ most_is))
+
+  pub width_other_of : (just w : ℕ) → w ≡ width_before (largest (λ (t : Spot). line_number t.at.line_just) line) just line → (just ≡ l.present → ⊥) → w ≡ width_of (segment just line)
+  width_other_of just w is other =
+      is ∙ whole_before (λ j. width_of (segment j line)) (largest (λ (t : Spot). line_number t.at.line_just) line) just
+      (λ behind. ap width_of (none_of_later just (omega (arith, behind, other, most_is))))
+
+  kept_is : (just w : ℕ) → w ≡ width_before (largest (λ (t : Spot). line_number t.at.line_just) line) just line → cond (just == l.present) l.part.width w ≡ width_of (segment just line)
+  kept_is just w is = elim (cases_eq just l.present) [
+    | inl own ↦ rw (eq-eqb just l.present own) (width_present just own)
+    | inr other ↦ rw (ne_eqb just l.present other) (width_other_of just w is other)
   ]
 
-  pub left_kept : (l.present ≡ 2 → ⊥) → l.left ≡ width_before just 2 line
-  left_kept other = kept 2 l.left (ap (λ (l : Line). l.left) e) other
+  left_is : kept_width 2 l ≡ width_of (segment 2 line)
+  left_is = kept_is 2 l.left (ap (λ (l : Line). l.left) e)
 
-  pub centre_kept : (l.present ≡ 3 → ⊥) → l.centre ≡ width_before just 3 line
-  centre_kept other = kept 3 l.centre (ap (λ (l : Line). l.centre) e) other
+  centre_is : kept_width 3 l ≡ width_of (segment 3 line)
+  centre_is = kept_is 3 l.centre (ap (λ (l : Line). l.centre) e)
 
-  pub right_kept : (l.present ≡ 4 → ⊥) → l.right ≡ width_before just 4 line
-  right_kept other = kept 4 l.right (ap (λ (l : Line). l.right) e) other
+  right_is : kept_width 4 l ≡ width_of (segment 4 line)
+  right_is = kept_is 4 l.right (ap (λ (l : Line). l.right) e)
 
-  -- the segment that was the present one is passed
-  pub width_passed : (j : ℕ) → l.present ≡ j → l.part.width ≡ width_before just j line
-  width_passed j is =
-      ap (λ (l : Line). l.part.width) e ∙ ap (λ n. width_of (segment n line)) (sym present_is ∙ is)
-      ∙ ap (λ b. cond b (width_of (segment j line)) 0) (sym (lt-ltb j just (omega (arith, is))))
+  pub kept_width_is : l.present ≤ 5 → (just : ℕ) → 2 ≤ just → just ≤ 5 → kept_width just l ≡ width_of (segment just line)
+  kept_width_is known =
+      each_just (λ just. kept_width just l ≡ width_of (segment just line)) left_is centre_is right_is
+      (kept_is 5 0 (sym (ap (λ b. cond b (width_of (segment 5 line)) 0) (le-ltb 5 (largest (λ (t : Spot). line_number t.at.line_just) line) (omega (arith, known, most_is))))))
 
-  -- the new segment has no character yet
-  pub part_begun : (part : Segment) → part ≡ segment_sum just [] → part ≡ segment_sum just line
-  part_begun part is =
-      is ∙ ap (λ (xs : List Spot). let g : Segment = record { width = width_of xs; count = length xs; last = option_map (λ t. t.at.font.char_spacing) (last_or None xs) } in g) (sym (segment_behind just line (omega (arith, present_is))))
-
-  -- the line then
-  pub line_turned : (left centre right : ℕ) (part : Segment) → left ≡ width_before just 2 line → centre ≡ width_before just 3 line → right ≡ width_before just 4 line → part ≡ segment_sum just []
-      → ◌≡◌ {A = Line} (record { present = just; left = left; centre = centre; right = right; part = part; has_parts = l.has_parts; height = l.height; spacing = l.spacing; any = l.any }) (line_sum_in just line)
-  line_turned left centre right part a b c begun =
-      let parts = ap (λ (l : Line). l.has_parts) e in
-      let height = ap (λ (l : Line). l.height) e in
-      let spacing = ap (λ (l : Line). l.spacing) e in
-      let any = ap (λ (l : Line). l.any) e in
-      rw (a, b, c, part_begun part begun, parts, height, spacing, any) refl
-
--- a line that stays in its present segment
-pub line_stays : (line : List Spot) (just : ℕ) (l : Line) → l ≡ line_sum line → just ≤ l.present → l.present ≤ just → l ≡ line_sum_in just line
-line_stays line just l e low high =
-    let same : largest (λ (t : Spot). line_number t.at.line_just) line ≡ just = omega (arith, ap (λ (l : Line). l.present) e) in
-    e ∙ ap (λ n. line_sum_in n line) same
+  -- the line goes on to a segment
+  pub turned : (just : ℕ) → l.present ≤ just → (new : Line) → (just ≡ l.present → new ≡ l)
+      → (l.present < just → (new.left ≡ kept_width 2 l) × (new.centre ≡ kept_width 3 l) × (new.right ≡ kept_width 4 l) × (new.part ≡ segment_sum 0 []))
+      → (new.left ≡ width_before just 2 line) × (new.centre ≡ width_before just 3 line) × (new.right ≡ width_before just 4 line) × (new.part ≡ segment_sum just line)
+  turned just order new same next = elim (cases_lt l.present just) [
+    | inl later ↦
+        let (left, centre, right, part) = next later in
+        let whole = λ (j : ℕ). sym (whole_before (λ j. width_of (segment j line)) just j (λ behind. ap width_of (none_of_later j (omega (arith, behind, later))))) in
+        let empty = ap (λ (xs : List Spot). let g : Segment = record { width = width_of xs; count = length xs; last = option_map (λ t. t.at.font.char_spacing) (last_or None xs) } in g) (sym (none_of_later just later)) in
+        (left ∙ left_is ∙ whole 2, centre ∙ centre_is ∙ whole 3, right ∙ right_is ∙ whole 4, part ∙ empty)
+    | inr past ↦
+        let most : largest (λ (t : Spot). line_number t.at.line_just) line ≡ just = omega (arith, most_is, order, past) in
+        let all = same (omega (arith, order, past)) ∙ e ∙ ap (λ n. line_sum_in n line) most in
+        (ap (λ (l : Line). l.left) all, ap (λ (l : Line). l.centre) all, ap (λ (l : Line). l.right) all, ap (λ (l : Line). l.part) all)
+  ]
 
 -- a line after one more character
 module _ (line : List Spot) (s : Spot) (c : Character) (glyphs : AllPass is_glyph line) (is : IsCharacter s c) (l : Line) (e : l ≡ line_sum line) (order : l.present ≤ line_number c.just) where
@@ -209,27 +216,6 @@ in_order line s l e none =
       | inl back ↦ absurd (false≢true (sym test ∙ lt-ltb (line_number s.at.line_just) (largest (λ (t : Spot). line_number t.at.line_just) line) (omega (arith, present))))
       | inr on ↦ on
     ]
-
--- the width of a segment, by what is kept of the line
-module _ (line : List Spot) (l : Line) (e : l ≡ line_sum line) where
-  most_is : l.present ≡ largest (λ (t : Spot). line_number t.at.line_just) line
-  most_is = ap (λ (l : Line). l.present) e
-
-  pub width_present : (just : ℕ) → just ≡ l.present → l.part.width ≡ width_of (segment just line)
-  width_present just own = ap (λ (l : Line). l.part.width) e ∙ ap (λ n. width_of (segment n line)) (sym (own ∙ most_is))
-
-  pub width_other_of : (just w : ℕ) → w ≡ width_before (largest (λ (t : Spot). line_number t.at.line_just) line) just line → (just ≡ l.present → ⊥) → w ≡ width_of (segment just line)
-  width_other_of just w is other = elim (cases_lt just l.present) [
-    | inl before ↦ is ∙ ap (λ b. cond b (width_of (segment just line)) 0) (lt-ltb just (largest (λ (t : Spot). line_number t.at.line_just) line) (omega (arith, most_is)))
-    | inr behind ↦ is ∙ ap (λ b. cond b (width_of (segment just line)) 0) (le-ltb just (largest (λ (t : Spot). line_number t.at.line_just) line) (omega (arith, most_is)))
-        ∙ sym (ap width_of (segment_behind just line (omega (arith, most_is, other))))
-  ]
-
-  pub none_of_later : (just : ℕ) → l.present < just → segment just line ≡ []
-  none_of_later just later = segment_behind just line (omega (arith, most_is))
-
-  pub part_of_later : (just : ℕ) → l.present < just → (part : Segment) → part ≡ segment_sum just [] → part ≡ segment_sum just line
-  part_of_later just later part is = part_begun line just l e later part is
 
 -- a line of no character is that of none
 pub no_character : (line : List Spot) (sums : Line) → AllPass is_glyph line → sums ≡ line_sum line → sums.any ≡ false → line ≡ []

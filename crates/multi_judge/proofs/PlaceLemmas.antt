@@ -1,13 +1,13 @@
 -- The place of a character by the line table of its group, and how many ended lines a group has.
-use Rattle.std.proofs.Common.{◌≡◌, ℕ, ◌+◌, ◌-◌, ◌<◌, ◌≤◌, Bool, true, false, cond, ◌&&◌, ◌==◌, length, take, List, [], ◌∷◌, ◌++◌, Some, refl, sym, ap, subst, ◌∙◌, arith}
+use Rattle.std.proofs.Common.{◌≡◌, ℕ, ◌+◌, ◌-◌, ◌<◌, ◌≤◌, Bool, true, false, ◌&&◌, ◌==◌, length, take, List, [], ◌∷◌, ◌++◌, Some, refl, sym, ap, subst, ◌∙◌, arith}
 use Rattle.std.specs.Prelude.{slice_get, slice_index_or, if◌then◌else◌}
-use Rattle.std.specs.List.{list_any, onto_first, count_by}
+use Rattle.std.specs.List.{list_any, count_by}
 use Rattle.std.proofs.lemmas.Bool.{eq-eqb, eqb-true}
 use Rattle.std.proofs.lemmas.List.{length-append}
-use Rattle.std.proofs.lemmas.List.Sums.{sum_by-cons, length-filter, count_by-le-length}
+use Rattle.std.proofs.lemmas.List.Sums.{length-filter, count_by-le-length}
 use Rattle.std.proofs.lemmas.Option.{slice_get_within}
 use Rattle.multi_tag.specs.Just.{line_number, page_number}
-use Rattle.multi_meaning.specs.Words.{cut_behind, largest}
+use Rattle.multi_meaning.specs.Words.{largest}
 use Rattle.multi_meaning.specs.Address.{Spot, area_of, is_glyph, is_break, segment, group_of, lines_of, line_before}
 use Rattle.multi_meaning.specs.Line.{height_of, width_of, glyph_width}
 use Rattle.multi_meaning.specs.declared.place.Place.{Place}
@@ -16,7 +16,7 @@ use Rattle.multi_meaning.specs.Place.{place_of, start, spread}
 use Rattle.multi_meaning.specs.kept.Present.{ended_lines}
 use Rattle.multi_meaning.proofs.WordLemmas.{largest_push}
 use Rattle.multi_meaning.proofs.GroupLemmas.{own_group, filter_yes}
-use Rattle.multi_meaning.proofs.EndedLemmas.{ended_count, ended_glyph}
+use Rattle.multi_meaning.proofs.EndedLemmas.{ended_count, ended_glyph, closed_count}
 use Rattle.multi_meaning.proofs.LinesFitLemmas.{each_just}
 use Rattle.multi_tag.proofs.JustLemmas.{line_number_known}
 use Rattle.multi_judge.specs.declared.area.Area.{Area}
@@ -32,38 +32,13 @@ use Rattle.multi_judge.proofs.AreaSumLemmas.{group_of_own}
 use Rattle.multi_judge.proofs.GroupSumLemmas.{present_push}
 use Rattle.multi_judge.proofs.LineSumLemmas.{in_order}
 use Rattle.multi_judge.proofs.TableLemmas.{look_up, look_up_bottom, table_length}
+use Rattle.multi_meaning.proofs.CutLemmas.{cut_with_item}
 
 -- THE LINE OF AN ITEM
 
-count_cons : {X : Type 0} (p : X → Bool) (x : X) (xs : List X) → count_by p (x ∷ xs) ≡ cond (p x) 1 0 + count_by p xs
-count_cons p x xs = sum_by-cons (λ x. cond (p x) 1 0) x xs
-
-onto_length : {X : Type 0} (x : X) (parts : List (List X)) → length parts ≤ length (onto_first x parts)
-onto_length x [] = omega arith
-onto_length x (part ∷ parts) = omega arith
-
-onto_some : {X : Type 0} (x : X) (parts : List (List X)) → 0 < length (onto_first x parts)
-onto_some x [] = omega arith
-onto_some x (part ∷ parts) = omega arith
-
-some_if : {X : Type 0} (b : Bool) (x : X) (parts : List (List X)) → 0 < length (cond b ((x ∷ []) ∷ parts) (onto_first x parts))
-some_if true x parts = omega arith
-some_if false x parts = onto_some x parts
-
-more_if : {X : Type 0} (b : Bool) (x : X) (parts : List (List X)) (n : ℕ) → n < length parts → cond b 1 0 + n < length (cond b ((x ∷ []) ∷ parts) (onto_first x parts))
-more_if true x parts n h = omega arith
-more_if false x parts n h = omega (arith, onto_length x parts)
-
--- the part of an item is one of the parts of a cut list
-pub part_is_there : {X : Type 0} (p : X → Bool) (xs rest : List X) (x : X) → count_by p xs < length (cut_behind p (xs ++ x ∷ rest))
-part_is_there p [] rest x = some_if (p x) x (cut_behind p rest)
-part_is_there p (y ∷ xs) rest x =
-    subst (λ n. n < length (cut_behind p (y ∷ (xs ++ x ∷ rest)))) (sym (count_cons p y xs))
-    (more_if (p y) y (cut_behind p (xs ++ x ∷ rest)) (count_by p xs) (part_is_there p xs rest x))
-
 -- the line of an item is one of the lines of its group
 pub line_is_there : (g rest : List Spot) (s : Spot) → count_by is_break g < length (lines_of (g ++ s ∷ rest))
-line_is_there g rest s = part_is_there is_break g rest s
+line_is_there g rest s = omega (arith, closed_count g, ap length (cut_with_item is_break g s rest), length-append {A = List Spot})
 
 -- HOW MANY LINES
 
@@ -123,14 +98,6 @@ place_is before all spot line found =
     ∙ ap (λ n. place_by spot part_before height n (moved (length part) n) line.bottom) width
     ∙ ap (λ n. place_by spot part_before height (width_in just line) n line.bottom) (spread_if (just == 5) (length part_before) (length part) line.characters (spare (width_in just line)) characters)
 
--- the width of a segment with one more character, from the segment's sum
-pub width_with : (earlier : List Spot) (spot : Spot) (just : ℕ) (part : Segment) → is_glyph spot ≡ true → just ≡ line_number spot.at.line_just → part ≡ segment_sum just (earlier ++ spot ∷ []) → part.width ≡ width_of (segment (line_number spot.at.line_just) earlier ++ spot ∷ [])
-width_with earlier spot just part glyph own sum =
-    let passes : (is_glyph spot && (line_number spot.at.line_just == line_number spot.at.line_just)) ≡ true = ap (λ b. b && (line_number spot.at.line_just == line_number spot.at.line_just)) glyph ∙ eq-eqb (line_number spot.at.line_just) (line_number spot.at.line_just) refl in
-    ap (λ (p : Segment). p.width) sum
-    ∙ ap (λ just. width_of (segment just (earlier ++ spot ∷ []))) own
-    ∙ ap width_of (filter_yes (λ t. is_glyph t && (line_number t.at.line_just == line_number spot.at.line_just)) earlier spot passes)
-
 -- the present segment of a line whose last character this is
 pub part_with : (earlier : List Spot) (spot : Spot) (line : Line) → is_glyph spot ≡ true → line ≡ line_sum (earlier ++ spot ∷ []) → list_any (clashes spot) earlier ≡ false
     → (line.part.width ≡ width_of (segment (line_number spot.at.line_just) earlier ++ spot ∷ [])) × (line.part.count - 1 ≡ length (segment (line_number spot.at.line_just) earlier))
@@ -142,7 +109,7 @@ part_with earlier spot line glyph is apart =
     let part : line.part ≡ segment_sum just all = ap (λ (l : Line). l.part) is ∙ ap (λ n. segment_sum n all) (sym seen ∙ present) in
     let passes : (is_glyph spot && (line_number spot.at.line_just == line_number spot.at.line_just)) ≡ true = ap (λ b. b && (line_number spot.at.line_just == line_number spot.at.line_just)) glyph ∙ eq-eqb (line_number spot.at.line_just) (line_number spot.at.line_just) refl in
     let more : segment just all ≡ segment just earlier ++ spot ∷ [] = filter_yes (λ t. is_glyph t && (line_number t.at.line_just == just)) earlier spot passes in
-    (width_with earlier spot just line.part glyph refl part, omega (arith, ap (λ (p : Segment). p.count) part, ap length more, length-append (segment just earlier) (spot ∷ [])))
+    (ap (λ (p : Segment). p.width) part ∙ ap width_of more, omega (arith, ap (λ (p : Segment). p.count) part, ap length more, length-append (segment just earlier) (spot ∷ [])))
 
 -- a character's column, from the columns of its segment before it and their number
 pub column_is : (line : CountedLine) (earlier : List Spot) (spot : Spot) (a : Attributes) (columns before : ℕ)

@@ -1,19 +1,22 @@
 -- What a placing item makes of the state, from what the sums of the present area answer.
-use Rattle.std.proofs.Common.{◌≡◌, ℕ, ◌+◌, ◌*◌, ◌≤◌, Bool, true, false, not, List, [], ◌∷◌, ◌++◌, length, Option, Some, None, refl, sym, ap, ◌∙◌, arith}
+use Rattle.std.proofs.Common.{◌≡◌, ℕ, ◌+◌, ◌*◌, ◌≤◌, inl, inr, Bool, true, false, cond, not, List, [], ◌∷◌, ◌++◌, length, Option, Some, None, refl, sym, ap, ◌∙◌}
 use Rattle.std.specs.List.{All, after_last, list_any}
+use Rattle.std.specs.Option.{option_map}
+use Rattle.std.proofs.lemmas.Bool.{false≢true}
+use Rattle.multi_meaning.proofs.WordLemmas.{cases_Option}
 use Rattle.multi_tag.specs.declared.tag.Tag.TheVariants.{NewLine}
 use Rattle.multi_tag.specs.Just.{page_number}
 use Rattle.sign_font.specs.declared.parts.LineFill.TheVariants.{Off}
 use Rattle.multi_meaning.specs.Laid.{too_big}
 use Rattle.sign_font.specs.Cell.{SizedCell}
-use Rattle.sign_font.specs.Sign.{SignData, cell_in, info_of}
-use Rattle.multi_meaning.specs.Address.{Break, Glyph, Spot, area_of, in_group, is_break, is_glyph, spots, standing}
-use Rattle.multi_meaning.specs.Fit.{FitsWithout}
-use Rattle.multi_meaning.specs.Meaning.{Meaning, Shows, Does}
-use Rattle.multi_meaning.specs.Offence.{clashes, conflicts, never_big, offence, unsized_offence}
+use Rattle.sign_font.specs.Sign.{CellData, SignData, cell_in, cell_numbered}
+use Rattle.multi_meaning.specs.Address.{Break, Glyph, Put, Spot, area_of, in_group, is_break, is_glyph, spots, standing}
+use Rattle.multi_meaning.specs.Meaning.{Meaning, Shows, Does, has_place}
+use Rattle.multi_meaning.specs.Offence.{clashes, conflicts, never_big, offence, offence_by, unsized_offence}
 use Rattle.multi_meaning.specs.kept.Present.{present_area, IsPlacing}
 use Rattle.multi_meaning.proofs.GroupLemmas.{area_placing}
-use Rattle.multi_meaning.proofs.OffenceLemmas.{offence-break, offence-character}
+use Rattle.multi_meaning.proofs.OffenceLemmas.{offence-break, offence-character, offence-undefined}
+use Rattle.multi_meaning.proofs.StateLemmas.{present_area-placing}
 use Rattle.multi_meaning.proofs.UnplacedLemmas.{no_conflict}
 use Rattle.multi_judge.specs.declared.area.Area.{Area}
 use Rattle.multi_judge.specs.declared.attributes.Attributes.{Attributes}
@@ -21,46 +24,104 @@ use Rattle.multi_judge.specs.declared.line.Character.{Character}
 use Rattle.multi_judge.specs.declared.state.State.{State}
 use Rattle.multi_judge.specs.State.{IsStateOf}
 use Rattle.multi_judge.specs.Sums.{IsBelow, IsBreak, IsCharacter, area_sum}
-use Rattle.multi_judge.proofs.AreaSumLemmas.{no_back, no_clash, present_behind}
-use Rattle.multi_judge.proofs.JudgedLemmas.{cell_found, character-conflict, character-too_big, character-fits, state-character, break-conflict, break-too_big, break-fits, state-break}
+use Rattle.multi_judge.proofs.AreaSumLemmas.{no_back, no_clash}
+use Rattle.multi_judge.proofs.JudgedLemmas.{cell_found, state-same_page}
 
--- what isn't refused, and what is
-not_true : (f b : Bool) → f ≡ not b → f ≡ true → b ≡ false
-not_true f true e t = absurd (let wrong : false ≡ true = sym e ∙ t in cc)
-not_true f false e t = refl
+-- an item with a place: a character with its cell, or the end of a line with the gap that it gives
+pub data Placed : Type 0 where
+  shown : ℕ → CellData → Placed
+  line_end : Option ℕ → Placed
 
-not_false : (f b : Bool) → f ≡ not b → f ≡ false → b ≡ true
-not_false f true e t = refl
-not_false f false e t = absurd (let wrong : true ≡ false = sym e ∙ t in cc)
+abbrev pub item_of : Placed → Meaning
+item_of (shown number cell) = Shows number
+item_of (line_end gap) = Does (NewLine gap)
+
+abbrev pub put_of : Placed → Put
+put_of (shown number cell) = Glyph cell
+put_of (line_end gap) = Break gap
+
+module _ (sign : SignData) (items : List Meaning) where
+  -- its cell is that of the font in force
+  abbrev pub IsFound : Placed → Type 0
+  IsFound (shown number cell) = cell_numbered (standing sign items).font number ≡ Some cell
+  IsFound (line_end gap) = Unit {0}
+
+  abbrev pub spot_of : Placed → Spot
+  spot_of p = record { at = standing sign items; put = put_of p }
+
+  pub present_placing : All IsPlacing (present_area sign items)
+  present_placing = area_placing (spots sign items) (spot_of (line_end None))
+
+  -- it offends by a conflict, or else by its size
+  offence_is : (big : List Spot → Spot → Bool) (p : Placed) → IsFound p
+      → offence_by big sign items (item_of p) ≡ cond (conflicts (spots sign items) (spot_of p)) (Some 11) (cond (big (spots sign items) (spot_of p)) (Some 5) None)
+  offence_is big (shown number cell) found = offence-character big sign items number cell found
+  offence_is big (line_end gap) found = offence-break big sign items gap
+
+  pub placed_conflict : (p : Placed) → IsFound p → conflicts (spots sign items) (spot_of p) ≡ true → offence Off sign items (item_of p) ≡ Some 11
+  placed_conflict p found is = offence_is (too_big Off) p found ∙ rw is refl
+
+  pub placed_size : (p : Placed) → IsFound p → conflicts (spots sign items) (spot_of p) ≡ false → (fits : Bool) → fits ≡ not (too_big Off (spots sign items) (spot_of p))
+      → offence Off sign items (item_of p) ≡ cond fits None (Some 5)
+  placed_size p found apart fits is = offence_is (too_big Off) p found ∙ rw (apart, is) (either (too_big Off (spots sign items) (spot_of p)))
+    where
+      either : (b : Bool) → ◌≡◌ {A = Option ℕ} (cond b (Some 5) None) (cond (not b) None (Some 5))
+      either true = refl
+      either false = refl
+
+  -- one that doesn't offend doesn't conflict
+  pub placed_free : (p : Placed) → IsFound p → unsized_offence sign items (item_of p) ≡ None → conflicts (spots sign items) (spot_of p) ≡ false
+  placed_free p found fine = no_conflict (conflicts (spots sign items) (spot_of p)) false (sym (offence_is never_big p found) ∙ fine)
+
+  -- the present area with it
+  pub placed_area : (p : Placed) → IsFound p → present_area sign (items ++ item_of p ∷ []) ≡ present_area sign items ++ spot_of p ∷ []
+  placed_area (shown number cell) found = present_area-placing sign items (Shows number) (Glyph cell) refl (ap (option_map Glyph) found) refl
+  placed_area (line_end gap) found = present_area-placing sign items (Does (NewLine gap)) (Break gap) refl refl refl
+
+  -- an item that has a place and doesn't offend is one
+  pub placed_of : (x : Meaning) → unsized_offence sign items x ≡ None → has_place x ≡ true → (p : Placed) × (item_of p ≡ x) × IsFound p
+  placed_of (Shows number) fine place = elim (cases_Option (cell_numbered (standing sign items).font number)) [
+    | inl none ↦ let wrong : ◌≡◌ {A = Option ℕ} (Some 7) None = sym (offence-undefined never_big sign items number none) ∙ fine in absurd cc
+    | inr some ↦ (shown number some.0, refl, some.1)
+  ]
+  placed_of (Does (NewLine gap)) fine place = (line_end gap, refl, tt)
+  placed_of x fine place = absurd (false≢true place)
 
 module _ (sign : SignData) (items : List Meaning) (state : State) (st : IsStateOf sign items state) where
-  placing : All IsPlacing (present_area sign items)
-  placing = area_placing (spots sign items) (record { at = standing sign items; put = Break None })
+  pub page_here : (standing sign items).page_just ≡ state.attributes.page_just
+  page_here = sym (ap (λ (a : Attributes). a.page_just) st.attributes)
 
-  page_is : (standing sign items).page_just ≡ state.attributes.page_just
-  page_is = sym (ap (λ (a : Attributes). a.page_just) st.attributes)
+  pub line_here : (standing sign items).line_just ≡ state.attributes.line_just
+  line_here = sym (ap (λ (a : Attributes). a.line_just) st.attributes)
 
-  line_is : (standing sign items).line_just ≡ state.attributes.line_just
-  line_is = sym (ap (λ (a : Attributes). a.line_just) st.attributes)
+  pub placed_order : (p : Placed) → conflicts (spots sign items) (spot_of sign items p) ≡ false → state.area.present ≤ page_number state.attributes.page_just
+  placed_order p apart =
+      no_back (spots sign items) (spot_of sign items p) (page_number state.attributes.page_just) state.area.present (ap page_number page_here) (ap (λ (a : Area). a.present) st.area) apart
 
-  width_is : (standing sign items).rectangle.width ≡ state.attributes.rectangle.width
-  width_is = sym (ap (λ (a : Attributes). a.rectangle.width) st.attributes)
+  pub state-placed : (p : Placed) → IsFound sign items p → (area : Area) → area ≡ area_sum (present_area sign items ++ spot_of sign items p ∷ []) → IsBelow (1024 * length items + 1024) area
+      → IsStateOf sign (items ++ item_of p ∷ []) (record state { area = area })
+  state-placed (shown number cell) found area sum below =
+      state-same_page sign items state (record state { area = area }) (Shows number) st refl refl refl st.attributes (sum ∙ ap area_sum (sym (placed_area sign items (shown number cell) found))) st.font below
+  state-placed (line_end gap) found area sum below =
+      state-same_page sign items state (record state { area = area }) (Does (NewLine gap)) st refl refl refl st.attributes (sum ∙ ap area_sum (sym (placed_area sign items (line_end gap) found))) st.font below
 
-  height_is : (standing sign items).rectangle.height ≡ state.attributes.rectangle.height
-  height_is = sym (ap (λ (a : Attributes). a.rectangle.height) st.attributes)
-
-  font_is : state.attributes.font ≡ info_of (standing sign items).font
-  font_is = ap (λ (a : Attributes). a.font) st.attributes
-
-  is_character : (c : SizedCell) (character : Character) → character.just ≡ state.attributes.line_just → character.spacing ≡ state.attributes.spacing → character.width ≡ c.width → character.font ≡ state.attributes.font
-      → (cell : Rattle.sign_font.specs.Sign.CellData) → c.width ≡ cell.width → IsCharacter (record { at = standing sign items; put = Glyph cell }) character
-  is_character c character just spacing wide font cell width = record {
-    glyph = refl;
-    just = just ∙ sym line_is;
-    spacing = spacing ∙ ap (λ (a : Attributes). a.spacing) st.attributes;
-    width = wide ∙ width;
-    font = font ∙ font_is;
-  }
+  -- a character that doesn't conflict, whose sums are these with it
+  pub character-grown : (number : ℕ) (c : SizedCell) (cell : CellData) → c.width ≡ cell.width → conflicts (spots sign items) (spot_of sign items (shown number cell)) ≡ false
+      → (character : Character) → character.just ≡ state.attributes.line_just → character.spacing ≡ state.attributes.spacing → character.width ≡ c.width → character.font ≡ state.attributes.font
+      → (area : Area)
+      → ((xs : List Spot) (s : Spot) → All IsPlacing xs → state.area ≡ area_sum xs → IsCharacter s character → s.at.page_just ≡ state.attributes.page_just → state.area.present ≤ page_number state.attributes.page_just
+      → list_any (clashes s) (after_last is_break (in_group (page_number state.attributes.page_just) xs)) ≡ false → area ≡ area_sum (xs ++ s ∷ []))
+      → area ≡ area_sum (present_area sign items ++ spot_of sign items (shown number cell) ∷ [])
+  character-grown number c cell width apart character just spacing wide font area sum =
+      let is : IsCharacter (spot_of sign items (shown number cell)) character = record {
+        glyph = refl;
+        just = just ∙ sym line_here;
+        spacing = spacing ∙ ap (λ (a : Attributes). a.spacing) st.attributes;
+        width = wide ∙ width;
+        font = font ∙ ap (λ (a : Attributes). a.font) st.attributes;
+      } in
+      sum (present_area sign items) (spot_of sign items (shown number cell)) (present_placing sign items) st.area is page_here (placed_order (shown number cell) apart)
+      (no_clash (spots sign items) (spot_of sign items (shown number cell)) (page_number state.attributes.page_just) refl (ap page_number page_here) apart)
 
   -- a character that doesn't offend
   pub character-accepted : (number : ℕ) (c : SizedCell) → cell_in sign state.attributes.font.number number ≡ Some c
@@ -71,112 +132,32 @@ module _ (sign : SignData) (items : List Meaning) (state : State) (st : IsStateO
       → IsBelow (1024 * length items + 1024) area → unsized_offence sign items (Shows number) ≡ None → IsStateOf sign (items ++ Shows number ∷ []) (record state { area = area })
   character-accepted number c some character just spacing wide font area sum below fine =
       let (cell, found, width) = cell_found sign items state st number c some in
-      let s : Spot = record { at = standing sign items; put = Glyph cell } in
-      let before = spots sign items in
-      let free = no_conflict (conflicts before s) false (sym (offence-character never_big sign items number cell found) ∙ fine) in
-      let apart = no_clash before s (page_number state.attributes.page_just) refl (ap page_number page_is) free in
-      let order = no_back before s (page_number state.attributes.page_just) state.area.present (ap page_number page_is) (ap (λ (a : Area). a.present) st.area) free in
-      let grown = sum (present_area sign items) s placing st.area (is_character c character just spacing wide font cell width) page_is order apart in
-      state-character sign items state st number cell found area grown below
+      state-placed (shown number cell) found area (character-grown number c cell width (placed_free sign items (shown number cell) found fine) character just spacing wide font area sum) below
 
-  module _ (number : ℕ) (c : SizedCell) (some : cell_in sign state.attributes.font.number number ≡ Some c) (r : Bool)
-      (answer : (before : List Spot) (s : Spot) → state.area ≡ area_sum (area_of s before) → is_glyph s ≡ true → s.at.page_just ≡ state.attributes.page_just → s.at.line_just ≡ state.attributes.line_just → r ≡ conflicts before s) where
-    -- it doesn't conflict if it doesn't offend
-    pub character-free : unsized_offence sign items (Shows number) ≡ None → r ≡ false
-    character-free fine =
-        let (cell, found, width) = cell_found sign items state st number c some in
-        let s : Spot = record { at = standing sign items; put = Glyph cell } in
-        answer (spots sign items) s st.area refl page_is line_is
-        ∙ no_conflict (conflicts (spots sign items) s) false (sym (offence-character never_big sign items number cell found) ∙ fine)
+  -- it doesn't conflict then
+  pub character-free : (number : ℕ) (c : SizedCell) → cell_in sign state.attributes.font.number number ≡ Some c → (r : Bool)
+      → ((before : List Spot) (s : Spot) → state.area ≡ area_sum (area_of s before) → is_glyph s ≡ true → s.at.page_just ≡ state.attributes.page_just → s.at.line_just ≡ state.attributes.line_just → r ≡ conflicts before s)
+      → unsized_offence sign items (Shows number) ≡ None → r ≡ false
+  character-free number c some r answer fine =
+      let (cell, found, width) = cell_found sign items state st number c some in
+      answer (spots sign items) (spot_of sign items (shown number cell)) st.area refl page_here line_here ∙ placed_free sign items (shown number cell) found fine
 
-    pub character-exit-conflict : r ≡ true → offence Off sign items (Shows number) ≡ Some 11
-    character-exit-conflict is =
-        let (cell, found, width) = cell_found sign items state st number c some in
-        character-conflict sign items state st number cell found
-        (sym (answer (spots sign items) (record { at = standing sign items; put = Glyph cell }) st.area refl page_is line_is) ∙ is)
-
-    module _ (character : Character) (area : Area) (just : character.just ≡ state.attributes.line_just) (spacing : character.spacing ≡ state.attributes.spacing) (wide : character.width ≡ c.width) (font : character.font ≡ state.attributes.font)
-        (sum : (xs : List Spot) (s : Spot) → All IsPlacing xs → state.area ≡ area_sum xs → IsCharacter s character → s.at.page_just ≡ state.attributes.page_just → state.area.present ≤ page_number state.attributes.page_just
-        → list_any (clashes s) (after_last is_break (in_group (page_number state.attributes.page_just) xs)) ≡ false → area ≡ area_sum (xs ++ s ∷ []))
-        (f : Bool)
-        (fits : (before : List Spot) (s : Spot) → is_glyph s ≡ true → area ≡ area_sum (area_of s before ++ s ∷ []) → area.present ≡ page_number s.at.page_just → s.at.line_just ≡ state.attributes.line_just
-        → s.at.rectangle.width ≡ state.attributes.rectangle.width → s.at.rectangle.height ≡ state.attributes.rectangle.height → FitsWithout before s → f ≡ not (too_big Off before s))
-        (without : (s : Spot) → s.at ≡ standing sign items → FitsWithout (spots sign items) s) where
-      pub character-exit-too_big : r ≡ false → f ≡ false → offence Off sign items (Shows number) ≡ Some 5
-      character-exit-too_big is big =
-          let (cell, found, width) = cell_found sign items state st number c some in
-          let s : Spot = record { at = standing sign items; put = Glyph cell } in
-          let before = spots sign items in
-          let free = sym (answer before s st.area refl page_is line_is) ∙ is in
-          let apart = no_clash before s (page_number state.attributes.page_just) refl (ap page_number page_is) free in
-          let order = no_back before s (page_number state.attributes.page_just) state.area.present (ap page_number page_is) (ap (λ (a : Area). a.present) st.area) free in
-          let grown = sum (present_area sign items) s placing st.area (is_character c character just spacing wide font cell width) page_is order apart in
-          let present = present_behind (present_area sign items) s state.area area st.area grown (omega (arith, order, ap page_number page_is)) in
-          character-too_big sign items state st number cell found (sym (answer before s st.area refl page_is line_is) ∙ is)
-          (not_false f (too_big Off before s) (fits before s refl grown present line_is width_is height_is (without s refl)) big)
-
-      pub character-exit-fits : r ≡ false → f ≡ true → IsBelow (1024 * length items + 1024) area
-          → (offence Off sign items (Shows number) ≡ None) × IsStateOf sign (items ++ Shows number ∷ []) (record state { area = area })
-      character-exit-fits is fine below =
-          let (cell, found, width) = cell_found sign items state st number c some in
-          let s : Spot = record { at = standing sign items; put = Glyph cell } in
-          let before = spots sign items in
-          let free = sym (answer before s st.area refl page_is line_is) ∙ is in
-          let apart = no_clash before s (page_number state.attributes.page_just) refl (ap page_number page_is) free in
-          let order = no_back before s (page_number state.attributes.page_just) state.area.present (ap page_number page_is) (ap (λ (a : Area). a.present) st.area) free in
-          let grown = sum (present_area sign items) s placing st.area (is_character c character just spacing wide font cell width) page_is order apart in
-          let present = present_behind (present_area sign items) s state.area area st.area grown (omega (arith, order, ap page_number page_is)) in (
-            character-fits sign items state st number cell found (sym (answer before s st.area refl page_is line_is) ∙ is)
-                (not_true f (too_big Off before s) (fits before s refl grown present line_is width_is height_is (without s refl)) fine),
-            state-character sign items state st number cell found area grown below,
-          )
+  -- an `nl` that doesn't conflict, and its sums
+  pub break-grown : (gap : Option ℕ) → conflicts (spots sign items) (spot_of sign items (line_end gap)) ≡ false → (area : Area)
+      → ((xs : List Spot) (s : Spot) → All IsPlacing xs → state.area ≡ area_sum xs → IsBreak s gap state.attributes.font → s.at.page_just ≡ state.attributes.page_just → state.area.present ≤ page_number state.attributes.page_just → area ≡ area_sum (xs ++ s ∷ []))
+      → area ≡ area_sum (present_area sign items ++ spot_of sign items (line_end gap) ∷ [])
+  break-grown gap apart area sum =
+      sum (present_area sign items) (spot_of sign items (line_end gap)) (present_placing sign items) st.area
+      (record { put = refl; font = ap (λ (a : Attributes). a.font) st.attributes }) page_here (placed_order (line_end gap) apart)
 
   -- an `nl` that doesn't offend
   pub break-accepted : (gap : Option ℕ) (area : Area)
       → ((xs : List Spot) (s : Spot) → All IsPlacing xs → state.area ≡ area_sum xs → IsBreak s gap state.attributes.font → s.at.page_just ≡ state.attributes.page_just → state.area.present ≤ page_number state.attributes.page_just → area ≡ area_sum (xs ++ s ∷ []))
       → IsBelow (1024 * length items + 1024) area → unsized_offence sign items (Does (NewLine gap)) ≡ None → IsStateOf sign (items ++ Does (NewLine gap) ∷ []) (record state { area = area })
-  break-accepted gap area sum below fine =
-      let s : Spot = record { at = standing sign items; put = Break gap } in
-      let before = spots sign items in
-      let free = no_conflict (conflicts before s) false (sym (offence-break never_big sign items gap) ∙ fine) in
-      let ends : IsBreak s gap state.attributes.font = record { put = refl; font = font_is } in
-      let order = no_back before s (page_number state.attributes.page_just) state.area.present (ap page_number page_is) (ap (λ (a : Area). a.present) st.area) free in
-      state-break sign items state st gap area (sum (present_area sign items) s placing st.area ends page_is order) below
+  break-accepted gap area sum below fine = state-placed (line_end gap) tt area (break-grown gap (placed_free sign items (line_end gap) tt fine) area sum) below
 
-  module _ (gap : Option ℕ) (r : Bool)
-      (answer : (before : List Spot) (s : Spot) → state.area ≡ area_sum (area_of s before) → is_glyph s ≡ false → s.at.page_just ≡ state.attributes.page_just → r ≡ conflicts before s) where
-    pub break-free : unsized_offence sign items (Does (NewLine gap)) ≡ None → r ≡ false
-    break-free fine =
-        let s : Spot = record { at = standing sign items; put = Break gap } in
-        answer (spots sign items) s st.area refl page_is ∙ no_conflict (conflicts (spots sign items) s) false (sym (offence-break never_big sign items gap) ∙ fine)
-
-    pub break-exit-conflict : r ≡ true → offence Off sign items (Does (NewLine gap)) ≡ Some 11
-    break-exit-conflict is =
-        break-conflict sign items state st gap (sym (answer (spots sign items) (record { at = standing sign items; put = Break gap }) st.area refl page_is) ∙ is)
-
-    module _ (area : Area)
-        (sum : (xs : List Spot) (s : Spot) → All IsPlacing xs → state.area ≡ area_sum xs → IsBreak s gap state.attributes.font → s.at.page_just ≡ state.attributes.page_just → state.area.present ≤ page_number state.attributes.page_just → area ≡ area_sum (xs ++ s ∷ []))
-        (f : Bool)
-        (fits : (s : Spot) → s.at ≡ standing sign items → is_break s ≡ true → state.area.present ≤ page_number state.attributes.page_just → area ≡ area_sum (area_of s (spots sign items) ++ s ∷ []) → f ≡ not (too_big Off (spots sign items) s)) where
-      pub break-exit-too_big : r ≡ false → f ≡ false → offence Off sign items (Does (NewLine gap)) ≡ Some 5
-      break-exit-too_big is big =
-          let s : Spot = record { at = standing sign items; put = Break gap } in
-          let before = spots sign items in
-          let ends : IsBreak s gap state.attributes.font = record { put = refl; font = font_is } in
-          let order = no_back before s (page_number state.attributes.page_just) state.area.present (ap page_number page_is) (ap (λ (a : Area). a.present) st.area) (sym (answer before s st.area refl page_is) ∙ is) in
-          let grown = sum (present_area sign items) s placing st.area ends page_is order in
-          break-too_big sign items state st gap (sym (answer before s st.area refl page_is) ∙ is)
-          (not_false f (too_big Off before s) (fits s refl refl order grown) big)
-
-      pub break-exit-fits : r ≡ false → f ≡ true → IsBelow (1024 * length items + 1024) area
-          → (offence Off sign items (Does (NewLine gap)) ≡ None) × IsStateOf sign (items ++ Does (NewLine gap) ∷ []) (record state { area = area })
-      break-exit-fits is fine below =
-          let s : Spot = record { at = standing sign items; put = Break gap } in
-          let before = spots sign items in
-          let ends : IsBreak s gap state.attributes.font = record { put = refl; font = font_is } in
-          let order = no_back before s (page_number state.attributes.page_just) state.area.present (ap page_number page_is) (ap (λ (a : Area). a.present) st.area) (sym (answer before s st.area refl page_is) ∙ is) in
-          let grown = sum (present_area sign items) s placing st.area ends page_is order in (
-            break-fits sign items state st gap (sym (answer before s st.area refl page_is) ∙ is)
-                (not_true f (too_big Off before s) (fits s refl refl order grown) fine),
-            state-break sign items state st gap area grown below,
-          )
+  -- it doesn't conflict then
+  pub break-free : (gap : Option ℕ) (r : Bool)
+      → ((before : List Spot) (s : Spot) → state.area ≡ area_sum (area_of s before) → is_glyph s ≡ false → s.at.page_just ≡ state.attributes.page_just → r ≡ conflicts before s)
+      → unsized_offence sign items (Does (NewLine gap)) ≡ None → r ≡ false
+  break-free gap r answer fine = answer (spots sign items) (spot_of sign items (line_end gap)) st.area refl page_here ∙ placed_free sign items (line_end gap) tt fine

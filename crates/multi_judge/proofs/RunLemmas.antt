@@ -1,15 +1,15 @@
 -- A character that only lengthens its segment.
-use Rattle.std.proofs.Common.{◌≡◌, ℕ, ◌+◌, ◌*◌, ◌≤◌, Bool, true, false, ◌&&◌, ◌||◌, ◌==◌, inl, inr, List, [], ◌∷◌, ◌++◌, length, Some, None, refl, sym, ap, ◌∙◌, arith}
+use Rattle.std.proofs.Common.{◌≡◌, ℕ, ◌+◌, ◌*◌, ◌≤◌, Bool, true, false, cond, ◌<◌, ◌&&◌, ◌||◌, ◌==◌, inl, inr, List, [], ◌∷◌, ◌++◌, length, Some, None, refl, sym, ap, ◌∙◌, arith}
 use Rattle.std.specs.Prelude.{nat_lt, if◌then◌else◌}
 use Rattle.std.specs.List.{All, AllPass, after_last, list_any}
 use Rattle.std.specs.Option.{option_map_or, unwrap_or}
-use Rattle.std.proofs.lemmas.Bool.{cases_eq, eq-eqb, ne_eqb}
+use Rattle.std.proofs.lemmas.Bool.{cases_eq, eq-eqb, le-ltb, ne_eqb}
 use Rattle.multi_tag.specs.Just.{line_number, page_number}
 use Rattle.sign_font.specs.Cell.{SizedCell}
 use Rattle.sign_font.specs.Sign.{SignData, cell_in}
-use Rattle.multi_meaning.specs.Address.{Spot, in_group, is_break, is_glyph, lines_of, segment, spots}
+use Rattle.multi_meaning.specs.Address.{Spot, in_group, is_break, is_glyph, lines_of, spots}
 use Rattle.multi_meaning.specs.Fit.{area_fits, fit, line_fits}
-use Rattle.multi_meaning.specs.Line.{average, height_of, width_of}
+use Rattle.multi_meaning.specs.Line.{average, height_of}
 use Rattle.multi_meaning.specs.Meaning.{Meaning, Shows}
 use Rattle.multi_meaning.specs.Offence.{clashes, unsized_offence}
 use Rattle.multi_meaning.specs.kept.Present.{IsPlacing}
@@ -21,32 +21,19 @@ use Rattle.multi_judge.specs.declared.line.Line.{Line}
 use Rattle.multi_judge.specs.declared.line.Segment.{Segment}
 use Rattle.multi_judge.specs.declared.state.State.{State}
 use Rattle.multi_judge.specs.Adding.{character_of}
-use Rattle.multi_judge.specs.Run.{IsBehindCharacter, IsRun, kept_fits, kept_height, kept_width, lengthened, lengthened_area, lengthened_line, line_in_force}
+use Rattle.multi_judge.specs.Run.{IsBehindCharacter, IsRun, kept_fits, kept_height, lengthened, lengthened_area, lengthened_line, line_in_force}
 use Rattle.multi_judge.specs.State.{IsStateOf}
-use Rattle.multi_judge.specs.Sums.{IsBelow, IsCharacter, area_sum, group_sum, height_before, line_sum, segment_sum, width_before}
-use Rattle.multi_judge.proofs.AreaSumLemmas.{area_stays, area_with, group_of_own, other_height, present_height, none_of_later_group, own_line}
+use Rattle.multi_judge.specs.Sums.{IsBelow, IsCharacter, area_sum, area_sum_in, group_sum, height_before, line_sum, segment_sum, width_before}
+use Rattle.multi_judge.proofs.AreaSumLemmas.{area_stays, area_with, group_of_own, none_of_later_group, own_line}
+use Rattle.multi_judge.proofs.SplitLemmas.{each_group}
+use Rattle.multi_meaning.proofs.GroupLemmas.{placing_group}
 use Rattle.multi_judge.proofs.GroupHeightLemmas.{height_ended, height_present}
 use Rattle.multi_judge.proofs.GroupSumLemmas.{group_character, present_glyphs}
-use Rattle.multi_judge.proofs.LineSumLemmas.{line_with, none_of_later, segment_own, width_other_of, width_present}
+use Rattle.multi_judge.proofs.LineSumLemmas.{kept_width_is, line_with, segment_own, whole_before}
 use Rattle.multi_judge.proofs.PlacingLemmas.{character-accepted}
+use Rattle.multi_judge.proofs.BoundLemmas.{lined_below, part_below}
 
 -- ---- what is kept of a line and of a group
-
--- the width of a segment
-pub kept_width_is : (spots : List Spot) (line : Line) → line ≡ line_sum spots → line.present ≤ 5 → (just : ℕ) → 2 ≤ just → just ≤ 5 → kept_width just line ≡ width_of (segment just spots)
-kept_width_is spots line e known just low high = elim (cases_eq just line.present) [
-  | inl own ↦ rw (eq-eqb just line.present own) (width_present spots line e just own)
-  | inr other ↦ rw (ne_eqb just line.present other) (elim (cases_eq just 2) [
-    | inl two ↦ rw (eq-eqb just 2 two) (width_other_of spots line e just line.left (ap (λ (l : Line). l.left) e ∙ ap (λ n. width_before (line_sum spots).present n spots) (sym two)) other)
-    | inr not2 ↦ rw (ne_eqb just 2 not2) (elim (cases_eq just 3) [
-      | inl three ↦ rw (eq-eqb just 3 three) (width_other_of spots line e just line.centre (ap (λ (l : Line). l.centre) e ∙ ap (λ n. width_before (line_sum spots).present n spots) (sym three)) other)
-      | inr not3 ↦ rw (ne_eqb just 3 not3) (elim (cases_eq just 4) [
-        | inl four ↦ rw (eq-eqb just 4 four) (width_other_of spots line e just line.right (ap (λ (l : Line). l.right) e ∙ ap (λ n. width_before (line_sum spots).present n spots) (sym four)) other)
-        | inr not4 ↦ rw (ne_eqb just 4 not4) (sym (ap width_of (none_of_later spots line e just (omega (arith, not2, not3, not4, other)))))
-      ])
-    ])
-  ])
-]
 
 pub kept_fits_is : (spots : List Spot) (line : Line) (width : ℕ) → line ≡ line_sum spots → line.present ≤ 5 → kept_fits width line ≡ line_fits width spots
 kept_fits_is spots line width e known =
@@ -65,22 +52,49 @@ abbrev pub kept_group_height : ℕ → Area → ℕ
 kept_group_height just area =
     if just == area.present then kept_height area.group else (if just == 2 then area.top else (if just == 3 then area.middle else 0))
 
-pub kept_group_height_is : (spots : List Spot) (area : Area) (just : ℕ) → All IsPlacing spots → area ≡ area_sum spots → 2 ≤ just → just ≤ 4 → area.present ≤ 4 → kept_group_height just area ≡ height_of (lines_of (in_group just spots))
-kept_group_height_is spots area just placing e low high known = elim (cases_eq just area.present) [
-  | inl own ↦ rw (eq-eqb just area.present own) (present_height spots area e placing just (kept_height area.group) own (λ group placing e. kept_height_is group area.group placing e))
-  | inr other ↦ rw (ne_eqb just area.present other) (elim (cases_eq just 2) [
-    | inl two ↦ rw (eq-eqb just 2 two) (other_height spots area e just area.top (ap (λ (a : Area). a.top) e ∙ ap (λ n. height_before (area_sum spots).present n spots) (sym two)) other)
-    | inr not2 ↦ rw (ne_eqb just 2 not2) (elim (cases_eq just 3) [
-      | inl three ↦ rw (eq-eqb just 3 three) (other_height spots area e just area.middle (ap (λ (a : Area). a.middle) e ∙ ap (λ n. height_before (area_sum spots).present n spots) (sym three)) other)
-      | inr not3 ↦ rw (ne_eqb just 3 not3) (sym (ap (λ l. height_of (lines_of l)) (none_of_later_group spots area e just (omega (arith, not2, not3, other, known, low, high)))))
-    ])
-  ])
-]
+-- one of two numbers is at most what both are
+pub cond_most : (b : Bool) (n m most : ℕ) → n ≤ most → m ≤ most → cond b n m ≤ most
+cond_most true n m most h k = h
+cond_most false n m most h k = k
+
+module _ (spots : List Spot) (area : Area) (e : area ≡ area_sum spots) (placing : All IsPlacing spots) where
+  -- of the present group, or else of one that is kept
+  group_kept : (just h : ℕ) → h ≡ height_before (largest (λ (t : Spot). page_number t.at.page_just) spots) just spots
+      → cond (just == area.present) (kept_height area.group) h ≡ height_of (lines_of (in_group just spots))
+  group_kept just h is = elim (cases_eq just area.present) [
+    | inl own ↦ rw (eq-eqb just area.present own) (kept_height_is (in_group just spots) area.group (placing_group just spots placing) (group_of_own spots area e just own))
+    | inr other ↦ rw (ne_eqb just area.present other) (is ∙ whole_before (λ j. height_of (lines_of (in_group j spots))) (largest (λ (t : Spot). page_number t.at.page_just) spots) just
+        (λ behind. ap (λ l. height_of (lines_of l)) (none_of_later_group spots area e just (omega (arith, behind, other, ap (λ (a : Area). a.present) e)))))
+  ]
+
+  top_is : kept_group_height 2 area ≡ height_of (lines_of (in_group 2 spots))
+  top_is = group_kept 2 area.top (ap (λ (a : Area). a.top) e)
+
+  middle_is : kept_group_height 3 area ≡ height_of (lines_of (in_group 3 spots))
+  middle_is = group_kept 3 area.middle (ap (λ (a : Area). a.middle) e)
+
+  pub kept_group_height_is : (just : ℕ) → 2 ≤ just → just ≤ 4 → area.present ≤ 4 → kept_group_height just area ≡ height_of (lines_of (in_group just spots))
+  kept_group_height_is just low high known =
+      each_group (λ just. kept_group_height just area ≡ height_of (lines_of (in_group just spots))) top_is middle_is
+      (group_kept 4 0 (sym (ap (λ b. cond b (height_of (lines_of (in_group 4 spots))) 0) (le-ltb 4 (largest (λ (t : Spot). page_number t.at.page_just) spots) (omega (arith, known, ap (λ (a : Area). a.present) e)))))) just low high
+
+  -- the area goes on to a later group, which has no item yet
+  pub area_turned : (just : ℕ) → area.present < just → (new : Area) → new.present ≡ just → new.top ≡ kept_group_height 2 area → new.middle ≡ kept_group_height 3 area → new.group ≡ group_sum []
+      → new ≡ area_sum_in just spots
+  area_turned just later new present top middle group =
+      let whole = λ (j : ℕ). sym (whole_before (λ j. height_of (lines_of (in_group j spots))) just j
+      (λ behind. ap (λ l. height_of (lines_of l)) (none_of_later_group spots area e j (omega (arith, behind, later))))) in
+      λ i. record {
+        present = present i;
+        top = (top ∙ top_is ∙ whole 2) i;
+        middle = (middle ∙ middle_is ∙ whole 3) i;
+        group = (group ∙ ap group_sum (sym (none_of_later_group spots area e just later))) i;
+      }
 
 pub kept_area_fits : (spots : List Spot) (area : Area) (height : ℕ) → All IsPlacing spots → area ≡ area_sum spots → area.present ≤ 4
     → fit (kept_group_height 2 area) (kept_group_height 3 area) (kept_group_height 4 area) height ≡ area_fits height spots
 kept_area_fits spots area height placing e known =
-    let is = λ (just : ℕ) (low : 2 ≤ just) (high : just ≤ 4). kept_group_height_is spots area just placing e low high known in
+    let is = λ (just : ℕ) (low : 2 ≤ just) (high : just ≤ 4). kept_group_height_is spots area e placing just low high known in
     rw (is 2 (omega arith) (omega arith), is 3 (omega arith) (omega arith), is 4 (omega arith) (omega arith)) refl
 
 -- ---- one more character of the segment
@@ -127,17 +141,7 @@ pub longer_below : (k width count : ℕ) (area : Area) → IsBelow k area → wi
 longer_below k width count area below wide many = record {
   top = omega (arith, below.top);
   middle = omega (arith, below.middle);
-  group = record {
-    ended = omega (arith, below.group.ended);
-    closed = omega (arith, below.group.closed);
-    line = record {
-      left = omega (arith, below.group.line.left);
-      centre = omega (arith, below.group.line.centre);
-      right = omega (arith, below.group.line.right);
-      part = record { width = wide; count = many };
-      known = below.group.line.known;
-    };
-  };
+  group = lined_below k area.group (lengthened_line width count area.group.line) below.group (part_below k width count area.group.line below.group.line wide many);
   known = below.known;
   some = below.some;
   bare = λ none. below.bare none;

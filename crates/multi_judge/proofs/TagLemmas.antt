@@ -1,11 +1,11 @@
 -- What a tag that places nothing makes of the state.
-use Rattle.std.proofs.Common.{◌≡◌, ℕ, ◌+◌, ◌-◌, ◌*◌, ◌≤◌, true, false, cond, not, ◌==◌, ◌⊎◌, inl, inr, List, [], ◌∷◌, ◌++◌, length, Option, Some, None, refl, sym, ap, ◌∙◌, subst, arith}
+use Rattle.std.proofs.Common.{◌≡◌, ℕ, ◌+◌, ◌-◌, ◌≤◌, true, false, cond, not, ◌==◌, ◌⊎◌, inl, inr, List, [], ◌∷◌, ◌++◌, Option, Some, None, refl, sym, ap, ◌∙◌, subst, arith}
 use Rattle.std.specs.Option.{option_map, option_map_or, unwrap_or}
 use Rattle.std.proofs.lemmas.Bool.{cases_Bool}
 use Rattle.std.proofs.lemmas.Bool.Decides.{nat_tests}
 use Rattle.multi_tag.specs.declared.tag.FontPick.{FontPick}
 use Rattle.multi_tag.specs.declared.tag.Tag.{Tag}
-use Rattle.multi_tag.specs.declared.tag.Tag.TheVariants.{NewPage, NewLine, LineJust, PageJust, Font, Back, Rect}
+use Rattle.multi_tag.specs.declared.tag.Tag.TheVariants.{NewPage, NewLine, Font, Rect}
 use Rattle.sign_font.specs.declared.parts.LineFill.TheVariants.{Off}
 use Rattle.sign_font.specs.declared.font.FontInfo.{FontInfo}
 use Rattle.sign_font.specs.Sign.{SignData, FontData, font_numbered, info_of}
@@ -19,9 +19,8 @@ use Rattle.multi_meaning.proofs.OffenceLemmas.{offence-font, offence-no_font}
 use Rattle.multi_judge.specs.declared.attributes.Attributes.{Attributes}
 use Rattle.multi_judge.specs.declared.state.State.{State}
 use Rattle.multi_judge.specs.State.{IsSimple, IsStateOf, attributes_of}
-use Rattle.multi_judge.specs.Sums.{IsBelow}
-use Rattle.multi_judge.proofs.BoundLemmas.{below_more}
-use Rattle.multi_judge.proofs.JudgedLemmas.{font_of_info, found_again, state-attribute, state-cover}
+use Rattle.multi_judge.proofs.JudgedLemmas.{area_stays, found_again, some_mapped, state-attribute}
+use Rattle.multi_meaning.proofs.WordLemmas.{none_mapped}
 
 -- a tag that is none of these is a simple one
 pub simple_of : (tag : Tag) → (tag ≡ NewPage → ⊥) → ((gap : Option ℕ) → tag ≡ NewLine gap → ⊥) → ((pick : Option FontPick) → tag ≡ Font pick → ⊥) → ((x y w h : ℕ) → tag ≡ Rect x y w h → ⊥) → IsSimple tag
@@ -32,9 +31,6 @@ simple_of (Rect x y w h) a b c d = d x y w h refl
 simple_of tag a b c d = tt
 
 module _ (sign : SignData) (items : List Meaning) (state : State) (st : IsStateOf sign items state) (attributes : Attributes) where
-  below : IsBelow (1024 * length items + 1024) state.area
-  below = below_more (1024 * length items) (1024 * length items + 1024) state.area (omega arith) st.below
-
   abbrev pub After : Tag → Type 0
   After tag = attributes ≡ attributes_of (standing_behind sign (standing sign items) (Does tag))
 
@@ -48,22 +44,7 @@ module _ (sign : SignData) (items : List Meaning) (state : State) (st : IsStateO
   judged-simple (NewLine gap) s is = absurd s
   judged-simple (Font pick) s is = absurd s
   judged-simple (Rect x y w h) s is = absurd s
-  judged-simple (LineJust just) s is = (
-    refl,
-    state-attribute sign items state attributes (Does (LineJust just)) st refl refl refl is st.font below,
-  )
-  judged-simple (PageJust just) s is = (
-    refl,
-    state-attribute sign items state attributes (Does (PageJust just)) st refl refl refl is st.font below,
-  )
-  judged-simple (Back colour) s is = (
-    refl,
-    state-cover sign items state attributes colour st is below,
-  )
-  judged-simple tag s is = (
-    refl,
-    state-attribute sign items state attributes (Does tag) st refl refl refl is st.font below,
-  )
+  judged-simple tag s is = (refl, state-attribute sign items state attributes (Does tag) st refl (area_stays sign items tag refl) is st.font)
 
   -- a font: the values in force have its numbers
   pub judged-font : (pick : Option FontPick) (font : FontData) → (standing_behind sign (standing sign items) (Does (Font pick))).font ≡ font → font_numbered sign font.number ≡ Some font
@@ -74,8 +55,7 @@ module _ (sign : SignData) (items : List Meaning) (state : State) (st : IsStateO
       is ∙ ap (λ (a : Attributes). let b : Attributes = record a { font = info_of font } in b) st.attributes
       ∙ ap (λ (f : FontData). let b : Attributes = record (attributes_of (standing sign items)) { font = info_of f } in b) (sym new) in (
         fine,
-        state-attribute sign items state attributes x st refl refl refl after
-            (subst (λ (f : FontData). font_numbered sign f.number ≡ Some f) (sym new) own) below,
+        state-attribute sign items state attributes x st refl (area_stays sign items (Font pick) refl) after (subst (λ (f : FontData). font_numbered sign f.number ≡ Some f) (sym new) own),
       )
 
 -- FONTS
@@ -86,17 +66,13 @@ pub judged-default_font : (sign : SignData) (items : List Meaning) (state : Stat
     → CheckedData sign items state st (record state.attributes { font = info }) (Font None)
 unfolding offence_by
 judged-default_font sign items state st info is =
-    let (font, found, same) = font_of_info (font_numbered sign sign.defaults.font) info is in
+    let (font, found, same) = some_mapped info_of (font_numbered sign sign.defaults.font) info is in
     let none : FontData = record { number = 0; version = 0; height = 0; char_spacing = 0; line_spacing = 0; cells = [] } in
     judged-font sign items state st (record state.attributes { font = info }) None font (ap (λ o. unwrap_or o none) found) (found_again sign sign.defaults.font font found)
     (ap (λ (i : FontInfo). let a : Attributes = record state.attributes { font = i } in a) same) refl
 
-no_info : (o : Option FontData) → option_map info_of o ≡ None → o ≡ None
-no_info None e = refl
-no_info (Some font) e = cc
-
 pub judged-no_font : (sign : SignData) (items : List Meaning) (pick : FontPick) → option_map info_of (font_numbered sign pick.number) ≡ None → offence Off sign items (Does (Font (Some pick))) ≡ Some 6
-judged-no_font sign items pick none = offence-no_font (too_big Off) sign items pick (no_info (font_numbered sign pick.number) none)
+judged-no_font sign items pick none = offence-no_font (too_big Off) sign items pick (none_mapped info_of (font_numbered sign pick.number) none)
 
 -- the version that is asked for is another, where the font doesn't agree with it
 other_version : (o : Option ℕ) (n : ℕ) → option_map_or (λ v. not (v == n)) o false ≡ not (option_map_or (λ v. v == n) o true)
@@ -107,7 +83,7 @@ other_version (Some v) n = refl
 pub judged-version : (sign : SignData) (items : List Meaning) (pick : FontPick) (info : FontInfo) → option_map info_of (font_numbered sign pick.number) ≡ Some info
     → option_map_or (λ v. v == info.version) pick.version true ≡ false → offence Off sign items (Does (Font (Some pick))) ≡ Some 13
 judged-version sign items pick info is differs =
-    let (font, found, same) = font_of_info (font_numbered sign pick.number) info is in
+    let (font, found, same) = some_mapped info_of (font_numbered sign pick.number) info is in
     let versions : font.version ≡ info.version = ap (λ (i : FontInfo). i.version) (sym same) in
     let test : option_map_or (λ v. not (v == font.version)) pick.version false ≡ true =
     ap (λ n. option_map_or (λ v. not (v == n)) pick.version false) versions ∙ other_version pick.version info.version ∙ ap not differs in
@@ -118,7 +94,7 @@ pub judged-picked : (sign : SignData) (items : List Meaning) (state : State) (st
     → option_map info_of (font_numbered sign pick.number) ≡ Some info → option_map_or (λ v. v == info.version) pick.version true ≡ true
     → CheckedData sign items state st (record state.attributes { font = info }) (Font (Some pick))
 judged-picked sign items state st pick info is agrees =
-    let (font, found, same) = font_of_info (font_numbered sign pick.number) info is in
+    let (font, found, same) = some_mapped info_of (font_numbered sign pick.number) info is in
     let versions : font.version ≡ info.version = ap (λ (i : FontInfo). i.version) (sym same) in
     let test : option_map_or (λ v. not (v == font.version)) pick.version false ≡ false =
     ap (λ n. option_map_or (λ v. not (v == n)) pick.version false) versions ∙ other_version pick.version info.version ∙ ap not agrees in

@@ -15,7 +15,7 @@ use Rattle.multi_judge.specs.Run.{IsRun, line_in_force}
 use Rattle.multi_judge.specs.Text.{IsInText}
 use Rattle.multi_judge.proofs.FilledReadLemmas.{filled_ready_here}
 use Rattle.multi_judge.proofs.FilledRunLemmas.{one_goes_on, one_taken}
-use Rattle.multi_judge.proofs.FilledTextLemmas.{front_runs, front_taken}
+use Rattle.multi_judge.proofs.FilledTextLemmas.{word_taken}
 use Rattle.multi_judge.proofs.RunLemmas.{run_stays}
 
 module _ (sign : SignData) (cells : FontData) (octets : List ℕ) (at : ℕ) (run : Run) (pass : Pass) (source : Counted) (short : length octets < 2 ^ 63) (text : IsInText sign cells octets at run pass source)
@@ -28,17 +28,14 @@ module _ (sign : SignData) (cells : FontData) (octets : List ℕ) (at : ℕ) (ru
   room : (line_in_force pass.state).part.width + pixels ≤ pass.state.limits.width
   room = omega (arith, narrow, text.left)
 
-  word_read : ReadSoFar sign octets (at + len) (IsFilledFor sign kept)
-  word_read = front_taken sign octets at pass text.behind.so_far short text.fits run.gap text.runs len pixels within plain word has room
-
-  word_runs : IsFilledRun kept
-  word_runs = front_runs sign octets at pass text.behind.so_far short text.fits run.gap text.runs len pixels within has room
+  taken : ReadSoFar sign octets (at + len) (IsFilledFor sign kept) × IsFilledRun kept
+  taken = word_taken sign octets at pass text.behind.so_far short text.fits run.gap text.runs len pixels within plain word has room
 
   word_room : IsRun kept.state run.gap
   word_room = run_stays pass.state run.gap ((line_in_force pass.state).part.width + pixels) ((line_in_force pass.state).part.count + len) text.runs
 
   pub word_ready : length octets < 2 ^ 32 → IsFilledReady kept
-  word_ready small = filled_ready_here sign octets (at + len) kept word_read small
+  word_ready small = filled_ready_here sign octets (at + len) kept taken.0 small
 
   steps : behind.steps ≡ (charged source rises.0).steps
   steps = ap (λ (s : Counted). s.steps) rises.3
@@ -51,7 +48,7 @@ module _ (sign : SignData) (cells : FontData) (octets : List ℕ) (at : ℕ) (ru
       let least = text.behind.least in
       let most = text.behind.most in
       record {
-        so_far = word_read;
+        so_far = taken.0;
         octet = octet;
         same = ap (λ (s : Counted). s.octets) rises.3 ∙ text.behind.same;
         least = omega (arith, steps, fewest, least, within, small);
@@ -70,12 +67,12 @@ module _ (sign : SignData) (cells : FontData) (octets : List ℕ) (at : ℕ) (ru
       let enough : line.part.width + (run.gap + width) ≤ pass.state.limits.width = omega (arith, fits, narrow, text.left) in
       record {
         behind = record {
-          so_far = one_taken sign octets (at + len) kept word_read 32 short here (λ e. omega (arith, e), λ e. omega (arith, e)) word_runs run.gap word_room width narrow_cell.1 (is ∙ sym (text.widths 32)) enough;
+          so_far = one_taken sign octets (at + len) kept taken.0 32 short here (λ e. omega (arith, e), λ e. omega (arith, e)) taken.1 run.gap word_room width narrow_cell.1 (is ∙ sym (text.widths 32)) enough;
           same = ap (λ (s : Counted). s.octets) rises.3 ∙ text.behind.same;
           least = omega (arith, steps, fewest, least, within, small);
           most = omega (arith, steps, few, most, within, small);
         };
-        fits = one_goes_on kept word_runs run.gap word_room width enough true;
+        fits = one_goes_on kept taken.1 run.gap word_room width enough true;
         runs = run_stays kept.state run.gap (line.part.width + (run.gap + width)) (line.part.count + 1) word_room;
         left = omega (arith, fits, narrow, text.left);
         widths = text.widths;

@@ -12,7 +12,7 @@ use Rattle.multi_judge.specs.declared.line.Line.{Line}
 use Rattle.multi_judge.specs.declared.state.State.{State}
 use Rattle.multi_judge.specs.Run.{IsBehindOne}
 use Rattle.multi_judge.specs.State.{IsLimited, group_room}
-use Rattle.multi_judge.specs.Sums.{IsBare, IsBelow, IsBreak, IsCharacter, IsGroupBelow, IsLineBelow, area_sum, area_sum_in, line_sum}
+use Rattle.multi_judge.specs.Sums.{IsBare, IsBelow, IsBreak, IsCharacter, IsGroupBelow, area_sum, area_sum_in, line_sum}
 
 -- a line has the present segment of another, and the same segments before it (own)
 pub record IsSameBefore (old new : Line) : Type 0 where
@@ -20,11 +20,10 @@ pub record IsSameBefore (old new : Line) : Type 0 where
   pub left : new.left ≡ old.left
   pub centre : new.centre ≡ old.centre
 
--- a line is the old one with one more character that doesn't clash, which is then the last one; no number grows by more than 1,024 (own)
+-- a line is the old one with one more character that doesn't clash, which is then the last one (own)
 pub record PutsCharacter (old : Line) (character : Character) (new : Line) : Type 0 where
   pub sum : (line : List Spot) (s : Spot) → AllPass is_glyph line → IsCharacter s character → old ≡ line_sum line
       → list_any (clashes s) line ≡ false → new ≡ line_sum (line ++ s ∷ [])
-  pub grows : (k : ℕ) → IsLineBelow k old → IsLineBelow (k + 1024) new
   pub behind : IsBehindOne character.just character.font new
 
 -- an area is the old one, and its present group is the one with this page justification, which isn't before; a group that begins has no

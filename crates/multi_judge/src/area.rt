@@ -124,32 +124,6 @@ impl Area {
         }
     }
 
-    /// Goes on to the group with a page justification, which isn't before that of the present one.
-    #[inline(always)]
-    pub(crate) fn go_on(&mut self, page_just: PageJust)
-        requires below { IsBelow (2 ^ 62) self.old }
-        ensures sum { (area : List Spot) → All IsPlacing area → self.old ≡ area_sum area → self.old.present ≤ page_number page_just
-            → self.new ≡ area_sum_in (page_number page_just) area }
-        ensures grows { (k : ℕ) → IsBelow k self.old
-            → (self.new.top ≤ k + 1024) × (self.new.middle ≤ k + 1024) × IsGroupBelow k self.new.group × (2 ≤ self.new.present)
-            × (self.new.present ≤ 4) × IsBare self.new.group.line }
-        ensures present { self.old.present ≤ page_number page_just → self.new.present ≡ page_number page_just }
-        ensures begins { self.old.present < page_number page_just → self.new.group.line.any ≡ false }
-    {
-        let page_just = page_just.number();
-        if page_just <= self.present {
-            return;
-        }
-        let (before, height) = (self.present, self.group.height());
-        self.group = Group::new();
-        self.present = page_just;
-        match before {
-            2 => self.top = height,
-            3 => self.middle = height,
-            _ => {}
-        }
-    }
-
     /// Goes on to the group with a page justification, unless it is before that of the present one, and works out the most that the group
     /// may have then within a height in pixels. The answer is whether it isn't before.
     #[inline(always)]
@@ -175,10 +149,18 @@ impl Area {
         requires other { page_number page_just ≢ self.old.present }
         ensures reached { ReachesGroup (page_number page_just) height self.old most.old result self.new most.new }
     {
-        if page_just.number() < self.present {
+        let page_just = page_just.number();
+        if page_just < self.present {
             return false;
         }
-        self.go_on(page_just);
+        let (before, ended) = (self.present, self.group.height());
+        self.group = Group::new();
+        self.present = page_just;
+        match before {
+            2 => self.top = ended,
+            3 => self.middle = ended,
+            _ => {}
+        }
         *most = self.room(height);
         true
     }
@@ -198,7 +180,7 @@ impl Area {
 
     /// The most pixels that the present group may have within a height, into which those before it fit.
     pub(crate) fn room(&self, height: u16) -> u64
-        requires below { IsBelow (2 ^ 62 + 1024) self.now }
+        requires low { self.now.top ≤ 2 ^ 62 + 2048 }
         ensures { result ≡ group_room self.now height }
     {
         room_for(self.present, self.top, self.middle, height)

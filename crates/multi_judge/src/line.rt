@@ -11,7 +11,7 @@ ghost use Rattle.multi_meaning.specs.Offence.{clashes};
 ghost use Rattle.multi_judge.specs.Adding.{IsSameBefore, PutsCharacter};
 ghost use Rattle.multi_judge.specs.Run.{IsBehindOne, IsOpen, kept_width, lengthened_line};
 ghost use Rattle.multi_judge.specs.State.{IsMost, segment_room};
-ghost use Rattle.multi_judge.specs.Sums.{segment_sum, line_sum, line_sum_in, IsCharacter, IsSegmentBelow, IsBare, IsLineBelow};
+ghost use Rattle.multi_judge.specs.Sums.{segment_sum, line_sum, IsCharacter, IsSegmentBelow, IsBare, IsLineBelow};
 
 use multi_tag::LineJust;
 use sign_font::FontInfo;
@@ -65,7 +65,7 @@ pub struct Line {
 impl Segment {
     /// A segment of no line yet.
     pub(crate) fn new() -> Segment
-        ensures sum { (just : ℕ) → result ≡ segment_sum just [] }
+        ensures sum { result ≡ segment_sum 0 [] }
         ensures below { IsSegmentBelow 0 result }
     {
         Segment {
@@ -174,6 +174,7 @@ impl Line {
         ensures apart { (line : List Spot) (s : Spot) → AllPass is_glyph line → self.old ≡ line_sum line
             → s.at.line_just ≡ character.now.just → not result ≡ list_any (clashes s) line }
         ensures put { result ≡ true → PutsCharacter self.old character.now self.new }
+        ensures grows { (k : ℕ) → IsLineBelow k self.old → IsLineBelow (k + 1024) self.new }
         ensures left { result ≡ false → (self.new ≡ self.old) × (most.new ≡ most.old) }
         ensures most { IsMost width self.old most.old → IsMost width self.new most.new }
     {
@@ -195,9 +196,12 @@ impl Line {
 
     /// Goes on to the segment with a line justification, which isn't before that of the present one.
     #[inline(always)]
+    #[tactic(auto, using(std::proofs::lemmas::Bool::Decides::nat_tests))]
     fn go_on(&mut self, just: LineJust)
-        ensures sum { (line : List Spot) → self.old ≡ line_sum line → self.old.present ≤ line_number just
-            → self.new ≡ line_sum_in (line_number just) line }
+        ensures left { self.old.present < line_number just → self.new.left ≡ kept_width 2 self.old }
+        ensures centre { self.old.present < line_number just → self.new.centre ≡ kept_width 3 self.old }
+        ensures right { self.old.present < line_number just → self.new.right ≡ kept_width 4 self.old }
+        ensures part { self.old.present < line_number just → self.new.part ≡ segment_sum (line_number just) [] }
         ensures others { (self.new.has_parts ≡ self.old.has_parts) × (self.new.height ≡ self.old.height)
             × (self.new.spacing ≡ self.old.spacing) }
         ensures present { self.old.present ≤ line_number just → self.new.present ≡ line_number just }

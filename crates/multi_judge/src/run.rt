@@ -106,28 +106,8 @@ pub fn judge_run<const WORDS: bool>(
     if WORDS {
         judge_text(sign, cells, pass, source, at)
     } else {
-        judge_line(sign, cells, &mut pass.state, source, at)
+        go_along(sign, cells, &mut pass.state, source, at)
     }
-}
-
-/// The same where lines aren't filled.
-#[inline(always)]
-fn judge_line(
-    sign: &Terms<'_>,
-    cells: &FontCells<'_>,
-    state: &mut State,
-    source: &mut Source<'_>,
-    at: usize,
-) -> (usize, Option<u8>)
-    requires short { length source.old.octets < 2 ^ 32 }
-    requires behind { IsBehind sign.now source.old.octets at (IsUnfilledOf sign.now state.old) source.old }
-    requires character { IsBehindCharacter state.old }
-    requires room { is_within state.old ≡ true }
-    requires cells { AreWidthsOf sign.now state.old.attributes.font.number cells.now }
-    ensures further { at ≤ result.0 }
-    ensures at { IsAt sign.now source.old.octets result.0 result.1 (IsUnfilledOf sign.now state.new) source.new }
-{
-    go_along(sign, cells, state, source, at)
 }
 
 /// Goes behind the characters from an offset on that only lengthen the line of the one before them: the offset behind them, and the

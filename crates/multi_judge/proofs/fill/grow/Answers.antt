@@ -1,6 +1,5 @@
-use Rattle.std.proofs.Common.{sym, ◌∙◌, subst}
-use Rattle.multi_judge.specs.FillSums.{IsSplitBelow}
-use Rattle.multi_judge.proofs.FillSplitLemmas.{line_below, split_none, split_space, split_word}
+use Rattle.std.proofs.Common.{sym, ◌∙◌}
+use Rattle.multi_judge.proofs.FillSplitLemmas.{split_none, split_space, split_word}
 use Rattle.multi_judge.proofs.fill.grow.Goals as goal
 
 pub returns-then-space-clause-sum : goal.returns-then-space-clause-sum
@@ -10,11 +9,6 @@ returns-then-space-clause-sum c before s glyphs is space apart line split =
 pub returns-in-Some-clause-sum : goal.returns-in-Some-clause-sum
 returns-in-Some-clause-sum c before s glyphs is space apart line split =
     split_word before s c.args.character.now glyphs is (space ∙ c.if-space.false) apart c.in-Some.parts c.add.new.self (sym c.in-Some.is ∙ split) c.add.ensures.sum
-
-pub returns-in-Some-clause-grows : goal.returns-in-Some-clause-grows
-returns-in-Some-clause-grows c k line below =
-    let parts = subst (IsSplitBelow k) c.in-Some.is below in
-    (line_below k c.in-Some.parts.before parts.0, c.add.ensures.grows k parts.1)
 
 pub returns-in-None-clause-sum : goal.returns-in-None-clause-sum
 returns-in-None-clause-sum c before s glyphs is space apart line split =

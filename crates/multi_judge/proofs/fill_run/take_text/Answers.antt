@@ -4,14 +4,6 @@ use Rattle.multi_judge.specs.Judging.{IsAt}
 use Rattle.multi_judge.specs.Text.{IsInText}
 use Rattle.multi_judge.proofs.fill_run.take_text.Goals as goal
 
-pub run-run-requires : goal.run-run-requires
-run-run-requires c = record { behind = c.requires.run.behind; limited = c.requires.behind.so_far.is.of.limited }
-
-pub loop-behind-init : goal.loop-behind-init
-loop-behind-init c =
-    let (runs, left) = c.run-run.ensures.run c.requires.room in
-    (record { behind = c.requires.behind; fits = c.requires.run; runs = runs; left = left; widths = c.requires.cells }, omega arith)
-
 pub loop-behind-smaller : goal.loop-behind-smaller
 loop-behind-smaller c =
     let (further, text) = c.take_word.ensures.spaced c.in-Spaced.behind c.in-Spaced.is in

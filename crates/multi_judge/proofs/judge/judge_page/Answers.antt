@@ -2,7 +2,6 @@ use Rattle.std.proofs.Common.{ℕ, ◌+◌, ◌<◌, ◌≤◌, Option, cond, So
 use Rattle.std.proofs.lemmas.Bool.{lt-ltb, le-ltb}
 use Rattle.sign_font.specs.Sign.{SignData}
 use Rattle.multi_judge.proofs.JudgedLemmas.{judged-page, state-page}
-use Rattle.multi_judge.proofs.LimitLemmas.{limited_none}
 use Rattle.multi_judge.proofs.judge.judge_page.Goals as goal
 
 pub returns-then-state-max_pages-clause-judged : goal.returns-then-state-max_pages-clause-judged
@@ -18,6 +17,3 @@ returns-clause-judged c = λ items st.
       judged-page c.args.sign.now items c.args.state.now st ∙ ap (λ b. cond {A = Option ℕ} b (Some 12) None) (le-ltb c.args.sign.now.max_pages (c.args.state.now.pages + 1) room),
       state-page c.args.sign.now items c.args.state.now st _ refl (omega (arith, c.from.ensures, c.from-2.ensures)) (rw c.whole_sign-state.ensures refl) c.new-state.ensures.sum c.new-state.ensures.below on off,
     )
-
-pub returns-clause-limited : goal.returns-clause-limited
-returns-clause-limited c = λ limited. limited_none _ c.new-state.ensures.sum

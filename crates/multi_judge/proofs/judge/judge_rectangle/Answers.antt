@@ -4,7 +4,6 @@ use Rattle.multi_meaning.specs.Attributes.{rectangle}
 use Rattle.multi_judge.specs.declared.attributes.Attributes.{Attributes}
 use Rattle.multi_judge.proofs.JudgedLemmas.{judged-rectangle, state-rectangle}
 use Rattle.multi_judge.proofs.TagLemmas.{outside_across, outside_down, inside}
-use Rattle.multi_judge.proofs.LimitLemmas.{limited_none}
 use Rattle.multi_judge.proofs.judge.judge_rectangle.Goals as goal
 
 pub returns-in_default-clause-judged : goal.returns-in_default-clause-judged
@@ -33,6 +32,3 @@ returns-clause-judged c = λ items st.
           (rw (across.3, across.4, down.3, high) (ap (λ (a : Attributes). let b : Attributes = record a { rectangle = rectangle sign c.args.x c.args.y c.args.w c.args.h } in b) st.attributes))
           c.new-state.ensures.sum c.new-state.ensures.below,
     )
-
-pub returns-clause-limited : goal.returns-clause-limited
-returns-clause-limited c = λ limited. limited_none _ c.new-state.ensures.sum

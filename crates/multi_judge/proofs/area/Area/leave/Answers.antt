@@ -1,28 +1,39 @@
-use Rattle.std.proofs.Common.{◌+◌, ◌<◌, ◌≤◌, ◌^◌, sym, arith}
+use Rattle.std.proofs.Common.{◌≡◌, ◌<◌, ◌+◌, ◌==◌, [], refl, sym, arith}
 use Rattle.std.proofs.lemmas.Bool.{le-leb}
+use Rattle.std.proofs.lemmas.Bool.Decides.{nat_tests}
 use Rattle.multi_tag.specs.Just.{page_number}
-use Rattle.multi_judge.proofs.BoundLemmas.{group_more}
+use Rattle.multi_judge.specs.Run.{kept_height}
+use Rattle.multi_judge.specs.Sums.{group_sum}
+use Rattle.multi_judge.proofs.RunLemmas.{area_turned, cond_most, kept_group_height}
 use Rattle.multi_judge.proofs.area.Area.leave.Goals as goal
-
-pub room-requires : goal.room-requires
-room-requires c =
-    let (top, middle, group, least, known, bare) = c.go_on.ensures.grows (2 ^ 62) c.requires.below in
-    record { below = record { top = top; middle = middle; group = group_more (2 ^ 62) (2 ^ 62 + 1024) _ (omega arith) group; known = known; some = λ any. least; bare = bare; empty = λ none. absurd (omega (arith, none, least)) } }
+use Rattle.multi_judge.proofs.area.Area.leave.Goals.{in-2, in-3, in_default}
 
 pub returns : goal.returns
 returns c =
     let area = c.args.self.now in
-    let order : area.present ≤ page_number c.args.page_just = omega (arith, c.if-number-self.false, c.number.ensures.number) in
-    let later : area.present < page_number c.args.page_just = omega (arith, order, c.requires.other) in
+    let new = c.match-before.self in
+    let page = page_number c.args.page_just in
+    let later : area.present < page = omega (arith, c.if-page_just-self.false, c.number-page_just.ensures.number, c.requires.other) in
+    let ended = c.height-ended.ensures in
+    let moved : (new.present ≡ page) × (new.top ≡ kept_group_height 2 area) × (new.middle ≡ kept_group_height 3 area) × (new.group ≡ group_sum []) = elim c.match-before.branch [
+      | in-2 w ↦ rw w.self-is (c.number-page_just.ensures.number, rw w.in-2.is ended.kept, rw w.in-2.is refl, c.new-self.ensures.sum)
+      | in-3 w ↦ rw w.self-is (c.number-page_just.ensures.number, rw w.in-3.is refl, rw w.in-3.is ended.kept, c.new-self.ensures.sum)
+      | in_default w ↦ rw w.self-is (c.number-page_just.ensures.number, grind (arith, nat_tests, w.in_default), grind (arith, nat_tests, w.in_default), c.new-self.ensures.sum)
+    ] in
     record {
       reached = record {
-        order = sym (le-leb area.present (page_number c.args.page_just) order);
+        order = sym (le-leb area.present page (omega (arith, later)));
         goes = λ is. record {
-          sum = λ items placing e. c.go_on.ensures.sum items placing e order;
-          grows = λ k below. let (top, middle, group, least, known, bare) = c.go_on.ensures.grows k below in (top, middle, group, bare);
-          present = c.go_on.ensures.present order;
+          sum = λ items placing e. area_turned items area e placing page later new moved.0 moved.1 moved.2 moved.3;
+          grows = λ k below. (
+            omega (arith, moved.1, cond_most (2 == area.present) (kept_height area.group) area.top (k + 1024) (omega (arith, ended.kept, ended.below, below.group.closed)) (omega (arith, below.top))),
+            omega (arith, moved.2, cond_most (3 == area.present) (kept_height area.group) area.middle (k + 1024) (omega (arith, ended.kept, ended.below, below.group.closed)) (omega (arith, below.middle))),
+            rw moved.3 (record { ended = omega arith; closed = omega arith; line = record { left = omega arith; centre = omega arith; right = omega arith; part = record { width = omega arith; count = omega arith }; known = omega arith } }),
+            rw moved.3 (λ none. (refl, refl)),
+          );
+          present = moved.0;
           stays = λ same. absurd (c.requires.other same);
-          begins = c.go_on.ensures.begins;
+          begins = λ less. rw moved.3 refl;
         };
         limit = λ is kept. c.room.ensures;
         left = λ none. absurd cc;

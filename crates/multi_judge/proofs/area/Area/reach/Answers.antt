@@ -1,16 +1,12 @@
-use Rattle.std.proofs.Common.{◌≡◌, ◌<◌, ◌≤◌, Bool, true, false, None, [], refl, sym, ◌∙◌, ap, arith}
-use Rattle.std.specs.List.{after_last}
+use Rattle.std.proofs.Common.{◌≡◌, ◌<◌, ◌≤◌, Bool, true, false, refl, sym, ◌∙◌, ap, arith}
 use Rattle.std.proofs.lemmas.Bool.{le-leb}
 use Rattle.multi_tag.specs.Just.{page_number}
-use Rattle.multi_meaning.specs.Address.{in_group, is_break}
 use Rattle.multi_meaning.proofs.FitLemmas.{room_alone}
 use Rattle.multi_tag.proofs.JustLemmas.{page_number_known}
 use Rattle.multi_judge.specs.declared.area.Area.{Area}
-use Rattle.multi_judge.specs.declared.area.Group.{Group}
-use Rattle.multi_judge.specs.Sums.{group_sum, line_sum}
-use Rattle.multi_judge.proofs.AreaSumLemmas.{area_turned, middle_kept, own_line, top_kept}
-use Rattle.multi_judge.proofs.GroupSumLemmas.{present_glyphs}
-use Rattle.multi_judge.proofs.LineSumLemmas.{no_character}
+use Rattle.multi_judge.specs.Sums.{area_sum}
+use Rattle.multi_judge.proofs.AreaSumLemmas.{empty_area}
+use Rattle.multi_judge.proofs.RunLemmas.{area_turned}
 use Rattle.multi_judge.proofs.area.Area.reach.Goals as goal
 
 -- where no item stands, no character does
@@ -20,12 +16,6 @@ none_yet area none some = by_any area.group.line.any some
     by_any : (b : Bool) → (b ≡ true → 2 ≤ area.present) → b ≡ false
     by_any true some = absurd (let least = some refl in omega (arith, least, none))
     by_any false some = refl
-
--- a group of which nothing is kept
-nothing_kept : (group : Group) → group.ended ≡ 0 → group.closed ≡ 0 → group.last ≡ None → group.line ≡ line_sum [] → group ≡ group_sum []
-nothing_kept group ended closed last line =
-    let same : ◌≡◌ {A = Group} (record { ended = group.ended; closed = group.closed; last = group.last; line = group.line }) (group_sum []) = rw (ended, closed, last, line) refl in
-    same
 
 pub returns-then-self-eq0 : goal.returns-then-self-eq0
 returns-then-self-eq0 c =
@@ -40,12 +30,8 @@ returns-then-self-eq0 c =
         order = sym (le-leb area.present page (omega (arith, none)));
         goes = λ is. record {
           sum = λ items placing e.
-              let own = own_line items area e in
-              let line : area.group.line ≡ line_sum [] = own ∙ ap line_sum (no_character (after_last is_break (in_group area.present items)) area.group.line (present_glyphs area.present items placing) own bare) in
-              rw c.number-self.ensures.number (area_turned items page area e later area.top area.middle area.group
-              (top_kept items page area e later (λ h. omega (arith, h, none)))
-              (middle_kept items page area e later (λ h. omega (arith, h, none)))
-              (nothing_kept area.group empty.ended empty.closed empty.last line));
+              area_turned items area e placing page later _ c.number-self.ensures.number (rw none refl) (rw none refl)
+              (ap (λ (a : Area). a.group) (e ∙ ap area_sum (empty_area items (sym (ap (λ (a : Area). a.present) e) ∙ none))));
           grows = λ k below. (omega (arith, below.top), omega (arith, below.middle), below.group, below.bare);
           present = c.number-self.ensures.number;
           stays = λ same. absurd (omega (arith, same, later));

@@ -11,6 +11,5 @@ returns-then-not-self-clause-put c = λ is. record {
   sum = λ line s glyphs own e apart.
       let empty = no_character line c.args.self.now glyphs e c.if-not-self.true in
       rw empty (c.begin.ensures.sum s own (e ∙ ap line_sum empty));
-  grows = c.begin.ensures.grows;
   behind = c.begin.ensures.behind;
 }

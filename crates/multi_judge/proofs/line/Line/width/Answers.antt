@@ -1,11 +1,8 @@
 use Rattle.std.proofs.Common.{ap, sym, arith}
 use Rattle.multi_meaning.specs.Line.{width_of}
 use Rattle.multi_judge.specs.declared.line.Line.{Line}
-use Rattle.multi_judge.proofs.LineSumLemmas.{none_of_later, width_other_of, width_present}
+use Rattle.multi_judge.proofs.LineSumLemmas.{none_of_later, width_other_of}
 use Rattle.multi_judge.proofs.line.Line.width.Goals as goal
-
-pub returns-then-just-self-clause-sum : goal.returns-then-just-self-clause-sum
-returns-then-just-self-clause-sum c line e = width_present line c.args.self.now e c.args.just c.if-just-self.true
 
 pub returns-in-2-clause-sum : goal.returns-in-2-clause-sum
 returns-in-2-clause-sum c line e = rw c.in-2.is (width_other_of line c.args.self.now e 2 c.args.self.now.left (ap (λ (l : Line). l.left) e) (λ h. omega (arith, h, c.in-2.is)))

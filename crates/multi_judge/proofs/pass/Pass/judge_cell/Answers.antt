@@ -2,12 +2,8 @@ use Rattle.std.proofs.Common.{subst, sym}
 use Rattle.multi_meaning.specs.Meaning.{Shows}
 use Rattle.multi_judge.specs.declared.pass.Pass.{Pass}
 use Rattle.multi_judge.specs.PassState.{JudgesCell}
-use Rattle.multi_judge.proofs.PassLemmas.{is_false, is_true, judged_unfilled}
+use Rattle.multi_judge.proofs.PassLemmas.{is_false, judged_unfilled}
 use Rattle.multi_judge.proofs.pass.Pass.judge_cell.Goals as goal
-
-pub returns-then-this-ne0-clause-judged : goal.returns-then-this-ne0-clause-judged
-returns-then-this-ne0-clause-judged g c =
-    subst (λ w. JudgesCell w c.args.self.now c.args.number c.args.width c.fill_cell.result c.fill_cell.new.self) (sym (is_true g.row.WORDS c.if-this-ne0.true)) c.fill_cell.ensures.judged
 
 pub returns-else-this-ne0-clause-judged : goal.returns-else-this-ne0-clause-judged
 returns-else-this-ne0-clause-judged g c =

@@ -1,12 +1,7 @@
-use Rattle.std.proofs.Common.{sym}
 use Rattle.sign_font.specs.Sign.{cell_in}
 use Rattle.multi_judge.proofs.PassLemmas.{pass_undefined}
 use Rattle.multi_judge.proofs.RunReadLemmas.{no_cell}
 use Rattle.multi_judge.proofs.pass.Pass.judge_character.Goals as goal
-
-pub returns-in-Some-clause-judged : goal.returns-in-Some-clause-judged
-returns-in-Some-clause-judged g c = λ items of.
-    c.judge_cell.ensures.judged c.args.sign.now items of (rw (← c.sign.view_is) (sym c.in-Some.ensures.width))
 
 pub returns-in-None-clause-judged : goal.returns-in-None-clause-judged
 returns-in-None-clause-judged g c = λ items of.

@@ -4,10 +4,6 @@ use Rattle.multi_judge.proofs.PassLemmas.{pass_undefined}
 use Rattle.multi_judge.proofs.RunReadLemmas.{no_cell}
 use Rattle.multi_judge.proofs.pass.Pass.judge_octet.Goals as goal
 
-pub returns-in-Some-clause-judged : goal.returns-in-Some-clause-judged
-returns-in-Some-clause-judged g c = λ sign widths items of.
-    rw c.from.ensures at (c.judge_cell.ensures.judged sign items of (rw c.from.ensures (widths c.args.octet ∙ sym c.width.ensures.width ∙ c.in-Some.is)))
-
 pub returns-in-None-clause-judged : goal.returns-in-None-clause-judged
 returns-in-None-clause-judged g c = λ sign widths items of.
     pass_undefined sign items c.args.self.now _ of c.args.octet (no_cell (cell_in sign c.args.self.now.state.attributes.font.number c.args.octet) (sym c.in-None.is ∙ c.width.ensures.width ∙ sym (widths c.args.octet)))

@@ -1,14 +1,12 @@
 use Rattle.std.proofs.Common.{◌*◌, length, ap, refl, subst, sym, ◌==◌}
-use Rattle.std.specs.Prelude.{nat_le}
 use Rattle.sign_font.specs.Sign.{cell_in}
 use Rattle.multi_judge.specs.declared.state.State.{State}
 use Rattle.multi_judge.specs.Adding.{character_of}
 use Rattle.multi_judge.specs.Passed.{IsFilledPut}
-use Rattle.multi_judge.specs.Run.{is_within, kept_height}
+use Rattle.multi_judge.specs.Run.{is_within}
 use Rattle.multi_judge.specs.State.{IsLimited}
 use Rattle.multi_judge.specs.Sums.{IsBelow}
 use Rattle.multi_judge.proofs.FilledKeptLemmas.{filled_put, laid_count}
-use Rattle.multi_judge.proofs.LimitLemmas.{area_told, open_told}
 use Rattle.multi_judge.proofs.RunReadLemmas.{cell_of_width}
 use Rattle.multi_judge.proofs.pass.Pass.put_filled.Goals as goal
 
@@ -17,15 +15,10 @@ returns-clause-put c = λ sign items is own fine.
     let kept = c.args.self.now in
     let filled = c.fill_character.ensures in
     let new = c.fill_character.new.self in
-    let width = kept.state.attributes.rectangle.width in
-    let height = kept.state.attributes.rectangle.height in
     let (cell, some, wide) = cell_of_width (cell_in sign kept.state.attributes.font.number c.args.number) c.args.width (sym own) in
     let (below, split) = filled.grows (1024 * length items) (subst (λ n. IsBelow (1024 * n) kept.state.area) (laid_count sign items) is.of.state_is.below) is.of.split_below in
     let limited = subst IsLimited filled.same (filled.limited is.of.limited) in
     subst (λ (t : State). IsFilledPut sign items c.args.number kept (record { state = t; split = c.fill_character.new.split; order = c.with-self.result }) (is_within new) c.fill_character.result) (sym filled.same)
     (filled_put sign items kept is c.args.number cell some fine _ (ap (λ n. n == kept.state.area.present) c.number.ensures.number)
     (character_of kept.state.attributes c.args.width) refl refl wide refl new.area c.fill_character.new.split c.fill_character.result (λ cell found. filled.sum is.of.limited)
-    new.limits limited (nat_le new.area.group.line.part.width new.limits.width) (nat_le (kept_height new.area.group) new.limits.height)
-    (λ l glyphs e before. open_told l new.area.group.line width new.limits.width glyphs e below.group.line.known before limited.width)
-    (λ l placing e low above. area_told l new.area height new.limits.height e placing low below.known above (limited.height low))
-    c.with-self.result c.with-self.ensures below split)
+    new.limits limited c.with-self.result c.with-self.ensures below split)

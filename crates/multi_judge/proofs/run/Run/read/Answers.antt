@@ -1,6 +1,5 @@
-use Rattle.std.proofs.Common.{◌≡◌, ℕ, ◌+◌, ◌-◌, ◌*◌, ◌≤◌, drop, take, length, Option, sym, ap, subst, ◌∙◌, arith}
-use Rattle.std.specs.Prelude.{IfSome, if◌then◌else◌, min, unwrap_or}
-use Rattle.std.proofs.lemmas.List.{length-drop}
+use Rattle.std.proofs.Common.{◌≡◌, ℕ, drop, take, Option, sym, ap, subst, ◌∙◌, arith}
+use Rattle.std.specs.Prelude.{IfSome, if◌then◌else◌, unwrap_or}
 use Rattle.multi_token.specs.Run.{taken}
 use Rattle.sign_font.specs.Advance.{AreAdvances, ends_run}
 use Rattle.sign_font.specs.Sound.{IsWithin}
@@ -21,11 +20,3 @@ returns-clause-width c = λ sign font widths.
     c.from.result c.min-room.result octets c.read_run.result.len r.run (omega (arith, c.min-room.ensures)) r.octets in
     let wide : c.read_run.result.width ≡ taken c.advances.result.now c.from.result (take c.read_run.result.len octets) = omega (arith, r.width) in
     rw (← c.from.ensures, wide) has
-
-pub returns-clause-steps : goal.returns-clause-steps
-returns-clause-steps c =
-    let r = c.read_run.ensures in
-    let all = c.args.source.now.octets in
-    let len = c.read_run.result.len in
-    let within : len ≤ length all - c.args.at = rw (← length-drop c.args.at all) r.run.within in
-    (min (2 * len + 2) (2 * (length all - c.args.at) + 1), omega arith, omega arith, r.steps)

@@ -8,19 +8,17 @@ use Rattle.multi_tag.proofs.JustLemmas.{page_number_known}
 use Rattle.multi_judge.specs.declared.area.Area.{Area}
 use Rattle.multi_judge.specs.FillSums.{IsSplitBelow, split_sum}
 use Rattle.multi_judge.specs.Sums.{IsCharacter, group_sum}
-use Rattle.multi_judge.proofs.AreaFillLemmas.{area_filled, nothing_yet, reached_below, reached_group, reached_line}
+use Rattle.multi_judge.proofs.AreaFillLemmas.{area_filled, nothing_yet, reached_below, reached_group, reached_line, regrouped_below}
 use Rattle.multi_judge.proofs.state.State.fill_character.Goals as goal
 use Rattle.multi_judge.proofs.state.State.fill_character.Goals.{then-number-self, else-number-self}
 
 pub fill_character-requires-clause-below : goal.fill_character-requires-clause-below
 fill_character-requires-clause-below c =
-    let at = c.args.self.now.attributes in
-    (reached_below (page_number at.page_just) at.rectangle.height (page_number_known at.page_just) c.args.self.now.area c.args.self.now.limits.height c.reach.result c.reach.new.self c.reach.new.most c.reach.ensures.reached (2 ^ 62) c.requires.below).2
+    (reached_below c.reach.ensures.reached (page_number_known c.args.self.now.attributes.page_just) (2 ^ 62) c.requires.below).2
 
 pub fill_character-requires-clause-bare : goal.fill_character-requires-clause-bare
 fill_character-requires-clause-bare c =
-    let at = c.args.self.now.attributes in
-    (reached_below (page_number at.page_just) at.rectangle.height (page_number_known at.page_just) c.args.self.now.area c.args.self.now.limits.height c.reach.result c.reach.new.self c.reach.new.most c.reach.ensures.reached (2 ^ 62) c.requires.below).3
+    (reached_below c.reach.ensures.reached (page_number_known c.args.self.now.attributes.page_just) (2 ^ 62) c.requires.below).3
 
 pub returns-clause-sum : goal.returns-clause-sum
 returns-clause-sum c limited old new group s placing placing' e order on is space fits apart o =
@@ -35,29 +33,26 @@ returns-clause-sum c limited old new group s placing placing' e order on is spac
       | then-number-self w ↦ w.split-is ∙ nothing_yet old group page width on.before area e (omega (arith, w.if-number-self.true, c.number.ensures.number))
       | else-number-self w ↦ w.split-is ∙ o (omega (arith, order, w.if-number-self.false, c.number.ensures.number))
     ] in
-    let most = reached_line page at.rectangle.height (page_number_known at.page_just) area c.args.self.now.limits.height c.reach.result c.reach.new.self c.reach.new.most c.reach.ensures.reached width c.args.self.now.limits.width limited.width in
+    let most = reached_line c.reach.ensures.reached (page_number_known at.page_just) width c.args.self.now.limits.width limited.width in
     let (grown, parts, ended, before) = c.fill_character.ensures.sum most group s placing' (subst (IsCharacter s) (sym c.character-character.ensures) is) space fits apart own split in
     (area_filled old new group s page width on c.reach.new.self _ turned refl refl refl grown, parts, ended, before)
 
 pub returns-clause-limited : goal.returns-clause-limited
 returns-clause-limited c = λ limited.
     let at = c.args.self.now.attributes in
-    let page = page_number at.page_just in
-    let area = c.args.self.now.area in
     record {
-      width = c.fill_character.ensures.most (reached_line page at.rectangle.height (page_number_known at.page_just) area c.args.self.now.limits.height c.reach.result c.reach.new.self c.reach.new.most c.reach.ensures.reached at.rectangle.width c.args.self.now.limits.width limited.width);
-      height = λ some. reached_group page at.rectangle.height (page_number_known at.page_just) area c.args.self.now.limits.height c.reach.result c.reach.new.self c.reach.new.most c.reach.ensures.reached limited.height;
+      width = c.fill_character.ensures.most (reached_line c.reach.ensures.reached (page_number_known at.page_just) at.rectangle.width c.args.self.now.limits.width limited.width);
+      height = λ some. reached_group c.reach.ensures.reached (page_number_known at.page_just) limited.height;
     }
 
 pub returns-clause-grows : goal.returns-clause-grows
 returns-clause-grows c k below parts =
-    let at = c.args.self.now.attributes in
-    let (top, middle, group, bare, least, known) = reached_below (page_number at.page_just) at.rectangle.height (page_number_known at.page_just) c.args.self.now.area c.args.self.now.limits.height c.reach.result c.reach.new.self c.reach.new.most c.reach.ensures.reached k below in
     let parts' : IsSplitBelow k c.if-number-self.split = elim c.if-number-self.branch [
       | then-number-self w ↦ subst (IsSplitBelow k) (sym w.split-is) tt
       | else-number-self w ↦ subst (IsSplitBelow k) (sym w.split-is) parts
     ] in
-    let more = c.fill_character.ensures.grows k group parts' in (
-      record { top = top; middle = middle; group = more.0; known = known; some = λ any. least; bare = c.fill_character.ensures.bare; empty = λ none. absurd (omega (arith, none, least)) },
-      more.1,
+    let known = page_number_known c.args.self.now.attributes.page_just in
+    let filled = c.fill_character.ensures in (
+      regrouped_below c.reach.ensures.reached known k below c.fill_character.new.self (λ group. (filled.grows k group parts').0) filled.bare,
+      (filled.grows k (reached_below c.reach.ensures.reached known k below).2 parts').1,
     )

@@ -1,32 +1,25 @@
-use Rattle.std.proofs.Common.{◌^◌, refl, sym, ap, ◌∙◌, arith}
-use Rattle.std.proofs.lemmas.Bool.{false≢true, le-ltb, leb-false, leb-true, lt-ltb}
+use Rattle.std.proofs.Common.{◌^◌, refl, sym, ap, ◌∙◌}
+use Rattle.std.proofs.lemmas.Bool.{false≢true}
 use Rattle.multi_tag.specs.Just.{page_number}
 use Rattle.multi_meaning.specs.Address.{in_group}
 use Rattle.multi_meaning.proofs.GroupLemmas.{own_group, placing_group}
 use Rattle.multi_tag.proofs.JustLemmas.{page_number_known}
 use Rattle.multi_judge.specs.declared.area.Area.{Area}
 use Rattle.multi_judge.specs.Sums.{group_sum}
-use Rattle.multi_judge.proofs.AreaSumLemmas.{area_with, conflicts_break}
+use Rattle.multi_judge.proofs.AreaFillLemmas.{reached_below, reached_conflicts, regrouped_below}
+use Rattle.multi_judge.proofs.AreaSumLemmas.{area_with}
 use Rattle.multi_judge.proofs.state.State.put_break.Goals as goal
 
 pub returns-then-not-reach-clause-conflicts : goal.returns-then-not-reach-clause-conflicts
 returns-then-not-reach-clause-conflicts c before s e g page =
-    let state = c.args.self.now in
-    let here = page_number state.attributes.page_just in
-    let back = leb-false state.area.present here (sym c.reach.ensures.reached.order ∙ c.if-not-reach.true) in
-    sym (lt-ltb here state.area.present (omega (arith, back)))
-    ∙ conflicts_break before s here state.area.present g (ap page_number page) (ap (λ (a : Area). a.present) e)
+    sym (reached_conflicts c.reach.ensures.reached (page_number_known c.args.self.now.attributes.page_just) before s e (ap page_number page) ∙ rw c.if-not-reach.true refl)
 
 pub add_break-requires : goal.add_break-requires
-add_break-requires c = let (top, middle, group, bare) = (c.reach.ensures.reached.goes c.if-not-reach.false).grows (2 ^ 62) c.requires.ready.below in record { below = group }
+add_break-requires c = record { below = (reached_below c.reach.ensures.reached (page_number_known c.args.self.now.attributes.page_just) (2 ^ 62) c.requires.ready.below).2 }
 
 pub returns-clause-conflicts : goal.returns-clause-conflicts
 returns-clause-conflicts c before s e g page =
-    let state = c.args.self.now in
-    let here = page_number state.attributes.page_just in
-    let order = leb-true state.area.present here (sym c.reach.ensures.reached.order ∙ c.if-not-reach.false) in
-    sym (le-ltb here state.area.present order)
-    ∙ conflicts_break before s here state.area.present g (ap page_number page) (ap (λ (a : Area). a.present) e)
+    sym (reached_conflicts c.reach.ensures.reached (page_number_known c.args.self.now.attributes.page_just) before s e (ap page_number page) ∙ rw (c.if-not-reach.false, g) refl)
 
 pub returns-clause-added : goal.returns-clause-added
 returns-clause-added c = λ is.
@@ -39,17 +32,7 @@ returns-clause-added c = λ is.
           let on = goes.sum area placing e in
           area_with area s here (ap page_number page) state.area e order c.reach.new.self _ on refl refl refl
           (ended.sum (in_group here area) s (placing_group here area placing) (ap (λ (a : Area). a.group) on) own ∙ ap group_sum (sym (own_group here area s (ap page_number page))));
-      grows = λ k below.
-          let (top, middle, group, bare) = goes.grows k below in
-          record {
-            top = top;
-            middle = middle;
-            group = ended.grows k group;
-            known = omega (arith, goes.present, (page_number_known state.attributes.page_just).1);
-            some = λ any. omega (arith, goes.present, (page_number_known state.attributes.page_just).0);
-            bare = ended.bare;
-            empty = λ none. absurd (omega (arith, none, goes.present, (page_number_known state.attributes.page_just).0));
-          };
+      grows = λ k below. regrouped_below c.reach.ensures.reached (page_number_known state.attributes.page_just) k below c.add_break.new.self (ended.grows k) ended.bare;
       present = λ order. goes.present;
       none = ended.none;
       same = refl;

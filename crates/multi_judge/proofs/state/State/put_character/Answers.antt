@@ -1,56 +1,45 @@
-use Rattle.std.proofs.Common.{◌^◌, ◌||◌, inl, inr, refl, sym, subst, ap, ◌∙◌, arith}
-use Rattle.std.specs.List.{after_last, list_any}
-use Rattle.std.proofs.lemmas.Bool.{cases_lt, false≢true, le-ltb, leb-false, leb-true, lt-ltb}
+use Rattle.std.proofs.Common.{◌^◌, refl, sym, subst, ap, ◌∙◌}
+use Rattle.std.specs.List.{after_last}
+use Rattle.std.proofs.lemmas.Bool.{false≢true}
 use Rattle.multi_tag.specs.Just.{page_number}
 use Rattle.multi_meaning.specs.Address.{area_of, in_group, is_break}
-use Rattle.multi_meaning.specs.Offence.{clashes}
 use Rattle.multi_meaning.proofs.GroupLemmas.{area_placing}
 use Rattle.multi_tag.proofs.JustLemmas.{page_number_known}
 use Rattle.multi_judge.specs.declared.area.Area.{Area}
 use Rattle.multi_judge.specs.declared.line.Character.{Character}
 use Rattle.multi_judge.specs.Adding.{PutsCharacter, character_of}
-use Rattle.multi_judge.proofs.AreaSumLemmas.{area_with, conflicts_character}
+use Rattle.multi_judge.proofs.BoundLemmas.{lined_below}
+use Rattle.multi_judge.proofs.AreaFillLemmas.{reached_below, reached_conflicts, reached_group, reached_line, regrouped_below}
+use Rattle.multi_judge.proofs.AreaSumLemmas.{area_with}
 use Rattle.multi_judge.proofs.GroupSumLemmas.{group_character, present_glyphs}
 use Rattle.multi_judge.proofs.state.State.put_character.Goals as goal
 
 pub returns-then-not-reach-clause-conflicts : goal.returns-then-not-reach-clause-conflicts
 returns-then-not-reach-clause-conflicts c before s e g page just =
-    let state = c.args.self.now in
-    let here = page_number state.attributes.page_just in
-    let back = leb-false state.area.present here (sym c.reach.ensures.reached.order ∙ c.if-not-reach.true) in
-    ap (λ b. b || list_any (clashes s) (after_last is_break (in_group here (area_of s before)))) (sym (lt-ltb here state.area.present (omega (arith, back))))
-    ∙ conflicts_character before s here state.area.present g (ap page_number page) (ap (λ (a : Area). a.present) e)
+    sym (reached_conflicts c.reach.ensures.reached (page_number_known c.args.self.now.attributes.page_just) before s e (ap page_number page) ∙ rw c.if-not-reach.true refl)
 
 pub put-requires-clause-below : goal.put-requires-clause-below
-put-requires-clause-below c = let (top, middle, group, bare) = (c.reach.ensures.reached.goes c.if-not-reach.false).grows (2 ^ 62) c.requires.ready.below in group.line
+put-requires-clause-below c = (reached_below c.reach.ensures.reached (page_number_known c.args.self.now.attributes.page_just) (2 ^ 62) c.requires.ready.below).2.line
 
 pub put-requires-clause-bare : goal.put-requires-clause-bare
-put-requires-clause-bare c = let (top, middle, group, bare) = (c.reach.ensures.reached.goes c.if-not-reach.false).grows (2 ^ 62) c.requires.ready.below in bare
+put-requires-clause-bare c = (reached_below c.reach.ensures.reached (page_number_known c.args.self.now.attributes.page_just) (2 ^ 62) c.requires.ready.below).3
 
 pub returns-clause-conflicts : goal.returns-clause-conflicts
 returns-clause-conflicts c before s e g page just =
-    let state = c.args.self.now in
-    let here = page_number state.attributes.page_just in
+    let here = page_number c.args.self.now.attributes.page_just in
     let placing = area_placing before s in
     let on = (c.reach.ensures.reached.goes c.if-not-reach.false).sum (area_of s before) placing e in
-    let order = leb-true state.area.present here (sym c.reach.ensures.reached.order ∙ c.if-not-reach.false) in
     c.put.ensures.apart (after_last is_break (in_group here (area_of s before))) s (present_glyphs here (area_of s before) placing) (ap (λ (a : Area). a.group.line) on) (just ∙ sym (ap (λ (k : Character). k.just) c.character-character.ensures))
-    ∙ ap (λ b. b || list_any (clashes s) (after_last is_break (in_group here (area_of s before)))) (sym (le-ltb here state.area.present order))
-    ∙ conflicts_character before s here state.area.present g (ap page_number page) (ap (λ (a : Area). a.present) e)
+    ∙ sym (reached_conflicts c.reach.ensures.reached (page_number_known c.args.self.now.attributes.page_just) before s e (ap page_number page) ∙ rw (c.if-not-reach.false, g) refl)
 
 pub returns-clause-limited : goal.returns-clause-limited
 returns-clause-limited c = λ limited.
-    let state = c.args.self.now in
-    let here = page_number state.attributes.page_just in
     let reached = c.reach.ensures.reached in
-    let goes = reached.goes c.if-not-reach.false in
-    let order = leb-true state.area.present here (sym reached.order ∙ c.if-not-reach.false) in
+    let state = c.args.self.now in
+    let known = page_number_known state.attributes.page_just in
     record {
-      width = c.put.ensures.most (λ any. elim (cases_lt state.area.present here) [
-        | inl later ↦ absurd (false≢true (sym (goes.begins later) ∙ any))
-        | inr same ↦ let stays = goes.stays (omega (arith, same, order)) in rw stays (limited.width (rw (sym stays) any))
-      ]);
-      height = λ some. reached.limit c.if-not-reach.false limited.height;
+      width = c.put.ensures.most (reached_line reached known state.attributes.rectangle.width state.limits.width limited.width);
+      height = λ some. reached_group reached known limited.height;
     }
 
 pub returns-clause-added : goal.returns-clause-added
@@ -66,17 +55,8 @@ returns-clause-added c = λ is.
           area_with area s here (ap page_number page) state.area e order c.reach.new.self _ on refl refl refl
           (group_character here area s (ap page_number page) own.glyph c.reach.new.self.group c.put.new.self (ap (λ (a : Area). a.group) on)
           (put.sum (after_last is_break (in_group here area)) s (present_glyphs here area placing) own (ap (λ (a : Area). a.group.line) on) apart));
-      grows = λ k below.
-          let (top, middle, group, bare) = goes.grows k below in
-          record {
-            top = top;
-            middle = middle;
-            group = record { ended = omega (arith, group.ended); closed = omega (arith, group.closed); line = put.grows k group.line };
-            known = omega (arith, goes.present, (page_number_known state.attributes.page_just).1);
-            some = λ any. omega (arith, goes.present, (page_number_known state.attributes.page_just).0);
-            bare = λ none. absurd (false≢true (sym none ∙ put.behind.any));
-            empty = λ none. absurd (omega (arith, none, goes.present, (page_number_known state.attributes.page_just).0));
-          };
+      grows = λ k below. regrouped_below c.reach.ensures.reached (page_number_known state.attributes.page_just) k below (record c.reach.new.self.group { line = c.put.new.self })
+          (λ group. lined_below k c.reach.new.self.group c.put.new.self group (c.put.ensures.grows k group.line)) (λ none. absurd (false≢true (sym none ∙ put.behind.any)));
       behind = (goes.present, put.behind);
       same = refl;
       limited = returns-clause-limited c;

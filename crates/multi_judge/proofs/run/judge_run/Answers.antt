@@ -3,32 +3,34 @@ use Rattle.multi_token.specs.Counted.{Counted, charged}
 use Rattle.multi_judge.specs.declared.state.State.{State}
 use Rattle.multi_judge.specs.Judging.{ReadSoFar}
 use Rattle.multi_judge.specs.State.{IsUnfilledOf}
-use Rattle.multi_judge.proofs.ReadLemmas.{ready_here}
 use Rattle.multi_judge.proofs.RunReadLemmas.{front_read}
-use Rattle.multi_judge.proofs.run.judge_line.Goals as goal
+use Rattle.multi_judge.specs.Judging.{IsAt, IsBehind}
+use Rattle.multi_judge.specs.PassState.{IsPassOf}
+use Rattle.multi_judge.proofs.PassLemmas.{is_false}
+use Rattle.multi_judge.specs.declared.pass.Pass.{Pass}
+use Rattle.multi_judge.proofs.run.judge_run.Goals as goal
 
-pub go_along-requires-clause-small : goal.go_along-requires-clause-small
-go_along-requires-clause-small c =
-    (ready_here c.args.sign.now c.args.source.now.octets c.args.at c.args.state.now c.requires.behind.so_far c.requires.short, c.requires.short)
-
-pub returns-clause-at : goal.returns-clause-at
-returns-clause-at c =
+pub returns-else-this-ne0-clause-at : goal.returns-else-this-ne0-clause-at
+returns-else-this-ne0-clause-at g c =
     let sign = c.args.sign.now in
     let xs = c.args.source.now.octets in
     let at = c.args.at in
-    let state = c.args.state.now in
-    let r = c.requires.behind.so_far in
+    let state = c.args.pass.now.state in
+    let plain = is_false g.row.WORDS c.if-this-ne0.false in
+    let behind = subst (λ w. IsBehind sign xs at (IsPassOf w sign c.args.pass.now) c.args.source.now) plain c.requires.behind in
+    let r = behind.so_far in
     let p = c.go_along.ensures.run in
     let to = c.go_along.result.0 in
-    let (run, narrow) = p.run c.requires.room in
+    let (run, narrow) = p.run c.requires.character.within in
     let here : at + (to - at) ≡ to = omega (arith, p.forward) in
     let front = front_read sign xs at state r (omega (arith, c.requires.short)) p.gap run (to - at) p.pixels (omega (arith, p.forward, p.within)) p.plain p.width narrow in
     let k = c.go_along.ensures.steps in
     let rises : c.go_along.new.source.steps ≡ (charged c.args.source.now k.0).steps = ap (λ (s : Counted). s.steps) k.3 in
-    record {
+    let new : Pass = record c.args.pass.now { state = c.go_along.new.state } in
+    subst (λ w. IsAt sign xs to c.go_along.result.1 (IsPassOf w sign new) c.go_along.new.source) (sym plain) (record {
       so_far = subst (λ (x : ℕ × State). ReadSoFar sign xs x.0 (IsUnfilledOf sign x.1)) (λ i. (here i, sym p.is i)) front;
       octet = c.go_along.ensures.next;
       same = ap (λ (s : Counted). s.octets) k.3;
-      least = omega (arith, rises, k.1, c.requires.behind.least, p.forward, p.within, c.requires.short);
-      most = omega (arith, rises, k.2, c.requires.behind.most, p.forward, p.within, c.requires.short);
-    }
+      least = omega (arith, rises, k.1, behind.least, p.forward, p.within, c.requires.short);
+      most = omega (arith, rises, k.2, behind.most, p.forward, p.within, c.requires.short);
+    })
