@@ -5,7 +5,7 @@ use Rattle.std.specs.Option.{unwrap_or, option_map}
 use Rattle.std.specs.Str.{str_to_ascii_lowercase}
 use Rattle.std.proofs.Math.Nat.{le-mul_of_pos_right}
 use Rattle.std.proofs.lemmas.Option.{same_Some}
-use Rattle.std.proofs.lemmas.List.{length-append, length-map, map-append}
+use Rattle.std.proofs.lemmas.List.{length-append, length-map}
 use Rattle.multi_token.specs.Spelling as spelled
 use Rattle.multi_token.specs.Spelling.{spelling}
 use Rattle.multi_tag.specs.Body.{Spells, SpellsSmall, table}
@@ -36,7 +36,7 @@ use Rattle.multi_judge.specs.declared.state.State.{State}
 use Rattle.multi_judge.specs.declared.attributes.Attributes.{Attributes}
 use Rattle.multi_layout.specs.Limits.{plane_octets}
 use Rattle.multi_judge.specs.KnownItem.{is_setting}
-use Rattle.multi_layout.specs.kept.AreaDrawing.{DrawsGlyph, DrawsOn, IsDrawnTo, IsFilledBy, IsQuiet, HasCounted}
+use Rattle.multi_layout.specs.kept.AreaDrawing.{IsDrawnTo, IsFilledBy, IsQuiet, HasCounted}
 use Rattle.multi_judge.specs.State.{IsStateOf}
 use Rattle.multi_judge.specs.Sums.{IsBelow, area_sum}
 use Rattle.multi_layout.specs.kept.Cursors.{IsBetween, meant, LaidItem}
@@ -219,20 +219,6 @@ cell_height sign before state st number c found =
     (high ∙ sym (ap (λ (a : Attributes). a.font.height) st.attributes), omega (arith, high, tall))
 
 -- ONE MORE ITEM
-
--- the items of a string, as they mean
-pub map_split : (before rest : List LaidItem) (item : LaidItem) (m : Meaning) → meant item ≡ m → map meant (before ++ item ∷ rest) ≡ map meant before ++ m ∷ map meant rest
-map_split before rest item m e = map-append meant before (item ∷ rest) ∙ ap (λ x. map meant before ++ x ∷ map meant rest) e
-
--- what is drawn of a character is drawn of its piece
-pub glyph_drawn : (sign : SignData) (layer : Layer) (before rest : List LaidItem) (item : LaidItem) (number : ℕ) → meant item ≡ Shows number → (old new : BitPlane)
-    → DrawsGlyph sign layer (map meant before) number (map meant rest) old new → DrawsOn sign layer before (item ∷ []) rest old new
-glyph_drawn sign layer before rest item number shows old new puts drawn =
-    let all = map_split before rest item (Shows number) shows in
-    let one = map_split before [] item (Shows number) shows in
-    subst (λ (ms : List Meaning). IsDrawnTo sign layer ms (map meant (before ++ item ∷ [])) new) (sym all)
-    (subst (λ (ms : List Meaning). IsDrawnTo sign layer (map meant before ++ Shows number ∷ map meant rest) ms new) (sym one)
-    (puts (subst (λ (ms : List Meaning). IsDrawnTo sign layer ms (map meant before) old) all drawn)))
 
 module _ (sign : SignData) (layer : Layer) (before rest : List Meaning) where
   -- a background covers the page

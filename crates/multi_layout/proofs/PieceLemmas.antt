@@ -25,9 +25,7 @@ use Rattle.multi_judge.specs.declared.item.NextItem.{NextItem}
 use Rattle.multi_judge.specs.declared.item.KnownItem.{KnownItem}
 use Rattle.multi_judge.specs.declared.item.KnownItem.TheVariants as items
 use Rattle.multi_judge.specs.declared.item.KnownItem.TheVariants.{Char}
-use Rattle.multi_judge.specs.declared.table.LineTable.{LineTable}
 use Rattle.multi_judge.specs.KnownItem.{meant_by}
-use Rattle.multi_layout.specs.kept.AreaDrawing.{HasCounted, whole_area}
 use Rattle.multi_layout.specs.kept.Cursors.{IsBetween, IsFirst, IsItemRead, IsPieceFirst, IsPlaced, IsRead, items_of, laid_meanings, meant, LaidItem, pieces_of}
 use Rattle.multi_layout.specs.kept.Passing.{IsPassing}
 use Rattle.multi_judge.proofs.FilledStateLemmas.{pages_at, same_times}
@@ -202,15 +200,6 @@ first_ended {sign} {octets} {before} {behind} {cursor} b ends next first =
     let b' = subst (λ l. IsBetween sign octets before l cursor) is b in
     let none = (itself b' (begins_unplaced (meant piece) (first_begins piece rest (subst (λ l. EndsArea (map meant l)) is ends)))).0 in
     (piece, rest, is, read_unplaced b' (ap has_place (sym read.meant) ∙ none) read)
-
--- the first item, laid out, is the first piece
-pub laid_first : {sign : SignData} {octets : List ℕ} {cursor : Cursor} (lines : LineTable) (raw next : NextItem) (before behind : List LaidItem) → IsBetween sign octets before behind cursor → HasCounted (whole_area sign before behind) lines
-    → IsFirst (items_of behind) (Some raw)
-    → ((before rest : List LaidItem) (piece : LaidItem) → IsBetween sign octets before (piece ∷ rest) cursor → HasCounted (whole_area sign before (piece ∷ rest)) lines → IsItemRead piece.item raw → IsRead piece next)
-    → IsPieceFirst behind (Some next)
-laid_first {sign} {octets} {cursor} lines raw next before behind b counted first lays =
-    let (piece, rest, is, read) = first_piece behind raw first in
-    (piece, rest, is, lays before rest piece (subst (λ l. IsBetween sign octets before l cursor) is b) (subst (λ l. HasCounted (whole_area sign before l) lines) is counted) read)
 
 -- where a page begins the cursor stands between pieces
 module _ (sign : SignData) (octets : List ℕ) (before behind : List Item) (cursor : Cursor) (p : IsPassing sign octets before behind cursor) (begins : BeginsPage (map meaning before))

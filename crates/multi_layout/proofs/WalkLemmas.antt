@@ -4,18 +4,19 @@ use Rattle.std.specs.List.{All, cons_option}
 use Rattle.std.proofs.lemmas.List.{length-append, map-append}
 use Rattle.std.proofs.lemmas.List.Concat.{flat_map-append}
 use Rattle.std.proofs.lemmas.List.Elements.{All-head, All-tail}
-use Rattle.multi_token.specs.Counted.{Counted}
+use Rattle.multi_token.specs.Counted.{Counted, RisesBetween, charged}
 use Rattle.multi_token.specs.declared.token.Token.{Token}
 use Rattle.multi_token.specs.Spelling.{Item, IsItem, spelling, spell, HasNoItem}
 use Rattle.multi_token.specs.Tokens.{IsTokenOf, item_of}
 use Rattle.multi_token.proofs.ReadingLemmas.{spelling_some}
 use Rattle.multi_token.proofs.SpellingLemmas.{one_item_begins}
+use Rattle.multi_token.proofs.StepLemmas.{charged-zero, rises_then}
 use Rattle.sign_font.specs.declared.parts.LineFill.TheVariants.{Off}
 use Rattle.sign_font.specs.Sign.{SignData}
 use Rattle.multi_meaning.specs.Words.{each_after, some_after}
 use Rattle.multi_meaning.specs.Laid.{too_big}
 use Rattle.multi_meaning.specs.LaidItems.{laid_item}
-use Rattle.multi_meaning.specs.Meaning.{Faulty, meaning}
+use Rattle.multi_meaning.specs.Meaning.{Faulty, Meaning, meaning}
 use Rattle.multi_meaning.specs.Offence.{offence, unsized_offence}
 use Rattle.multi_meaning.specs.Verdict.{fault_at, offences}
 use Rattle.multi_meaning.specs.kept.ItemAt.{IsFaultAt, IsItemAt}
@@ -55,7 +56,7 @@ module _ (sign : SignData) (octets : List ℕ) (before behind : List Item) (at :
       ∙ ap (drop (length (spell before))) (p.accepted.spelled ∙ spell-append before behind)
       ∙ drop_front (spell before) (spell behind)
 
-  total : length octets ≡ length (spell before) + length (spell behind)
+  pub total : length octets ≡ length (spell before) + length (spell behind)
   total = ap length (p.accepted.spelled ∙ spell-append before behind) ∙ length-append (spell before) (spell behind)
 
   pub within : at ≤ length octets
@@ -100,6 +101,20 @@ module _ (sign : SignData) (octets : List ℕ) (before behind : List Item) (at :
 -- reading leaves the octets
 pub same_octets : {source : Counted} {octets : List ℕ} {steps : ℕ} → source ≡ record { octets = octets; steps = steps } → source.octets ≡ octets
 same_octets same = ap (λ (x : Counted). x.octets) same
+
+-- the steps of one call, and then those of another
+pub steps_then : (a : Counted) {b d : Counted} {low high low' high' : ℕ} → RisesBetween a b low high → RisesBetween b d low' high' → RisesBetween a d (low + low') (high + high')
+steps_then a r s = rises_then a _ _ _ _ _ _ r s
+
+pub steps_within : (a : Counted) {b : Counted} {low high least most : ℕ} → RisesBetween a b low high → least ≤ low → high ≤ most → RisesBetween a b least most
+steps_within a (k, least, most, is) less more = (k, omega (arith, least, less), omega (arith, most, more), is)
+
+-- as many steps as were counted
+pub steps_of : (a : Counted) {b : Counted} {k : ℕ} → b ≡ charged a k → RisesBetween a b k k
+steps_of a {b} {k} is = (k, omega arith, omega arith, is)
+
+pub no_steps : (a : Counted) {most : ℕ} → RisesBetween a a 0 most
+no_steps a = (0, omega arith, omega arith, sym (charged-zero a))
 
 -- the next item of an accepted string
 module _ (sign : SignData) (octets : List ℕ) (before rest : List Item) (item : Item) (at : ℕ) (p : IsPlaced sign octets before (item ∷ rest) at) where
@@ -154,6 +169,10 @@ fine_items sign off = push_ind (λ items. offences sign items ≡ [] → IsFine 
 
 pub spell_of-append : (xs ys : List LaidItem) → spell_of (xs ++ ys) ≡ spell_of xs ++ spell_of ys
 spell_of-append xs ys = ap spell (map-append (λ (p : LaidItem). p.item) xs ys) ∙ spell-append (items_of xs) (items_of ys)
+
+-- the items of a string, as they mean
+pub map_split : (before rest : List LaidItem) (item : LaidItem) (m : Meaning) → meant item ≡ m → map meant (before ++ item ∷ rest) ≡ map meant before ++ m ∷ map meant rest
+map_split before rest item m e = map-append meant before (item ∷ rest) ∙ ap (λ x. map meant before ++ x ∷ map meant rest) e
 
 pub few_pieces : (pieces : List LaidItem) → length (map meant pieces) ≡ length (items_of pieces)
 few_pieces [] = refl

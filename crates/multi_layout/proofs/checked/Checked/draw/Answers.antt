@@ -1,7 +1,6 @@
-use Rattle.std.proofs.Common.{◌≡◌, ◌*◌, length, ap, arith}
+use Rattle.std.proofs.Common.{◌≡◌, length, ap, arith}
 use Rattle.std.proofs.lemmas.Bool.Decides.{nat_tests}
 use Rattle.multi_token.specs.Counted.{Counted}
-use Rattle.multi_token.proofs.StepLemmas.{rises_more}
 use Rattle.multi_meaning.proofs.AcceptedLemmas.{accepted_orderly, accepted_is}
 use Rattle.multi_layout.proofs.PagesLemmas.{drawing_reads}
 use Rattle.multi_layout.proofs.checked.Checked.draw.Goals as goal
@@ -54,11 +53,4 @@ returns-clause-steps c =
     let e = c.page_start-cursor.ensures in
     let same : c.page_start-cursor.new.source.octets ≡ s.source.octets = ap (λ (x : Counted). x.octets) e.steps.3 in
     let on = c.draw_next.ensures.on in
-    let start = c.page_start-cursor.result in
-    let way = rises_more s.source c.page_start-cursor.new.source 0 (9 * start.at) (18 * start.at) (omega arith) e.steps in
-    rw (← c.self.view_is) (drawing_reads s.source c.page_start-cursor.new.source c.draw_next.new.self.source start c.draw_next.new.next.cursor (length s.source.octets) way on.2 on.0 (omega (arith, on.1, ap length same)))
-
-pub returns-clause-plane_steps : goal.returns-clause-plane_steps
-returns-clause-plane_steps c =
-    let same : c.page_start-cursor.new.source.octets ≡ c.self.inside.source.octets = ap (λ (x : Counted). x.octets) c.page_start-cursor.ensures.steps.3 in
-    rw (← c.self.view_is) (rw same at c.draw_next.ensures.plane_steps)
+    rw (← c.self.view_is) (drawing_reads s.source c.page_start-cursor.result c.draw_next.new.next.cursor (length s.source.octets) e.steps (omega arith) on.2 on.0 (omega (arith, on.1, ap length same)))
