@@ -1,6 +1,6 @@
 //! What a string shows at a clock.
 
-ghost use Rattle.std.specs.Prelude.{◌≡◌, ◌+◌, ◌-◌, ◌^◌, ◌<◌, ◌≤◌, Some, None, length};
+ghost use Rattle.std.specs.Prelude.{◌≡◌, ◌^◌, ◌<◌, ◌≤◌, length};
 ghost use Rattle.multi_token.specs.Counted.{RisesBetween};
 ghost use Rattle.multi_token.specs.Reading.{reading};
 ghost use Rattle.multi_meaning.specs.Meaning.{meanings};
@@ -9,7 +9,7 @@ ghost use Rattle.multi_meaning.specs.Verdict.{Accepted, IsCycle, IsVerdict};
 ghost use Rattle.multi_meaning.specs.kept.Fine.{IsAccepted, IsOrderly};
 ghost use Rattle.multi_meaning.specs.LaidItems.{laid_out};
 ghost use Rattle.multi_layout.specs.Limits.{check_limit};
-ghost use Rattle.multi_layout.specs.kept.Passing.{IsAtStart};
+ghost use Rattle.multi_layout.specs.kept.Passing.{IsAtStart, IsShownIn};
 ghost use Rattle.multi_layout.specs.kept.PageDrawing.{IsStartOf};
 
 use crate::checked::{Checked, Told};
@@ -86,10 +86,7 @@ fn find_page(sign: &Terms<'_>, source: &mut Source<'_>, time: u64, start: &mut C
 fn shown_in(start: &State, times: &Attributes, time: u64) -> Option<Shown>
     requires some { 1 ≤ start.now.pages }
     requires began { start.now.cycle ≤ time }
-    ensures on { time < start.now.cycle + times.now.on → result ≡ Some (Shown.Page (start.now.pages - 1) (time - start.now.cycle)) }
-    ensures off { start.now.cycle + times.now.on ≤ time → time < start.now.cycle + times.now.on + times.now.off
-        → result ≡ Some Shown.Off }
-    ensures ended { start.now.cycle + times.now.on + times.now.off ≤ time → result ≡ None }
+    ensures { IsShownIn start.now times.now time result }
 {
     let phase = time - u64::from(start.cycle);
     let on = u64::from(times.on);
