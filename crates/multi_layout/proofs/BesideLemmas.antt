@@ -52,7 +52,7 @@ use Rattle.multi_judge.proofs.GroupSumLemmas.{present_push}
 use Rattle.multi_judge.proofs.JudgedLemmas.{unsized-undefined}
 use Rattle.multi_layout.proofs.PieceLemmas.{read_unfilled}
 use Rattle.multi_judge.proofs.RunLemmas.{average_same, state_beside}
-use Rattle.multi_layout.proofs.WalkLemmas.{between_more, item_is, map_split, never_offends}
+use Rattle.multi_layout.proofs.WalkLemmas.{between_more, map_split, never_offends, octet_next}
 
 -- a value that is only there on a full line
 not_full : (b : Bool) (n : ℕ) → b ≡ false → cond b n 0 ≡ 0
@@ -232,11 +232,6 @@ pub run_in : {sign : SignData} {octets octets' : List ℕ} {layer : Layer} {page
     → IsRunDrawn sign octets layer page read place cursor plane → IsRunDrawn sign octets' layer page read place cursor plane
 run_in {sign} {octets} {octets'} {layer} {page} {read} {place} {cursor} {plane} same r = subst (λ o. IsRunDrawn sign o layer page read place cursor plane) (sym same) r
 
--- an octet that is no bracket stands for itself
-pub no_bracket : (octet : ℕ) → is_bracket octet ≡ false → IsPlain octet
-no_bracket octet none =
-    (λ e. let wrong : true ≡ false = ap is_bracket (sym e) ∙ none in absurd cc, λ e. let wrong : true ≡ false = ap is_bracket (sym e) ∙ none in absurd cc)
-
 -- ONE MORE OF A RUN
 
 module _ {sign : SignData} {octets : List ℕ} {layer : Layer} {page : ℕ} {read : AreaLines} {place : Place} {cursor : Cursor} {plane : BitPlane} (r : IsRunDrawn sign octets layer page read place cursor plane)
@@ -245,8 +240,7 @@ module _ {sign : SignData} {octets : List ℕ} {layer : Layer} {page : ℕ} {rea
   one : (n : IsNextDrawn sign octets layer page read (record { item = known.Char octet; len = 1 }) cursor plane) × (n.before ≡ r.so.before) × (r.so.behind ≡ n.item ∷ n.rest)
   one =
       let next : NextItem = record { item = known.Char octet; len = 1 } in
-      let token : Token = record { at = cursor.at; len = 1; kind = kinds.Char octet } in
-      next_here r.so before_end next next (λ before behind p. item_is sign octets before behind cursor.at p next (token, refl, refl, single_token octets cursor.at octet room here plain, refl))
+      next_here r.so before_end next next (octet_next sign octets cursor.at octet room here plain)
       (λ before rest item b counted seen. read_unfilled b off seen)
 
   fine : unsized_offence sign (map meant one.0.before) (Shows octet) ≡ None

@@ -36,7 +36,7 @@ use Rattle.multi_judge.specs.declared.state.State.{State}
 use Rattle.multi_judge.specs.declared.attributes.Attributes.{Attributes}
 use Rattle.multi_layout.specs.Limits.{plane_octets}
 use Rattle.multi_judge.specs.KnownItem.{is_setting}
-use Rattle.multi_layout.specs.kept.AreaDrawing.{IsDrawnTo, IsFilledBy, IsQuiet, HasCounted}
+use Rattle.multi_layout.specs.kept.AreaDrawing.{HasCounted, IsCountedBy, IsDrawnTo, IsFilledBy, IsQuiet}
 use Rattle.multi_judge.specs.State.{IsStateOf}
 use Rattle.multi_judge.specs.Sums.{IsBelow, area_sum}
 use Rattle.multi_layout.specs.kept.Cursors.{IsBetween, meant, LaidItem}
@@ -291,41 +291,29 @@ no_more : (n a b : ℕ) → n ≤ n + a + b * 0
 no_more n a b = omega arith
 
 -- no more than a row for each row of a font
-pub rows_few : (sign : SignData) (old new : BitPlane) (octets rows : ℕ) → 1 ≤ octets → rows ≤ tallest sign → old.steps ≤ new.steps → new.steps ≤ old.steps + rows → new.width ≡ old.width → new.height ≡ old.height → IsFilledBy sign old new octets
-rows_few sign old new octets rows some tall least most width height = record {
+pub rows_few : (sign : SignData) {old new : BitPlane} {rows : ℕ} (octets : ℕ) → 1 ≤ octets → rows ≤ tallest sign → IsCountedBy old new rows → IsFilledBy sign old new octets
+rows_few sign octets some tall k = record {
   fills = 0;
   few = omega arith;
-  least = least;
-  most = omega (arith, most, tall, le-mul_of_pos_right {m = octets} (tallest sign) some);
-  width = width;
-  height = height;
+  least = k.least;
+  most = omega (arith, k.most, tall, le-mul_of_pos_right {m = octets} (tallest sign) some);
+  width = k.width;
+  height = k.height;
 }
 
--- one fill for four octets
-pub fill_few : (sign : SignData) (old new : BitPlane) (octets k : ℕ) → 4 ≤ octets → old.steps ≤ new.steps → new.steps ≤ old.steps + k → k ≡ plane_octets sign → new.width ≡ old.width → new.height ≡ old.height → IsFilledBy sign old new octets
-fill_few sign old new octets k four least most is width height = record {
-  fills = 1;
-  few = omega arith;
-  least = least;
-  most = omega (arith, most, is);
-  width = width;
-  height = height;
-}
-
--- a tag fills the plane once where it sets the background, and else never
-pub tag_filled : (sign : SignData) (old new : BitPlane) (octets : ℕ) (tag : Tag) → ((given : Option ℕ) → tag ≡ Back given → 4 ≤ octets) → old.steps ≤ new.steps → new.steps ≤ old.steps + plane_octets sign
-    → (IsQuiet tag → new ≡ old) → new.width ≡ old.width → new.height ≡ old.height → IsFilledBy sign old new octets
-tag_filled sign old new octets tag four least most quiet width height = of (back_or_quiet tag)
+-- a tag fills the plane once where it sets the background, which has four octets, and else never
+pub tag_filled : (sign : SignData) {old new : BitPlane} (octets : ℕ) (tag : Tag) → ((given : Option ℕ) → tag ≡ Back given → 4 ≤ octets) → IsCountedBy old new (plane_octets sign) → (IsQuiet tag → new ≡ old) → IsFilledBy sign old new octets
+tag_filled sign {old} {new} octets tag four k quiet = of (back_or_quiet tag)
   where
     of : ((given : Option ℕ) × (tag ≡ Back given)) ⊎ IsQuiet tag → IsFilledBy sign old new octets
-    of (inl (given, is)) = fill_few sign old new octets (plane_octets sign) (four given is) least most refl width height
+    of (inl (given, is)) = record { fills = 1; few = omega (arith, four given is); least = k.least; most = omega (arith, k.most); width = k.width; height = k.height }
     of (inr other) = record {
       fills = 0;
       few = omega arith;
-      least = least;
+      least = k.least;
       most = omega (arith, ap (λ (p : BitPlane). p.steps) (quiet other), no_more old.steps (tallest sign * octets) (plane_octets sign));
-      width = width;
-      height = height;
+      width = k.width;
+      height = k.height;
     }
 
 pub low_between : (sign : SignData) (octets : List ℕ) (before behind : List LaidItem) (cursor : Cursor) → IsBetween sign octets before behind cursor → IsBelow (2 ^ 42) cursor.state.area

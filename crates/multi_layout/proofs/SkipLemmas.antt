@@ -27,7 +27,7 @@ use Rattle.multi_layout.specs.kept.Cursors.{IsItemRead}
 use Rattle.multi_layout.specs.kept.Passing.{IsOnTheWay, IsPassing, unplaced}
 use Rattle.multi_judge.proofs.BoundLemmas.{below_more}
 use Rattle.multi_judge.proofs.JudgedLemmas.{ended_times-push, pages_of-push, ready}
-use Rattle.multi_layout.proofs.WalkLemmas.{few_placed, none_offends, placed_more, item_is}
+use Rattle.multi_layout.proofs.WalkLemmas.{few_placed, none_offends, octet_next, placed_more}
 use Rattle.multi_meaning.proofs.VerdictLemmas.{length-meanings}
 use Rattle.multi_token.specs.declared.token.Token.{Token}
 use Rattle.multi_token.specs.declared.token.Kind.TheVariants as kinds
@@ -173,11 +173,8 @@ text_skipped sign octets short [] more cursor way e plain =
     let to : cursor.at ≡ cursor.at + 0 = omega arith in
     subst (λ n. IsOnTheWay sign octets (moved cursor n)) to way
 text_skipped sign octets short (octet ∷ text) more cursor (before, behind, p) e plain =
-    let next : NextItem = record { item = known.Char octet; len = 1 } in
-    let token : Token = record { at = cursor.at; len = 1; kind = kinds.Char octet } in
     let here : slice_get octets cursor.at ≡ Some octet = read_drop octets cursor.at octet (text ++ more) e in
-    let stands = single_token octets cursor.at octet short here (All-head IsPlain octet text plain) in
-    let (item, rest, is, read) = item_is sign octets before behind cursor.at p.placed next (token, refl, refl, stands, refl) in
+    let (item, rest, is, read) = octet_next sign octets cursor.at octet short here (All-head IsPlain octet text plain) before behind p.placed in
     let one = passing_placed (subst (λ l. IsPassing sign octets before l cursor) is p) read (moved cursor (cursor.at + 1)) refl refl refl in
     let on = behind_first (sym (drop_read octets cursor.at octet here) ∙ e) in
     let to : cursor.at + 1 + length text ≡ cursor.at + suc (length text) = omega arith in

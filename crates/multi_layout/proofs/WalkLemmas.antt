@@ -1,14 +1,18 @@
 -- The next item of an accepted string.
-use Rattle.std.proofs.Common.{◌≡◌, ℕ, ◌+◌, ◌^◌, ◌<◌, ◌≤◌, inl, inr, List, [], ◌∷◌, ◌++◌, length, drop, map, Some, None, refl, sym, ap, subst, ◌∙◌, arith, append_assoc, append-nil}
+use Rattle.std.proofs.Common.{◌≡◌, ℕ, true, false, ◌+◌, ◌^◌, ◌<◌, ◌≤◌, inl, inr, List, [], ◌∷◌, ◌++◌, length, drop, map, slice_get, Some, None, refl, sym, ap, subst, ◌∙◌, arith, append_assoc, append-nil}
 use Rattle.std.specs.List.{All, cons_option}
 use Rattle.std.proofs.lemmas.List.{length-append, map-append}
 use Rattle.std.proofs.lemmas.List.Concat.{flat_map-append}
 use Rattle.std.proofs.lemmas.List.Elements.{All-head, All-tail}
 use Rattle.multi_token.specs.Counted.{Counted, RisesBetween, charged}
 use Rattle.multi_token.specs.declared.token.Token.{Token}
-use Rattle.multi_token.specs.Spelling.{Item, IsItem, spelling, spell, HasNoItem}
+use Rattle.multi_token.specs.Spelling.{IsPlain, is_bracket, Item, IsItem, spelling, spell, HasNoItem}
 use Rattle.multi_token.specs.Tokens.{IsTokenOf, item_of}
+use Rattle.multi_token.specs.declared.token.Kind.TheVariants as kinds
+use Rattle.multi_token.proofs.PlaceLemmas.{single_token}
 use Rattle.multi_token.proofs.ReadingLemmas.{spelling_some}
+use Rattle.multi_judge.specs.declared.item.KnownItem.TheVariants as known
+use Rattle.multi_layout.specs.kept.Settings.{IsNextAt}
 use Rattle.multi_token.proofs.SpellingLemmas.{one_item_begins}
 use Rattle.multi_token.proofs.StepLemmas.{charged-zero, rises_then}
 use Rattle.sign_font.specs.declared.parts.LineFill.TheVariants.{Off}
@@ -97,6 +101,20 @@ module _ (sign : SignData) (octets : List ℕ) (before behind : List Item) (at :
   item_is next (t, here, long, stands, means) =
       let (rest, is) = first_is t here stands in
       (item_of octets t, rest, is, record { meant = means; len = sym long ∙ stands.len })
+
+pub next_at : (sign : SignData) (octets : List ℕ) (at : ℕ) (next : NextItem) → IsItemAt octets at next.len (meant_by next.item) → IsNextAt sign octets at next
+next_at sign octets at next item before behind p = item_is sign octets before behind at p next item
+
+-- an octet that is no bracket stands for itself
+pub no_bracket : (octet : ℕ) → is_bracket octet ≡ false → IsPlain octet
+no_bracket octet none =
+    (λ e. let wrong : true ≡ false = ap is_bracket (sym e) ∙ none in absurd cc, λ e. let wrong : true ≡ false = ap is_bracket (sym e) ∙ none in absurd cc)
+
+-- and is the next item
+pub octet_next : (sign : SignData) (octets : List ℕ) (at octet : ℕ) → length octets < 2 ^ 63 → slice_get octets at ≡ Some octet → IsPlain octet → IsNextAt sign octets at (record { item = known.Char octet; len = 1 })
+octet_next sign octets at octet room here plain =
+    let token : Token = record { at = at; len = 1; kind = kinds.Char octet } in
+    next_at sign octets at (record { item = known.Char octet; len = 1 }) (token, refl, refl, single_token octets at octet room here plain, refl)
 
 -- reading leaves the octets
 pub same_octets : {source : Counted} {octets : List ℕ} {steps : ℕ} → source ≡ record { octets = octets; steps = steps } → source.octets ≡ octets

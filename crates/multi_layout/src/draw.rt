@@ -9,7 +9,7 @@ ghost use Rattle.multi_meaning.specs.Drawn.{Lights};
 ghost use Rattle.multi_meaning.specs.Picture.{picture, shown_colour};
 ghost use Rattle.multi_layout.specs.Pages.{IsSized};
 ghost use Rattle.multi_layout.specs.kept.PageDrawing.{IsFilledFew, IsPagePassed, IsPageStart, IsReadTwice};
-ghost use Rattle.multi_layout.specs.kept.AreaDrawing.{DrawsOn, HasCounted, IsAreaDrawn, IsFilledBy, IsPageDrawn, IsQuiet, whole_area};
+ghost use Rattle.multi_layout.specs.kept.AreaDrawing.{DrawsOn, HasCounted, IsAreaDrawn, IsCountedBy, IsFilledBy, IsPageDrawn, IsQuiet, whole_area};
 ghost use Rattle.multi_layout.specs.kept.RunDrawing.{DrawsNext, IsNextDrawn, IsReadBehind, PlacesNext, octets_read};
 ghost use Rattle.multi_layout.specs.Limits.{plane_octets};
 ghost use Rattle.multi_layout.specs.kept.Cursors.{IsBetween, IsItemRead, IsRead, LaidItem};
@@ -240,10 +240,7 @@ fn draw_tag(sign: &Terms<'_>, tag: Tag, layer: Layer, plane: &mut Plane)
     ensures back { (given : Option ℕ) → tag ≡ Tag.Back given
         → Lights plane.new (λ column row. shown_colour sign.now (unwrap_or given sign.now.defaults.back) == layer.colour) }
     ensures quiet { IsQuiet tag → plane.new ≡ plane.old }
-    ensures counted { plane.old.steps ≤ plane.new.steps }
-    ensures steps { plane.new.steps ≤ plane.old.steps + plane_octets sign.now }
-    ensures width { plane.new.width ≡ plane.old.width }
-    ensures height { plane.new.height ≡ plane.old.height }
+    ensures counted { IsCountedBy plane.old plane.new (plane_octets sign.now) }
 {
     if let Tag::Back(colour) = tag {
         let colour = colour.unwrap_or(sign.defaults.back);

@@ -113,6 +113,13 @@ abbrev pub DrawsOn : SignData → List ℕ → Layer → AreaLines → Cursor �
 DrawsOn sign octets layer read old new plane plane' =
     (page : ℕ) → IsAreaDrawn sign octets layer page read old plane → IsAreaDrawn sign octets layer page read new plane'
 
+-- at most so many steps were taken over the plane, which has the same size (own)
+pub record IsCountedBy (plane plane' : BitPlane) (steps : ℕ) : Type 0 where
+  pub least : plane.steps ≤ plane'.steps
+  pub most : plane'.steps ≤ plane.steps + steps
+  pub width : plane'.width ≡ plane.width
+  pub height : plane'.height ≡ plane.height
+
 -- these octets of a page took at most these steps over the plane: a row for each row of each character, and a fill for each
 -- background, which has four octets (own)
 pub record IsFilledBy (sign : SignData) (plane plane' : BitPlane) (octets : ℕ) : Type 0 where

@@ -62,8 +62,7 @@ returns-in-Some c =
       drawn = λ page n. character_drawn n number (seen n c.in-Char.is).meant c.pass_character.new.self (behind page n) c.pass_character.ensures.at cell found place (stands page n) c.put_character.new.plane c.put_character.ensures.drawn;
       at = c.pass_character.ensures.at;
       steps = search rules;
-      fills = rows_few sign c.args.plane.now c.put_character.new.plane c.args.next.len cell.height (omega (arith, n.read_is.len, spelling_some n.item.item)) (cell_height sign (map meant n.before) state n.up_to.between.state_is number cell found).1
-          c.put_character.ensures.counted c.put_character.ensures.steps c.put_character.ensures.width c.put_character.ensures.height;
+      fills = rows_few sign c.args.next.len (omega (arith, n.read_is.len, spelling_some n.item.item)) (cell_height sign (map meant n.before) state n.up_to.between.state_is number cell found).1 c.put_character.ensures.counted;
       beside = IfSome_then c.beside.result c.beside.ensures
           (λ next is. record {
             drawn = λ page n.
@@ -89,6 +88,6 @@ pub returns-in-Tag-clause-fills : goal.returns-in-Tag-clause-fills
 returns-in-Tag-clause-fills c =
     let (page, n) = c.requires.known in
     let does : meant n.item ≡ Does c.in-Tag.tag = n.read_is.meant ∙ ap meant_by c.in-Tag.is in
-    tag_filled c.args.sign.now c.args.plane.now c.draw_tag.new.plane c.args.next.len c.in-Tag.tag
+    tag_filled c.args.sign.now c.args.next.len c.in-Tag.tag
     (λ given is. omega (arith, n.read_is.len, four_octets n.item.item c.in-Tag.tag ((itself n.up_to.between (ap has_place (does ∙ ap Does is))).1 ∙ does)))
-    c.draw_tag.ensures.counted c.draw_tag.ensures.steps c.draw_tag.ensures.quiet c.draw_tag.ensures.width c.draw_tag.ensures.height
+    c.draw_tag.ensures.counted c.draw_tag.ensures.quiet

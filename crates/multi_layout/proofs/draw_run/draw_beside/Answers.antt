@@ -8,9 +8,9 @@ use Rattle.multi_layout.specs.kept.AreaDrawing.{IsFilledBy}
 use Rattle.multi_layout.specs.kept.Cursors.{meant}
 use Rattle.multi_layout.specs.kept.RunDrawing.{IsRunDrawn}
 use Rattle.multi_layout.proofs.AreaDrawLemmas.{area_short, filled_none, filled_then, octet_stands}
-use Rattle.multi_layout.proofs.BesideLemmas.{has_cell, no_bracket, run_more}
+use Rattle.multi_layout.proofs.BesideLemmas.{has_cell, run_more}
 use Rattle.multi_layout.proofs.DrawLemmas.{cell_height, rows_few}
-use Rattle.multi_layout.proofs.WalkLemmas.{no_steps, same_octets, steps_of, steps_then, steps_within}
+use Rattle.multi_layout.proofs.WalkLemmas.{no_bracket, no_steps, same_octets, steps_of, steps_then, steps_within}
 use Rattle.multi_layout.proofs.draw_run.draw_beside.Goals as goal
 
 pub loop-at-init : goal.loop-at-init
@@ -87,7 +87,7 @@ loop-at-preserved c =
       steps = steps_within c.args.source.now (steps_then c.args.source.now (steps_then c.args.source.now i.steps (steps_of c.loop-at.source c.read.ensures.step)) c.cell.ensures.steps) (omega arith) (omega (arith, i.forward));
       fills = subst (IsFilledBy sign c.args.plane.now c.put_character.new.plane) on
           (filled_then sign c.args.plane.now c.loop-at.plane c.put_character.new.plane _ 1 i.fills
-          (rows_few sign c.loop-at.plane c.put_character.new.plane 1 cell.height (omega arith) tall c.put_character.ensures.counted c.put_character.ensures.steps c.put_character.ensures.width c.put_character.ensures.height));
+          (rows_few sign 1 (omega arith) tall c.put_character.ensures.counted));
     }
 
 pub returns-clause-forward : goal.returns-clause-forward

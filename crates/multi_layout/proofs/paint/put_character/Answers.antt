@@ -18,4 +18,4 @@ returns-then-is_lit-clause-drawn c = λ before rest state number st same found s
     lit_drawn sign before state st number c.args.cell.now found' rest c.args.layer c.args.place stands
     c.args.plane.now c.put_cell.new.plane c.has-on.result (ap (λ (a : Attributes). is_lit_at c.args.layer.phase a.flash) same ∙ sym c.is_lit.ensures ∙ c.if-is_lit.true)
     (c.has-on.ensures.colour ∙ ap (λ (a : Attributes). shown_colour sign a.fore == c.args.layer.colour) (sym same))
-    c.put_cell.ensures.width c.put_cell.ensures.height c.put_cell.ensures.pixels drawn
+    c.put_cell.ensures.counted.width c.put_cell.ensures.counted.height c.put_cell.ensures.pixels drawn
