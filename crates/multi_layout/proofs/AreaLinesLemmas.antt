@@ -206,17 +206,8 @@ module _ {words : Bool} {sign : SignData} {octets : List ℕ} {before behind : L
         }
 
   -- an item that is no setting was met
-  abbrev pub met_stays : (state : State) → state ≡ kept.state → SoFar words sign octets before behind at (record kept { state = state }) lines
-  met_stays _ same = record {
-    pieces = so.pieces;
-    left = so.left;
-    split = so.split;
-    plain = so.plain;
-    same_area = so.same_area;
-    laid = so.laid;
-    placed = so.placed;
-    read = subst (λ (s : State). IsReadOf words sign (items_of done) s.area.present (record kept { state = s }) lines) (sym same) so.read;
-  }
+  pub met_stays : (state : State) → state ≡ kept.state → SoFar words sign octets before behind at (record kept { state = state }) lines
+  met_stays state same = subst (λ (s : State). SoFar words sign octets before behind at (record kept { state = s }) lines) (sym same) so
 
   -- a setting is passed
   pub setting_read : IsSound sign → {octets' : List ℕ} → octets' ≡ octets → (len : ℕ) (state : State) → IsMet sign octets' at kept.state (Setting len) state → SoFar words sign octets before behind (at + len) (record kept { state = state }) lines
@@ -226,7 +217,7 @@ module _ {words : Bool} {sign : SignData} {octets : List ℕ} {before behind : L
       let it = so_next n in
       let ms = map meaning (items_of done) in
       let new : Pass = record kept { state = state } in
-      let (plain, closed, placed) = setting_is tag puts.setting in
+      let (plain, closed, placed, line, unput) = setting_is tag puts.setting in
       let of = setting_passed words sign ms kept state tag so.read.of puts in
       let passed = tag_stays words sign ms kept new tag so.read.of (next_fine it) of plain closed in
       let present : next_group kept.state (Does tag) ≡ kept.state.area.present = ap (λ b. cond b (page_number kept.state.attributes.page_just) kept.state.area.present) placed in

@@ -5,10 +5,7 @@ use Rattle.std.specs.List.{after_last, count_by}
 use Rattle.std.specs.Option.{option_map, option_map_or, unwrap_or}
 use Rattle.std.proofs.lemmas.Bool.{eq-eqb}
 use Rattle.std.proofs.lemmas.List.Sums.{sum_by_push}
-use Rattle.multi_token.specs.Spelling.{IsPlain, is_bracket}
-use Rattle.multi_token.specs.declared.token.Token.{Token}
-use Rattle.multi_token.specs.declared.token.Kind.TheVariants as kinds
-use Rattle.multi_token.proofs.PlaceLemmas.{single_token}
+use Rattle.multi_token.specs.Spelling.{IsPlain}
 use Rattle.multi_tag.specs.declared.just.LineJust.{LineJust}
 use Rattle.multi_tag.specs.declared.just.LineJust.TheVariants.{Left, Centre, Right, Full}
 use Rattle.multi_tag.specs.Just.{line_number, page_number}

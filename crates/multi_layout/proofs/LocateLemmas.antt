@@ -12,7 +12,11 @@ use Rattle.multi_meaning.specs.LaidItems.{laid_out}
 use Rattle.multi_meaning.specs.Meaning.{Meaning, Does, is_new_page, meaning, meanings}
 use Rattle.multi_meaning.specs.Times.{Times, cycle, ended_times, page_times, shown_within, times_at}
 use Rattle.multi_meaning.specs.Verdict.{pages_of}
-use Rattle.multi_meaning.specs.kept.Fine.{IsOrderly}
+use Rattle.multi_meaning.specs.kept.Fine.{IsAccepted, IsOrderly}
+use Rattle.multi_meaning.proofs.AcceptedLemmas.{accepted_is, accepted_orderly}
+use Rattle.multi_token.specs.Reading.{reading}
+use Rattle.multi_layout.specs.declared.checked.Told.{Told}
+use Rattle.multi_layout.specs.kept.Told.{IsToldOf}
 use Rattle.multi_meaning.proofs.TimesLemmas.{cycle_push, ended_count, shown_off, shown_on, times_are, times_are_all}
 use Rattle.multi_meaning.proofs.StandingLemmas.{standing_push}
 use Rattle.multi_judge.specs.declared.attributes.Attributes.{Attributes}
@@ -27,7 +31,7 @@ use Rattle.multi_layout.specs.declared.cursor.Cursor.{Cursor}
 use Rattle.multi_layout.specs.declared.cursor.Met.TheVariants.{Setting}
 use Rattle.multi_layout.specs.kept.Cursors.{IsFirst}
 use Rattle.multi_layout.specs.kept.PageDrawing.{IsPageStart, IsStartOf}
-use Rattle.multi_layout.specs.kept.Passing.{IsAtPage, IsOnTheWay, IsPageSkipped, IsPassing, IsPassingBefore, IsShownIn, PassesOn, unplaced}
+use Rattle.multi_layout.specs.kept.Passing.{IsAtPage, IsAtStart, IsOnTheWay, IsPageSkipped, IsPassing, IsPassingBefore, IsShownIn, PassesOn, unplaced}
 use Rattle.multi_layout.specs.kept.Settings.{IsMet, IsNextAt}
 use Rattle.multi_layout.proofs.PageDrawLemmas.{new_page_is, same_meanings}
 use Rattle.multi_layout.proofs.PieceLemmas.{begins_page, pieces_before, pieces_behind, starts_between}
@@ -66,6 +70,29 @@ page_starts {sign} {octets} {cursor} p all =
       starts_between sign octets p.before p.behind cursor p.between p.begins orderly,
       begins_page sign octets p.before p.behind cursor p.between p.begins orderly,
     )
+
+-- ---- what is told of a string
+
+pub accepted_of : {sign : SignData} {octets : List ℕ} {told : Told} → IsToldOf sign octets told
+    → IsAccepted sign octets (reading octets).items × (told.pages ≡ pages_of (meanings octets)) × IsOrderly sign (laid_out sign (meanings octets))
+accepted_of {sign} {octets} {told} t =
+    let (accepted, count) = accepted_is sign octets told.pages t.pages t.short in
+    (accepted, count, accepted_orderly sign octets accepted)
+
+-- its first page begins at its start
+pub at_start : {sign : SignData} {octets : List ℕ} {told : Told} {cursor : Cursor} → IsToldOf sign octets told → IsAtStart sign cursor → IsAtPage sign octets cursor × (cursor.state.pages ≡ 1)
+at_start {sign} {octets} t start = (
+  record {
+    before = [];
+    behind = (reading octets).items;
+    between = record { placed = record { accepted = (accepted_of t).0; place = start.at }; state_is = start.state_is };
+    begins = inl refl;
+  },
+  start.state_is.pages,
+)
+
+pub first_starts : {sign : SignData} {octets : List ℕ} {told : Told} {cursor : Cursor} → IsToldOf sign octets told → IsAtStart sign cursor → IsPageStart sign octets cursor
+first_starts t start = page_starts (at_start t start).0 (accepted_of t).2
 
 -- ---- the present page
 
@@ -175,7 +202,7 @@ module _ {sign : SignData} {octets : List ℕ} {old cursor : Cursor} (s : IsInPa
   -- a setting is put into force
   pub set_here : (len : ℕ) (state : State) → IsMet sign octets cursor.at cursor.state (Setting len) state → IsInPage sign octets old (record { at = cursor.at + len; state = state })
   set_here len state (tag, puts, is) =
-      let (plain, closed, placed) = setting_is tag puts.setting in
+      let (plain, closed, placed, line, unput) = setting_is tag puts.setting in
       let new : Cursor = record { at = cursor.at + len; state = state } in
       let first = first_here (record { item = known.Tag tag; len = len }) is in
       in_page_more first (passing_tag (stands first) first.3 new placed refl (puts.judged (unplaced passed) s.between.state_is).1) (no_page tag plain)

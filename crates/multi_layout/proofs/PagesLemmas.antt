@@ -17,7 +17,6 @@ use Rattle.multi_layout.specs.NextPage.{IsNextPage, IsReadOn}
 use Rattle.multi_layout.specs.CheckedData.{CheckedData}
 use Rattle.multi_layout.specs.Pages.{IsSized, IsUnderWay, PagesState, TurnsPage, page_count}
 use Rattle.multi_layout.specs.kept.PageDrawing.{IsFilledFew, IsPagePassed, IsPageStart, IsReadTwice}
-use Rattle.multi_layout.specs.kept.Cursors.{IsBetween, LaidItem}
 use Rattle.multi_layout.proofs.WalkLemmas.{steps_then, steps_within, within_between}
 use Rattle.std.proofs.lemmas.Bool.Decides.{nat_tests}
 use Rattle.std.proofs.Math.Nat.{mul-add}
@@ -36,10 +35,6 @@ turns_to old new next cursor page is passed sign octets = rw (sign, octets) furt
           | inl last ↦ absurd (omega (arith, begun, last, more))
           | inr then ↦ (then.1, omega (arith, begun, then.0))
         ]
-
--- the first page is next where the items begin
-pub first_next : (string : CheckedData) (cursor : Cursor) (items : List LaidItem) → IsBetween string.sign string.source.octets [] items cursor → IsNextPage string (record { cursor = cursor }) 0
-first_next string cursor items b more = (([], items, b, inl refl), omega (arith, b.state_is.pages))
 
 -- ---- bounds
 
@@ -93,14 +88,14 @@ drawing_fills sign plane plane' old cursor n f few =
 -- at the start
 pub under_way_first : (pages : PagesState) (cursor : Cursor) → IsSound pages.string.sign → length pages.string.source.octets < 2 ^ 32 → IsSized pages.plane pages.string.sign
     → pages.next ≡ 0 → pages.string_started ≡ pages.string.source.steps → pages.plane_started ≡ pages.plane.steps
-    → (items : List LaidItem) → IsBetween pages.string.sign pages.string.source.octets [] items cursor → IsUnderWay pages cursor
-under_way_first pages cursor sound short size first read drawn items b = record {
+    → IsPageStart pages.string.sign pages.string.source.octets cursor → cursor.state.pages ≡ 1 → IsUnderWay pages cursor
+under_way_first pages cursor sound short size first read drawn begins one = record {
   sound = sound;
   short = short;
   size = size;
   next_most = omega (arith, first);
-  begins = rw first (first_next pages.string cursor items b);
-  within = within_between pages.string.sign pages.string.source.octets [] items cursor b;
+  begins = λ more. (begins, omega (arith, first, one));
+  within = within_between pages.string.sign pages.string.source.octets begins.0 begins.1 cursor begins.2;
   read_least = omega (arith, read);
   read_most = omega (arith, read);
   fills = 0;

@@ -7,16 +7,13 @@ use Rattle.std.proofs.lemmas.List.{length-drop, length-take-le, take-append-drop
 use Rattle.std.proofs.lemmas.List.Elements.{All-head, All-tail}
 use Rattle.std.proofs.lemmas.List.Sums.{sum_by-append}
 use Rattle.multi_token.specs.Spelling.{IsPlain}
-use Rattle.multi_token.specs.declared.token.Token.{Token}
-use Rattle.multi_token.specs.declared.token.Kind.TheVariants as kinds
-use Rattle.multi_token.proofs.PlaceLemmas.{drop_read, read_drop, single_token}
+use Rattle.multi_token.proofs.PlaceLemmas.{drop_read, read_drop}
 use Rattle.sign_font.specs.Sign.{SignData, cell_in}
 use Rattle.sign_font.specs.Sound.{IsSound, IsWithin}
 use Rattle.sign_font.specs.Text.{width_in}
 use Rattle.multi_meaning.specs.Meaning.{Shows, meaning}
 use Rattle.multi_meaning.proofs.OrderlyLemmas.{unsized_if}
 use Rattle.multi_judge.specs.declared.item.KnownItem.TheVariants as known
-use Rattle.multi_judge.specs.declared.item.NextItem.{NextItem}
 use Rattle.multi_judge.specs.declared.pass.Pass.{Pass}
 use Rattle.multi_judge.specs.declared.state.State.{State}
 use Rattle.multi_judge.specs.declared.table.LineTable.{LineTable}

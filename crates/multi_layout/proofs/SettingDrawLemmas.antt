@@ -1,5 +1,5 @@
 -- A setting puts nothing, and a page is drawn as far as it stands.
-use Rattle.std.proofs.Common.{◌≡◌, ℕ, ◌+◌, true, List, [], ◌∷◌, ◌++◌, length, map, sym, ap, subst, ◌∙◌}
+use Rattle.std.proofs.Common.{◌≡◌, ℕ, ◌+◌, true, List, [], ◌∷◌, ◌++◌, length, map, inl, sym, ap, subst, ◌∙◌}
 use Rattle.multi_token.specs.Spelling.{spelling}
 use Rattle.multi_tag.specs.declared.tag.Tag.{Tag}
 use Rattle.page_plane.specs.Plane.{BitPlane}
@@ -21,7 +21,7 @@ use Rattle.multi_layout.specs.kept.AreaDrawing.{IsAreaDrawn, IsDrawnUpTo, IsInAr
 use Rattle.multi_layout.specs.kept.Cursors.{LaidItem, items_of, meant}
 use Rattle.multi_layout.specs.kept.Settings.{IsMet}
 use Rattle.multi_layout.proofs.AreaDrawLemmas.{drawn_more, left_more}
-use Rattle.multi_layout.proofs.DrawLemmas.{no_page, setting_put, setting_unput}
+use Rattle.multi_layout.proofs.DrawLemmas.{no_page, same_drawn}
 use Rattle.multi_layout.proofs.PieceLemmas.{first_piece, read_unplaced}
 use Rattle.multi_layout.proofs.SettingLemmas.{setting_is}
 use Rattle.multi_layout.proofs.WalkLemmas.{between_more, map_split}
@@ -46,7 +46,7 @@ module _ {sign : SignData} {octets : List ℕ} {layer : Layer} {page : ℕ} {cur
       let (tag, puts, is) = met in
       let new = behind cursor len state in
       let next : NextItem = record { item = known.Tag tag; len = len } in
-      let (plain, closed, placed) = setting_is tag puts.setting in
+      let (plain, closed, placed, line, unput) = setting_is tag puts.setting in
       let (item, rest, split, raw) = first_piece items next (is (items_of before) (items_of items) u.between.placed) in
       let here = subst (λ l. IsDrawnUpTo sign octets layer page before l cursor plane) split u in
       let read = read_unplaced here.between placed raw in
@@ -61,7 +61,7 @@ module _ {sign : SignData} {octets : List ℕ} {layer : Layer} {page : ℕ} {cur
         tag = tag;
         means = read.meant;
         setting = puts.setting;
-        up_to = drawn_more here (Does tag) read.meant (no_page tag plain) new plane between (setting_put sign layer (map meant before) (map meant rest) tag plane plain puts.setting);
+        up_to = drawn_more here (Does tag) read.meant (no_page tag plain) new plane between (same_drawn sign layer (map meant before) (map meant rest) (Does tag) plane (no_page tag plain) (inl (unput sign.defaults (standing sign (map meant before)))));
       }
 
   -- among the items of an area
@@ -84,6 +84,6 @@ module _ {sign : SignData} {octets : List ℕ} {layer : Layer} {page : ℕ} {cur
         behind = s.rest;
         up_to = s.up_to;
         begins = ap (present_area sign) (map_split d.before [] s.item (Does s.tag) s.means)
-            ∙ present_area-nothing sign (map meant d.before) (Does s.tag) (setting_is s.tag s.setting).0 (setting_unput sign.defaults (standing sign (map meant d.before)) s.tag s.setting)
+            ∙ present_area-nothing sign (map meant d.before) (Does s.tag) (setting_is s.tag s.setting).0 ((setting_is s.tag s.setting).4 sign.defaults (standing sign (map meant d.before)))
             ∙ d.begins;
       }

@@ -7,7 +7,8 @@ use Rattle.multi_tag.specs.declared.tag.Tag.TheVariants.{NewPage, NewLine, Font,
 use Rattle.sign_font.specs.declared.parts.LineFill.TheVariants.{Off, Words}
 use Rattle.sign_font.specs.Sign.{SignData}
 use Rattle.multi_meaning.specs.declared.fault.SyntaxError.{SyntaxError}
-use Rattle.multi_meaning.specs.Address.{Spot}
+use Rattle.sign_font.specs.declared.parts.Defaults.{Defaults}
+use Rattle.multi_meaning.specs.Address.{Spot, Standing, put_at}
 use Rattle.multi_meaning.specs.Codes.{code_of}
 use Rattle.multi_meaning.specs.Laid.{too_big}
 use Rattle.multi_meaning.specs.LaidItems.{laid_items}
@@ -50,24 +51,19 @@ never_refused sign tag new fine error items judged =
     let wrong : Some (code_of error) ≡ None = sym judged ∙ fine items in
     cc
 
--- it begins no area, ends no line and has no place
-pub setting_is : (tag : Tag) → is_setting (Does tag) ≡ true → (begins_area (Does tag) ≡ false) × (ends_line (Does tag) ≡ false) × (has_place (Does tag) ≡ false)
+-- it begins no area, ends no line, has no place, begins no line and puts nothing
+pub setting_is : (tag : Tag) → is_setting (Does tag) ≡ true → (begins_area (Does tag) ≡ false) × (ends_line (Does tag) ≡ false) × (has_place (Does tag) ≡ false) × (begins_line tag ≡ false)
+    × ((defaults : Defaults) (at : Standing) → put_at defaults at (Does tag) ≡ None)
 setting_is NewPage e = absurd (false≢true e)
 setting_is (NewLine gap) e = absurd (false≢true e)
 setting_is (Rect x y w h) e = absurd (false≢true e)
 setting_is (Back colour) e = absurd (false≢true e)
-setting_is tag e = (refl, refl, refl)
-
-no_line : (tag : Tag) → is_setting (Does tag) ≡ true → begins_line tag ≡ false
-no_line NewPage e = absurd (false≢true e)
-no_line (NewLine gap) e = absurd (false≢true e)
-no_line (Rect x y w h) e = absurd (false≢true e)
-no_line tag e = refl
+setting_is tag e = (refl, refl, refl, refl, λ defaults at. refl)
 
 -- what is kept of some items is that of the items with it, but for its state
 pub setting_passed : (words : Bool) (sign : SignData) (items : List Meaning) (kept : Pass) (state : State) (tag : Tag) → IsPassOf words sign kept items → PutsSetting sign tag kept.state state
     → IsPassOf words sign (record kept { state = state }) (items ++ Does tag ∷ [])
 setting_passed true sign items kept state tag of puts =
-    (judged-stays sign items kept of.of of.words tag (Ok tt) state (no_line tag puts.setting) (puts.limited of.of.limited) (puts.judged (laid_items Words sign items items) of.of.state_is)).1
+    (judged-stays sign items kept of.of of.words tag (Ok tt) state (setting_is tag puts.setting).3 (puts.limited of.of.limited) (puts.judged (laid_items Words sign items items) of.of.state_is)).1
 setting_passed false sign items kept state tag of puts =
     (judged_unfilled sign items (Does tag) (Ok tt) (record kept { state = state }) of.off of.fine (puts.limited of.limited) (puts.judged items of.state_is)).1

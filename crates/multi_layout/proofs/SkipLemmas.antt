@@ -29,10 +29,7 @@ use Rattle.multi_judge.proofs.BoundLemmas.{below_more}
 use Rattle.multi_judge.proofs.JudgedLemmas.{ended_times-push, pages_of-push, ready}
 use Rattle.multi_layout.proofs.WalkLemmas.{few_placed, none_offends, octet_next, placed_more}
 use Rattle.multi_meaning.proofs.VerdictLemmas.{length-meanings}
-use Rattle.multi_token.specs.declared.token.Token.{Token}
-use Rattle.multi_token.specs.declared.token.Kind.TheVariants as kinds
-use Rattle.multi_token.proofs.PlaceLemmas.{drop_read, read_drop, single_token}
-use Rattle.multi_judge.specs.declared.item.KnownItem.TheVariants as known
+use Rattle.multi_token.proofs.PlaceLemmas.{drop_read, read_drop}
 use Rattle.multi_judge.proofs.RunReadLemmas.{behind_first}
 
 -- where the present area is empty, the state is that of all items with these pages, times and values in force

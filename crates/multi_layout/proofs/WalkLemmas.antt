@@ -1,6 +1,7 @@
 -- The next item of an accepted string.
-use Rattle.std.proofs.Common.{◌≡◌, ℕ, true, false, ◌+◌, ◌^◌, ◌<◌, ◌≤◌, inl, inr, List, [], ◌∷◌, ◌++◌, length, drop, map, slice_get, Some, None, refl, sym, ap, subst, ◌∙◌, arith, append_assoc, append-nil}
+use Rattle.std.proofs.Common.{◌≡◌, ℕ, true, false, ◌+◌, ◌^◌, ◌<◌, ◌≤◌, inl, inr, List, [], ◌∷◌, ◌++◌, length, drop, take, map, slice_get, Some, None, refl, sym, ap, subst, ◌∙◌, arith, append_assoc, append-nil}
 use Rattle.std.specs.List.{All, cons_option}
+use Rattle.std.proofs.Math.Seq.{drop-append_seam, take-append_seam}
 use Rattle.std.proofs.lemmas.List.{length-append, map-append}
 use Rattle.std.proofs.lemmas.List.Concat.{flat_map-append}
 use Rattle.std.proofs.lemmas.List.Elements.{All-head, All-tail}
@@ -36,10 +37,6 @@ use Rattle.multi_judge.specs.KnownItem.{meant_by}
 use Rattle.multi_layout.specs.kept.Cursors.{IsBetween, IsFirst, IsPlaced, LaidItem, items_of, laid_meanings, meant, spell_of}
 use Rattle.multi_judge.proofs.JudgedLemmas.{ready}
 
-drop_front : (xs ys : List ℕ) → drop (length xs) (xs ++ ys) ≡ ys
-drop_front [] ys = refl
-drop_front (x ∷ xs) ys = drop_front xs ys
-
 All-right : (P : Item → Type 0) (xs ys : List Item) → All P (xs ++ ys) → All P ys
 All-right P [] ys h = h
 All-right P (x ∷ xs) ys h = All-right P xs ys (All-tail P x (xs ++ ys) h)
@@ -58,7 +55,7 @@ module _ (sign : SignData) (octets : List ℕ) (before behind : List Item) (at :
   ahead =
       ap (λ n. drop n octets) p.place
       ∙ ap (drop (length (spell before))) (p.accepted.spelled ∙ spell-append before behind)
-      ∙ drop_front (spell before) (spell behind)
+      ∙ drop-append_seam (spell before) (spell behind)
 
   pub total : length octets ≡ length (spell before) + length (spell behind)
   total = ap length (p.accepted.spelled ∙ spell-append before behind) ∙ length-append (spell before) (spell behind)
@@ -236,11 +233,10 @@ stands_in {sign} {octets} {octets'} {before} {behind} {cursor} same b = subst (�
 
 -- AS THEY ARE LAID OUT
 
-same_head : {X : Type 0} (xs ys as' bs : List X) (a b : X) → length xs ≡ length ys → xs ++ a ∷ as' ≡ ys ++ b ∷ bs → a ≡ b
-same_head [] [] as' bs a b n e = cc
-same_head [] (y ∷ ys) as' bs a b n e = absurd (omega (arith, n))
-same_head (x ∷ xs) [] as' bs a b n e = absurd (omega (arith, n))
-same_head (x ∷ xs) (y ∷ ys) as' bs a b n e = same_head xs ys as' bs a b (omega (arith, n)) (cc)
+-- two lists are the same up to one place, and from there on
+pub same_parts : {X : Type 0} (xs ys as' bs : List X) → length xs ≡ length ys → xs ++ as' ≡ ys ++ bs → (xs ≡ ys) × (as' ≡ bs)
+same_parts xs ys as' bs n e =
+    (sym (take-append_seam xs as') ∙ (λ i. take (n i) (e i)) ∙ take-append_seam ys bs, sym (drop-append_seam xs as') ∙ (λ i. drop (n i) (e i)) ∙ drop-append_seam ys bs)
 
 -- what an item is laid out as, by its place among all
 pub laid_here : (sign : SignData) (before rest : List LaidItem) (piece : LaidItem) → map meant (before ++ piece ∷ rest) ≡ laid_meanings sign (items_of (before ++ piece ∷ rest))
@@ -252,6 +248,6 @@ laid_here sign before rest piece laid =
     let split : all ≡ ms ++ meaning piece.item ∷ map meaning (items_of rest) = ap (map meaning) (map-append (λ (p : LaidItem). p.item) before (piece ∷ rest)) ∙ map-append meaning (items_of before) (piece.item ∷ items_of rest) in
     let parts : laid_meanings sign (items_of (before ++ piece ∷ rest)) ≡ each_after f ms ++ f ms (meaning piece.item) ∷ each_after (λ more. f (ms ++ meaning piece.item ∷ more)) (map meaning (items_of rest)) =
     ap (each_after f) split ∙ each_after-append f ms (meaning piece.item ∷ map meaning (items_of rest)) ∙ ap (λ l. each_after f ms ++ f l (meaning piece.item) ∷ each_after (λ more. f (ms ++ meaning piece.item ∷ more)) (map meaning (items_of rest))) (append-nil ms) in
-    same_head (map meant before) (each_after f ms) (map meant rest) _ (meant piece) (f ms (meaning piece.item))
-    (few_pieces before ∙ sym (length-meanings (items_of before)) ∙ sym (each_after_length f ms))
-    (sym (map-append meant before (piece ∷ rest)) ∙ laid ∙ parts)
+    let same = (same_parts (map meant before) (each_after f ms) (meant piece ∷ map meant rest) _ (few_pieces before ∙ sym (length-meanings (items_of before)) ∙ sym (each_after_length f ms))
+    (sym (map-append meant before (piece ∷ rest)) ∙ laid ∙ parts)).1 in
+    cc

@@ -9,11 +9,10 @@ use Rattle.multi_meaning.specs.Meaning.{BeginsPage, Meaning, has_place, meaning,
 use Rattle.multi_meaning.specs.Verdict.{pages_of}
 use Rattle.multi_judge.specs.declared.attributes.Attributes.{Attributes}
 use Rattle.multi_judge.specs.declared.state.State.{State}
-use Rattle.multi_meaning.specs.kept.Fine.{IsAccepted, IsOrderly}
 use Rattle.multi_meaning.specs.Times.{Times, cycle, page_times}
 use Rattle.multi_layout.specs.declared.cursor.Cursor.{Cursor}
 use Rattle.multi_judge.specs.declared.item.NextItem.{NextItem}
-use Rattle.multi_layout.specs.kept.Cursors.{IsBetween, IsItemRead, IsPlaced, laid_meanings, pieces_of}
+use Rattle.multi_layout.specs.kept.Cursors.{IsItemRead, IsPlaced}
 use Rattle.multi_judge.specs.State.{IsStateOf}
 
 -- without the characters and the `nl`, which alone are laid out (own)
@@ -25,11 +24,10 @@ pub record IsPassing (sign : SignData) (octets : List ℕ) (before behind : List
   pub placed : IsPlaced sign octets before behind cursor.at
   pub state_is : IsStateOf sign (unplaced (map meaning before)) cursor.state
 
--- the cursor stands before the first item of whatever string is accepted (own)
+-- the cursor stands before the first item of a string (own)
 pub record IsAtStart (sign : SignData) (cursor : Cursor) : Type 0 where
-  pub between : (octets : List ℕ) (items : List Item) → IsAccepted sign octets items → IsOrderly sign (laid_meanings sign items)
-      → IsBetween sign octets [] (pieces_of sign items) cursor
-  pub passing : (octets : List ℕ) (items : List Item) → IsAccepted sign octets items → IsPassing sign octets [] items cursor
+  pub at : cursor.at ≡ 0
+  pub state_is : IsStateOf sign [] cursor.state
 
 -- the cursor stands between two items of an accepted string, and nothing was laid out (own)
 abbrev pub IsOnTheWay : SignData → List ℕ → Cursor → Type 0

@@ -1,7 +1,5 @@
-use Rattle.std.proofs.Common.{◌≡◌, ℕ, ◌+◌, ◌-◌, ◌*◌, length, List, Err, refl, ap, subst, ◌∙◌, arith}
-use Rattle.multi_token.specs.Counted.{Counted, RisesBetween, charged}
-use Rattle.multi_token.specs.declared.token.Bracketed.{Bracketed}
-use Rattle.multi_token.specs.declared.token.Bracketed.TheVariants as bracketed
+use Rattle.std.proofs.Common.{◌≡◌, ℕ, ◌+◌, List, Err, refl, ap, subst, ◌∙◌, arith}
+use Rattle.multi_token.specs.Counted.{Counted}
 use Rattle.multi_token.specs.declared.token.Kind.TheVariants as kinds
 use Rattle.multi_token.specs.declared.token.Token.{Token}
 use Rattle.multi_token.specs.Tokens.{IsBracketed, body_of, octets_of}

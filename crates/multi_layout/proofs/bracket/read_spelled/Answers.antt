@@ -1,4 +1,4 @@
-use Rattle.std.proofs.Common.{◌≡◌, ℕ, ◌+◌, ◌-◌, ◌*◌, length, List, Some, inl, refl, ap, sym, subst, ◌∙◌, arith}
+use Rattle.std.proofs.Common.{◌≡◌, ℕ, ◌+◌, ◌-◌, length, List, Some, inl, refl, ap, sym, subst, ◌∙◌, arith}
 use Rattle.std.specs.Prelude.{min, slice_get}
 use Rattle.std.proofs.lemmas.Option.{slice_get_within}
 use Rattle.multi_token.specs.Counted.{Counted, charged}

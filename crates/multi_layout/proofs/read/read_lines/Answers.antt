@@ -102,11 +102,10 @@ returns-then-begins_area g c =
     let next : item_steps c.end_area-then-begins_area.new.read.next ≡ 9 * c.in-Item.next.len - 9 = ap item_steps e.end.1 in
     record {
       read = λ before behind b begins.
-          let so = i.so_far before behind b begins in
-          let first = is (items_of (before ++ so.pieces)) (items_of so.left) (placed_in so (same_octets i.steps.3)) in
-          let so' = met_stays so c.meet_known.new.state same in
+          let so' = met_stays (i.so_far before behind b begins) c.meet_known.new.state same in
+          let first = is (items_of (before ++ so'.pieces)) (items_of so'.left) (placed_in so' (same_octets i.steps.3)) in
           area_read so' c.requires.kind c.args.cursor.now c.end_area-then-begins_area.new.read b.placed.place (area_ended so' c.in-Item.next first (sym c.begins_area.ensures ∙ c.if-begins_area.true))
-          (all_counted so' c.requires.sound c.end_area-then-begins_area.new.read.lines e.known) e.end.0 (subst (λ n. IsFirst (items_of so.left) n) (sym e.end.1) first);
+          (all_counted so' c.requires.sound c.end_area-then-begins_area.new.read.lines e.known) e.end.0 (subst (λ n. IsFirst (items_of so'.left) n) (sym e.end.1) first);
       known = omega (arith, i.few, next, c.in-Item.ensures.known, e.end.0);
       steps = steps_within c.args.source.now (steps_then c.args.source.now i.steps c.in-Item.ensures.steps) (omega arith) (omega (arith, i.few, next, c.in-Item.ensures.known, e.end.0));
     }

@@ -1,19 +1,13 @@
-use Rattle.std.proofs.Common.{[], ◌==◌, inl, refl, subst, arith}
-use Rattle.multi_token.specs.Reading.{reading}
+use Rattle.std.proofs.Common.{◌==◌, subst, arith}
 use Rattle.multi_layout.specs.kept.Passing.{IsPageSkipped, IsShownIn}
-use Rattle.multi_layout.proofs.LocateLemmas.{page_behind, page_starts, shown_here, starts_shown}
+use Rattle.multi_layout.proofs.LocateLemmas.{accepted_of, at_start, page_behind, page_starts, shown_here, starts_shown}
 use Rattle.multi_layout.proofs.PagesLemmas.{at_most, if_next}
 use Rattle.multi_layout.proofs.WalkLemmas.{no_steps, same_octets, steps_then, steps_within}
 use Rattle.multi_layout.proofs.times.find_page.Goals as goal
 
 pub loop-shown-init : goal.loop-shown-init
 loop-shown-init c =
-    let p = c.requires.start.passing c.args.source.now.octets (reading c.args.source.now.octets).items c.requires.accepted in
-    record {
-      begins = record { before = []; behind = (reading c.args.source.now.octets).items; between = p; begins = inl refl };
-      began = omega (arith, p.state_is.times);
-      steps = no_steps c.args.source.now;
-    }
+    record { begins = (at_start c.requires.known.1 c.requires.start).0; began = omega (arith, c.requires.start.state_is.times); steps = no_steps c.args.source.now }
 
 pub returns-in-Some : goal.returns-in-Some
 returns-in-Some c =
@@ -26,7 +20,7 @@ returns-in-Some c =
     let is = subst (IsShownIn start.state behind.state.attributes c.args.time) c.in-Some.is c.shown_in.ensures in
     record {
       shown = shown_here skipped c.args.time c.in-Some.shown i.began is;
-      begins = starts_shown sign octets start behind.state.attributes c.args.time c.in-Some.shown (page_starts i.begins c.requires.orderly) is;
+      begins = starts_shown sign octets start behind.state.attributes c.args.time c.in-Some.shown (page_starts i.begins (accepted_of c.requires.known.1).2) is;
       steps = steps_within c.args.source.now (steps_then c.args.source.now i.steps c.pass_page.ensures.steps) (omega arith) (omega (arith, skipped.within, c.pass_page.ensures.on, at_most (behind.state.pages == start.state.pages) 1));
     }
 
