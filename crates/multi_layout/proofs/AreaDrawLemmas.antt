@@ -1,6 +1,7 @@
--- The items of an area, drawn one after the other.
-use Rattle.std.proofs.Common.{◌≡◌, ℕ, ◌+◌, ◌<◌, ◌≤◌, false, List, [], ◌∷◌, ◌++◌, length, map, Option, None, Some, refl, sym, ap, subst, ◌∙◌, arith, append_assoc, append-nil}
+-- The items of a page, drawn one after the other.
+use Rattle.std.proofs.Common.{◌≡◌, ℕ, ◌+◌, ◌^◌, ◌<◌, ◌≤◌, false, cond, slice_get, List, [], ◌∷◌, ◌++◌, length, map, Option, None, Some, refl, sym, ap, subst, ◌∙◌, arith, append_assoc}
 use Rattle.std.proofs.Math.Nat.{mul-add, mul-le-mul_left}
+use Rattle.std.proofs.lemmas.Bool.{false≢true}
 use Rattle.std.proofs.lemmas.List.{length-append, map-append}
 use Rattle.std.proofs.lemmas.List.Elements.{All-head, All-tail}
 use Rattle.multi_token.specs.Spelling.{spelling}
@@ -8,21 +9,27 @@ use Rattle.multi_token.proofs.ReadingLemmas.{spelling_some}
 use Rattle.page_plane.specs.Plane.{BitPlane}
 use Rattle.sign_font.specs.Sign.{SignData, tallest}
 use Rattle.multi_meaning.specs.Address.{spots, standing, in_area}
-use Rattle.multi_meaning.specs.Meaning.{begins_area}
+use Rattle.multi_meaning.specs.Meaning.{EndsArea, Meaning, begins_area, is_new_page}
+use Rattle.multi_meaning.specs.Verdict.{pages_of}
 use Rattle.multi_meaning.proofs.StateLemmas.{same_area}
-use Rattle.multi_layout.specs.declared.cursor.Cursor.{Cursor}
 use Rattle.multi_judge.specs.declared.item.NextItem.{NextItem}
+use Rattle.multi_judge.specs.declared.state.State.{State}
+use Rattle.multi_judge.specs.declared.table.LineTable.{LineTable}
+use Rattle.multi_judge.proofs.JudgedLemmas.{pages_of-push}
+use Rattle.multi_judge.proofs.ReadLemmas.{at_end}
+use Rattle.multi_layout.specs.declared.cursor.Cursor.{Cursor}
 use Rattle.multi_layout.specs.declared.paint.Layer.{Layer}
 use Rattle.multi_layout.specs.declared.read.AreaLines.{AreaLines}
-use Rattle.multi_judge.specs.declared.table.LineTable.{LineTable}
 use Rattle.multi_layout.specs.Limits.{plane_octets}
-use Rattle.multi_layout.specs.kept.AreaDrawing.{DrawsOn, HasCounted, IsDrawnTo, IsFilledBy, BeginsNoArea, whole_area}
-use Rattle.multi_layout.specs.kept.RunDrawing.{AreaSoFar, IsNextDrawn, IsReadBehind, octets_read}
-use Rattle.multi_layout.specs.kept.Cursors.{IsBetween, IsPieceFirst, IsRead, meant, LaidItem, spell_of}
-use Rattle.multi_layout.proofs.WalkLemmas.{spell_of-append}
+use Rattle.multi_layout.specs.kept.AreaDrawing.{BeginsNoArea, HasCounted, IsAreaDrawn, IsDrawnTo, IsDrawnUpTo, IsFilledBy, IsInArea, whole_area}
+use Rattle.multi_layout.specs.kept.RunDrawing.{IsNextDrawn, IsReadBehind, octets_read}
+use Rattle.multi_layout.specs.kept.Cursors.{IsBetween, IsFirst, IsItemRead, IsRead, items_of, meant, LaidItem, spell_of}
+use Rattle.multi_layout.specs.kept.Settings.{IsNextAt}
+use Rattle.multi_layout.proofs.PieceLemmas.{first_begins, first_piece}
+use Rattle.multi_layout.proofs.WalkLemmas.{map_split, spell_of-append, total, within_between}
 
 -- the lines of an area are those behind one of its items too
-pub counted_more : (sign : SignData) (before behind : List LaidItem) (item : LaidItem) (lines : LineTable) → begins_area (meant item) ≡ false
+counted_more : (sign : SignData) (before behind : List LaidItem) (item : LaidItem) (lines : LineTable) → begins_area (meant item) ≡ false
     → HasCounted (whole_area sign before (item ∷ behind)) lines → HasCounted (whole_area sign (before ++ item ∷ []) behind) lines
 counted_more sign before behind item lines plain counted =
     let area_is : (standing sign (map meant (before ++ item ∷ []))).area ≡ (standing sign (map meant before)).area =
@@ -30,136 +37,128 @@ counted_more sign before behind item lines plain counted =
     subst (λ n. HasCounted (in_area n (spots sign (map meant ((before ++ item ∷ []) ++ behind)))) lines) (sym area_is)
     (subst (λ l. HasCounted (in_area (standing sign (map meant before)).area (spots sign (map meant l))) lines) (sym (append_assoc before (item ∷ []) behind)) counted)
 
-module _ (sign : SignData) (octets : List ℕ) (before area rest : List LaidItem) (lines : LineTable) (layer : Layer) (old : BitPlane) where
-  -- none is drawn
-  abbrev pub area_begins : (cursor : Cursor) → IsBetween sign octets before (area ++ rest) cursor → BeginsNoArea area → HasCounted (whole_area sign before (area ++ rest)) lines
-      → AreaSoFar sign octets before area rest lines layer cursor old old
-  area_begins cursor b plain counted =
-      let none : before ++ [] ≡ before = append-nil before in record {
-        done = [];
-        left = area;
-        split = refl;
-        plain = plain;
-        between = subst (λ l. IsBetween sign octets l (area ++ rest) cursor) (sym none) b;
-        counted = subst (λ l. HasCounted (whole_area sign l (area ++ rest)) lines) (sym none) counted;
-        drawn = λ d. subst (λ l. IsDrawnTo sign layer (map meant (before ++ (area ++ rest))) (map meant l) old) (sym none) d;
-      }
+-- one more item of a page
+pub drawn_more : {sign : SignData} {octets : List ℕ} {layer : Layer} {page : ℕ} {before rest : List LaidItem} {item : LaidItem} {cursor : Cursor} {plane : BitPlane}
+    → IsDrawnUpTo sign octets layer page before (item ∷ rest) cursor plane → (m : Meaning) → meant item ≡ m → is_new_page m ≡ false
+    → (cursor' : Cursor) (plane' : BitPlane) → IsBetween sign octets (before ++ item ∷ []) rest cursor'
+    → (IsDrawnTo sign layer (map meant before ++ m ∷ map meant rest) (map meant before) plane
+    → IsDrawnTo sign layer (map meant before ++ m ∷ map meant rest) (map meant before ++ m ∷ []) plane')
+    → IsDrawnUpTo sign octets layer page (before ++ item ∷ []) rest cursor' plane'
+drawn_more {sign} {octets} {layer} {page} {before} {rest} {item} {cursor} {plane} u m is none cursor' plane' between draws =
+    let all = map_split before rest item m is in
+    let one = map_split before [] item m is in
+    record {
+      between = between;
+      page_is =
+          omega (arith, u.page_is, u.between.state_is.pages, between.state_is.pages, ap pages_of one, pages_of-push (map meant before) m, ap {B = ℕ} (λ b. cond b 1 0) none);
+      drawn = subst (λ l. IsDrawnTo sign layer (map meant l) (map meant (before ++ item ∷ [])) plane') (sym (append_assoc before (item ∷ []) rest))
+          (subst (λ ms. IsDrawnTo sign layer ms (map meant (before ++ item ∷ [])) plane') (sym all)
+          (subst (λ ms. IsDrawnTo sign layer (map meant before ++ m ∷ map meant rest) ms plane') (sym one)
+          (draws (subst (λ ms. IsDrawnTo sign layer ms (map meant before) plane) all u.drawn))));
+    }
 
-  module _ (cursor : Cursor) (new : BitPlane) (s : AreaSoFar sign octets before area rest lines layer cursor old new) (end : ℕ) (ends : end ≡ length (spell_of before) + length (spell_of area)) where
-    ahead : length (spell_of area) ≡ length (spell_of s.done) + length (spell_of s.left)
-    ahead = ap (λ l. length (spell_of l)) s.split ∙ ap length (spell_of-append s.done s.left) ∙ length-append (spell_of s.done) (spell_of s.left)
-
-    here : cursor.at ≡ length (spell_of before) + length (spell_of s.done)
-    here = s.between.placed.place ∙ ap length (spell_of-append before s.done) ∙ length-append (spell_of before) (spell_of s.done)
-
-    -- what is left reaches from the cursor to the end
-    pub left_ends : end ≡ cursor.at + length (spell_of s.left)
-    left_ends = omega (arith, ends, ahead, here)
-
-    -- before the end one is left
-    pub one_left : cursor.at < end → (item : LaidItem) × (more : List LaidItem) × (s.left ≡ item ∷ more)
-    one_left more = of s.left (omega (arith, more, ends, ahead, here))
-      where
-        of : (left : List LaidItem) → 1 ≤ length (spell_of left) → (item : LaidItem) × (more : List LaidItem) × (left ≡ item ∷ more)
-        of [] h = absurd (omega (arith, h))
-        of (item ∷ more) h = (item, more, refl)
-
-    -- at the end none is left
-    pub none_left : end ≤ cursor.at → s.left ≡ []
-    none_left reached = of s.left (omega (arith, reached, ends, ahead, here))
-      where
-        of : (left : List LaidItem) → length (spell_of left) ≤ 0 → left ≡ []
-        of [] h = refl
-        of (item ∷ more) h = absurd (omega (arith, h, spelling_some item.item, length-append (spelling item.item) (spell_of more)))
-
-    pub area_ended : end ≤ cursor.at → (s.done ≡ area) × IsBetween sign octets (before ++ area) rest cursor
-    area_ended reached =
-        let none = none_left reached in
-        let all : area ≡ s.done = s.split ∙ ap (λ l. s.done ++ l) none ∙ append-nil s.done in (
-          sym all,
-          subst (λ l. IsBetween sign octets (before ++ l) rest cursor) (sym all) (subst (λ l. IsBetween sign octets (before ++ s.done) (l ++ rest) cursor) none s.between),
-        )
-
-    pub none_first : cursor.at < end → s.left ++ rest ≡ [] → ⊥
-    none_first before_end none =
-        let (item, more, is) = one_left before_end in
-        let wrong : item ∷ (more ++ rest) ≡ [] = ap (λ l. l ++ rest) (sym is) ∙ none in
-        absurd cc
-
-    -- the cursor is at the end
-    pub at_end : end ≤ cursor.at → cursor.at ≡ end
-    at_end reached = omega (arith, reached, (area_ended reached).1.placed.place, ends, ap length (spell_of-append before area), length-append (spell_of before) (spell_of area))
-
-    -- an item is left
-    pub area_here : cursor.at < end → (item : LaidItem) × (more : List LaidItem) × IsBetween sign octets (before ++ s.done) (item ∷ (more ++ rest)) cursor
-    area_here before_end =
-        let (item, more, is) = one_left before_end in
-        (item, more, subst (λ l. IsBetween sign octets (before ++ s.done) (l ++ rest) cursor) is s.between)
-
-    -- the next item is the first that is left
-    pub area_next : cursor.at < end → (next : NextItem)
-        → ((earlier behind : List LaidItem) → IsBetween sign octets earlier behind cursor → HasCounted (whole_area sign earlier behind) lines → IsPieceFirst behind (Some next))
-        → (item : LaidItem) × (more : List LaidItem) × (s.left ≡ item ∷ more) × IsBetween sign octets (before ++ s.done) (item ∷ (more ++ rest)) cursor × IsRead item next
-        × HasCounted (whole_area sign (before ++ s.done) (item ∷ (more ++ rest))) lines × (begins_area (meant item) ≡ false)
-    area_next before_end next first =
-        let (item, more, is) = one_left before_end in
-        let b : IsBetween sign octets (before ++ s.done) (item ∷ (more ++ rest)) cursor = subst (λ l. IsBetween sign octets (before ++ s.done) (l ++ rest) cursor) is s.between in
-        let counted = subst (λ l. HasCounted (whole_area sign (before ++ s.done) (l ++ rest)) lines) is s.counted in
-        let (found, others, same, read) = first (before ++ s.done) (item ∷ (more ++ rest)) b counted in
-        let one : found ≡ item = cc in (
-          item,
-          more,
-          is,
-          b,
-          subst (λ x. IsRead x next) one read,
-          counted,
-          All-head (λ x. begins_area (meant x) ≡ false) item more (subst BeginsNoArea is s.plain),
-        )
-
-    pub area_left : (item : LaidItem) (more : List LaidItem) → s.left ≡ item ∷ more → before ++ (area ++ rest) ≡ (before ++ s.done) ++ item ∷ (more ++ rest)
-    area_left item more is =
-        ap (λ l. before ++ (l ++ rest)) (s.split ∙ ap (λ l. s.done ++ l) is) ∙ ap (λ l. before ++ l) (append_assoc s.done (item ∷ more) rest) ∙ sym (append_assoc before s.done (item ∷ (more ++ rest)))
-
-    -- one more is drawn
-    abbrev pub area_more : (item : LaidItem) (more : List LaidItem) → s.left ≡ item ∷ more → (cursor' : Cursor) (new' : BitPlane)
-        → IsBetween sign octets ((before ++ s.done) ++ item ∷ []) (more ++ rest) cursor'
-        → (IsDrawnTo sign layer (map meant ((before ++ s.done) ++ item ∷ (more ++ rest))) (map meant (before ++ s.done)) new → IsDrawnTo sign layer (map meant ((before ++ s.done) ++ item ∷ (more ++ rest))) (map meant ((before ++ s.done) ++ item ∷ [])) new')
-        → AreaSoFar sign octets before area rest lines layer cursor' old new'
-    area_more item more is cursor' new' between drawn =
-        let plain = subst BeginsNoArea is s.plain in
-        let first : begins_area (meant item) ≡ false = All-head (λ x. begins_area (meant x) ≡ false) item more plain in
-        let assoc : (before ++ s.done) ++ item ∷ [] ≡ before ++ (s.done ++ item ∷ []) = append_assoc before s.done (item ∷ []) in
-        let all = area_left item more is in
-        let counted = counted_more sign (before ++ s.done) (more ++ rest) item lines first (subst (λ l. HasCounted (whole_area sign (before ++ s.done) (l ++ rest)) lines) is s.counted) in
+-- one more item of an area
+pub left_more : {sign : SignData} {read : AreaLines} {before rest : List LaidItem} {item : LaidItem} {cursor : Cursor} → IsInArea sign read before (item ∷ rest) cursor
+    → begins_area (meant item) ≡ false → (cursor' : Cursor) → cursor'.at ≡ cursor.at + length (spelling item.item) → IsInArea sign read (before ++ item ∷ []) rest cursor'
+left_more {sign} {read} {before} {rest} {item} {cursor} i plain cursor' to = of i.area i.split i.plain i.end
+  where
+    of : (area : List LaidItem) → item ∷ rest ≡ area ++ i.rest → BeginsNoArea area → read.end ≡ cursor.at + length (spell_of area) → IsInArea sign read (before ++ item ∷ []) rest cursor'
+    of [] split each end = absurd (false≢true (sym plain ∙ first_begins item rest (subst (λ l. EndsArea (map meant l)) (sym split) i.ends)))
+    of (one ∷ area) split each end =
+        let first : item ≡ one = cc in
         record {
-          done = s.done ++ item ∷ [];
-          left = more;
-          split = s.split ∙ ap (λ l. s.done ++ l) is ∙ sym (append_assoc s.done (item ∷ []) more);
-          plain = All-tail (λ x. begins_area (meant x) ≡ false) item more plain;
-          between = subst (λ l. IsBetween sign octets l (more ++ rest) cursor') assoc between;
-          counted = subst (λ l. HasCounted (whole_area sign l (more ++ rest)) lines) assoc counted;
-          drawn = λ d.
-              subst (λ l. IsDrawnTo sign layer (map meant (before ++ (area ++ rest))) (map meant l) new') assoc
-              (subst (λ l. IsDrawnTo sign layer (map meant l) (map meant ((before ++ s.done) ++ item ∷ [])) new') (sym all)
-              (drawn (subst (λ l. IsDrawnTo sign layer (map meant l) (map meant (before ++ s.done)) new) all (s.drawn d))));
+          area = area;
+          rest = i.rest;
+          split = cc;
+          plain = All-tail (λ x. begins_area (meant x) ≡ false) one area each;
+          ends = i.ends;
+          end = omega (arith, end, to, ap (λ (x : LaidItem). length (spelling x.item)) first, length-append (spelling one.item) (spell_of area));
+          next = i.next;
+          counted = counted_more sign before rest item read.lines plain i.counted;
         }
 
--- the next item of an area, of which this is read
-pub next_drawn : (sign : SignData) (octets : List ℕ) (before area rest : List LaidItem) (read : AreaLines) (layer : Layer) (cursor : Cursor) (old new : BitPlane) (s : AreaSoFar sign octets before area rest read.lines layer cursor old new)
-    → read.end ≡ length (spell_of before) + length (spell_of area) → cursor.at < read.end → (next : NextItem)
-    → ((earlier behind : List LaidItem) → IsBetween sign octets earlier behind cursor → HasCounted (whole_area sign earlier behind) read.lines → IsPieceFirst behind (Some next))
-    → (item : LaidItem) × (more : List LaidItem) × (s.left ≡ item ∷ more) × IsNextDrawn sign octets (before ++ s.done) more rest item next read cursor
-next_drawn sign octets before area rest read layer cursor old new s ends before_end next first =
-    let (item, more, is, here, one, counted, quiet) = area_next sign octets before area rest read.lines layer old cursor new s read.end ends before_end next first in (
-      item,
-      more,
-      is,
-      record {
-        here = record { between = here; read_is = one; counted = counted };
-        plain = subst BeginsNoArea is s.plain;
-        ends = left_ends sign octets before area rest read.lines layer old cursor new s read.end ends ∙ ap (λ l. cursor.at + length (spell_of l)) is;
-      },
-    )
+abbrev pub area_more : {sign : SignData} {octets : List ℕ} {layer : Layer} {page : ℕ} {read : AreaLines} {next : NextItem} {cursor : Cursor} {plane : BitPlane}
+    (n : IsNextDrawn sign octets layer page read next cursor plane) (m : Meaning) → meant n.item ≡ m → is_new_page m ≡ false
+    → (cursor' : Cursor) (plane' : BitPlane) → IsBetween sign octets (n.before ++ n.item ∷ []) n.rest cursor' → cursor'.at ≡ cursor.at + next.len
+    → (IsDrawnTo sign layer (map meant n.before ++ m ∷ map meant n.rest) (map meant n.before) plane
+    → IsDrawnTo sign layer (map meant n.before ++ m ∷ map meant n.rest) (map meant n.before ++ m ∷ []) plane')
+    → IsAreaDrawn sign octets layer page read cursor' plane'
+area_more {cursor = cursor} n m is none cursor' plane' between to draws = record {
+  before = n.before ++ n.item ∷ [];
+  behind = n.rest;
+  up_to = drawn_more n.up_to m is none cursor' plane' between draws;
+  left = left_more n.left n.plain cursor' (to ∙ ap (λ k. cursor.at + k) n.read_is.len);
+}
+
+-- the same in the same octets, and in the same state
+pub area_in : {sign : SignData} {octets octets' : List ℕ} {layer : Layer} {page : ℕ} {read : AreaLines} {cursor : Cursor} {plane : BitPlane} → octets' ≡ octets
+    → IsAreaDrawn sign octets layer page read cursor plane → IsAreaDrawn sign octets' layer page read cursor plane
+area_in {sign} {octets} {octets'} {layer} {page} {read} {cursor} {plane} same d = subst (λ o. IsAreaDrawn sign o layer page read cursor plane) (sym same) d
+
+pub area_met : {sign : SignData} {octets : List ℕ} {layer : Layer} {page : ℕ} {read : AreaLines} {cursor : Cursor} {plane : BitPlane} → IsAreaDrawn sign octets layer page read cursor plane
+    → (state : State) → state ≡ cursor.state → IsAreaDrawn sign octets layer page read (record { at = cursor.at; state = state }) plane
+area_met {sign} {octets} {layer} {page} {read} {cursor} {plane} d state same =
+    subst (λ (s : State). IsAreaDrawn sign octets layer page read (record { at = cursor.at; state = s }) plane) (sym same) d
+
+module _ {sign : SignData} {octets : List ℕ} {layer : Layer} {page : ℕ} {read : AreaLines} {cursor : Cursor} {plane : BitPlane} (d : IsAreaDrawn sign octets layer page read cursor plane) where
+  pub area_within : read.end ≤ length octets
+  area_within =
+      let b = d.up_to.between in
+      let left = d.left in
+      let behind : length (spell_of d.behind) ≡ length (spell_of left.area) + length (spell_of left.rest) =
+      ap (λ l. length (spell_of l)) left.split ∙ ap length (spell_of-append left.area left.rest) ∙ length-append (spell_of left.area) (spell_of left.rest) in
+      omega (arith, left.end, b.placed.place, total sign octets (items_of d.before) (items_of d.behind) cursor.at b.placed, behind)
+
+  pub area_short : cursor.at < 2 ^ 32
+  area_short = let b = d.up_to.between in omega (arith, within_between sign octets d.before d.behind cursor b, b.placed.accepted.short)
+
+  -- before the end of the area an octet stands
+  pub octet_stands : cursor.at < read.end → slice_get octets cursor.at ≡ None → ⊥
+  octet_stands before_end none =
+      let b = d.up_to.between in
+      omega (arith, before_end, area_within, at_end octets cursor.at (within_between sign octets d.before d.behind cursor b) none)
+
+  -- an item was met there, which is laid out as this
+  pub next_here : cursor.at < read.end → (raw next : NextItem) → IsNextAt sign octets cursor.at raw
+      → ((before rest : List LaidItem) (item : LaidItem) → IsBetween sign octets before (item ∷ rest) cursor → HasCounted (whole_area sign before (item ∷ rest)) read.lines → IsItemRead item.item raw → IsRead item next)
+      → (n : IsNextDrawn sign octets layer page read next cursor plane) × (n.before ≡ d.before) × (d.behind ≡ n.item ∷ n.rest)
+  next_here before_end raw next is lays =
+      let (item, rest, split, read_is) = first_piece d.behind raw (is (items_of d.before) (items_of d.behind) d.up_to.between.placed) in
+      let up_to = subst (λ l. IsDrawnUpTo sign octets layer page d.before l cursor plane) split d.up_to in
+      let left = subst (λ l. IsInArea sign read d.before l cursor) split d.left in
+      let n : IsNextDrawn sign octets layer page read next cursor plane = record {
+        before = d.before;
+        rest = rest;
+        item = item;
+        up_to = up_to;
+        left = left;
+        read_is = lays d.before rest item up_to.between left.counted read_is;
+        plain = of item rest left.rest left.area left.split left.plain left.end;
+      } in
+      (n, refl, split)
+    where
+      of : (item : LaidItem) (rest more area : List LaidItem) → item ∷ rest ≡ area ++ more → BeginsNoArea area → read.end ≡ cursor.at + length (spell_of area) → begins_area (meant item) ≡ false
+      of item rest more [] split each end = absurd (omega (arith, before_end, end))
+      of item rest more (one ∷ area) split each end =
+          let first : item ≡ one = cc in
+          ap (λ (x : LaidItem). begins_area (meant x)) first ∙ All-head (λ x. begins_area (meant x) ≡ false) one area each
+
+  -- at the end of the area none of it is left
+  pub area_over : read.end ≤ cursor.at → EndsArea (map meant d.behind) × IsFirst (items_of d.behind) read.next
+  area_over reached = of d.left.area d.left.split d.left.end
+    where
+      of : (area : List LaidItem) → d.behind ≡ area ++ d.left.rest → read.end ≡ cursor.at + length (spell_of area) → EndsArea (map meant d.behind) × IsFirst (items_of d.behind) read.next
+      of [] split end = subst (λ l. EndsArea (map meant l) × IsFirst (items_of l) read.next) (sym split) (d.left.ends, d.left.next)
+      of (one ∷ area) split end = absurd (omega (arith, reached, end, spelling_some one.item, length-append (spelling one.item) (spell_of area)))
+
+-- an item was met that is no setting, and this is it, as it is laid out
+pub next_met : {sign : SignData} {octets octets' octets'' : List ℕ} {layer : Layer} {page : ℕ} {read : AreaLines} {cursor : Cursor} {plane : BitPlane} → octets' ≡ octets → octets'' ≡ octets'
+    → (state : State) (raw next : NextItem) → (state ≡ cursor.state) × IsNextAt sign octets' cursor.at raw
+    → ((octets : List ℕ) (before rest : List LaidItem) (item : LaidItem) → IsBetween sign octets before (item ∷ rest) (record { at = cursor.at; state = state })
+    → HasCounted (whole_area sign before (item ∷ rest)) read.lines → IsItemRead item.item raw → IsRead item next)
+    → cursor.at < read.end → IsAreaDrawn sign octets layer page read cursor plane → IsNextDrawn sign octets'' layer page read next (record { at = cursor.at; state = state }) plane
+next_met {sign} {octets} {octets'} {octets''} {cursor = cursor} same same' state raw next (stays, is) lays before_end d =
+    (next_here (area_in (same' ∙ same) (area_met d state stays)) before_end raw next (subst (λ o. IsNextAt sign o cursor.at raw) (sym same') is) (lays octets'')).0
 
 -- what was read behind the cursor
 pub read_one : (read : Option ℕ) → octets_read read ≤ 1
@@ -169,40 +168,6 @@ read_one (Some octet) = omega arith
 pub none_read : (octets : List ℕ) (at end : ℕ) (read : Option ℕ) → IsReadBehind octets at end read → end ≤ at → octets_read read ≡ 0
 none_read octets at end None is past = refl
 none_read octets at end (Some octet) is past = absurd (omega (arith, is.1, past))
-
--- the first of an area's items is drawn
-abbrev pub area_first : {sign : SignData} {octets : List ℕ} {before area rest : List LaidItem} {item : LaidItem} {next : NextItem} {read : AreaLines} {cursor : Cursor} → IsNextDrawn sign octets before area rest item next read cursor
-    → (layer : Layer) (cursor' : Cursor) (old new : BitPlane) → IsBetween sign octets (before ++ item ∷ []) (area ++ rest) cursor' → DrawsOn sign layer before (item ∷ []) (area ++ rest) old new
-    → AreaSoFar sign octets before (item ∷ area) rest read.lines layer cursor' old new
-area_first {sign} {octets} {before} {area} {rest} {item} {next} {read} {cursor} n layer cursor' old new between drawn = record {
-  done = item ∷ [];
-  left = area;
-  split = refl;
-  plain = All-tail (λ x. begins_area (meant x) ≡ false) item area n.plain;
-  between = between;
-  counted = counted_more sign before (area ++ rest) item read.lines (All-head (λ x. begins_area (meant x) ≡ false) item area n.plain) n.here.counted;
-  drawn = drawn;
-}
-
--- and then those that are left
-pub area_then : (sign : SignData) (octets : List ℕ) (before area rest : List LaidItem) (lines : LineTable) (layer : Layer) (cursor cursor' : Cursor) (old mid new : BitPlane)
-    (s : AreaSoFar sign octets before area rest lines layer cursor old mid) → AreaSoFar sign octets (before ++ s.done) s.left rest lines layer cursor' mid new
-    → AreaSoFar sign octets before area rest lines layer cursor' old new
-area_then sign octets before area rest lines layer cursor cursor' old mid new s t =
-    let assoc : (before ++ s.done) ++ t.done ≡ before ++ (s.done ++ t.done) = append_assoc before s.done t.done in
-    let all : before ++ (area ++ rest) ≡ (before ++ s.done) ++ (s.left ++ rest) = ap (λ l. before ++ (l ++ rest)) s.split ∙ ap (λ l. before ++ l) (append_assoc s.done s.left rest) ∙ sym (append_assoc before s.done (s.left ++ rest)) in
-    record {
-      done = s.done ++ t.done;
-      left = t.left;
-      split = s.split ∙ ap (λ l. s.done ++ l) t.split ∙ sym (append_assoc s.done t.done t.left);
-      plain = t.plain;
-      between = subst (λ l. IsBetween sign octets l (t.left ++ rest) cursor') assoc t.between;
-      counted = subst (λ l. HasCounted (whole_area sign l (t.left ++ rest)) lines) assoc t.counted;
-      drawn = λ d.
-          subst (λ l. IsDrawnTo sign layer (map meant (before ++ (area ++ rest))) (map meant l) new) assoc
-          (subst (λ l. IsDrawnTo sign layer (map meant l) (map meant ((before ++ s.done) ++ t.done)) new) (sym all)
-          (t.drawn (subst (λ l. IsDrawnTo sign layer (map meant l) (map meant (before ++ s.done)) mid) all (s.drawn d))));
-    }
 
 -- the steps over the plane add up
 pub filled_then : (sign : SignData) (a b c : BitPlane) (m n : ℕ) → IsFilledBy sign a b m → IsFilledBy sign b c n → IsFilledBy sign a c (m + n)

@@ -6,7 +6,6 @@ use Rattle.std.specs.Prelude.{IfSome, if◌then◌else◌}
 use Rattle.multi_token.specs.Counted.{Counted, RisesBetween, charged}
 use Rattle.multi_token.specs.Spelling.{Item}
 use Rattle.multi_token.proofs.ReadingLemmas.{spelling_some}
-use Rattle.multi_token.proofs.StepLemmas.{rises_more, rises_then}
 use Rattle.multi_tag.specs.Just.{page_number}
 use Rattle.sign_font.specs.declared.parts.LineFill.{LineFill}
 use Rattle.sign_font.specs.declared.parts.LineFill.TheVariants.{Words}
@@ -22,7 +21,6 @@ use Rattle.multi_meaning.proofs.SpotsLemmas.{area_ends}
 use Rattle.multi_meaning.proofs.StandingLemmas.{standing_push}
 use Rattle.multi_meaning.proofs.WordLemmas.{left_nil, some_after-append}
 use Rattle.multi_judge.specs.declared.area.Area.{Area}
-use Rattle.multi_layout.specs.declared.cursor.Begun.{Begun}
 use Rattle.multi_layout.specs.declared.cursor.Cursor.{Cursor}
 use Rattle.multi_layout.specs.declared.cursor.Met.TheVariants.{Setting}
 use Rattle.multi_judge.specs.declared.item.KnownItem.TheVariants as known
@@ -35,7 +33,7 @@ use Rattle.multi_judge.specs.Passed.{laid_area}
 use Rattle.multi_layout.specs.kept.AreaReading.{EndsGroup, IsNextRead, IsReadOf}
 use Rattle.multi_judge.specs.FilledState.{IsFilledOf}
 use Rattle.multi_judge.specs.KnownItem.{meant_by}
-use Rattle.multi_layout.specs.kept.AreaDrawing.{BeginsNoArea, HasCounted, HasKnown, IsAreaRead, first_steps, next_group, whole_area}
+use Rattle.multi_layout.specs.kept.AreaDrawing.{BeginsNoArea, HasCounted, HasKnown, IsInArea, next_group, whole_area}
 use Rattle.multi_judge.specs.PassState.{IsPassOf, fill_of}
 use Rattle.multi_judge.specs.State.{IsStateOf}
 use Rattle.multi_judge.specs.Table.{group_lines, table_of}
@@ -50,37 +48,14 @@ use Rattle.multi_judge.proofs.LimitLemmas.{limited_none}
 use Rattle.multi_layout.proofs.PieceLemmas.{ends_laid, first_piece, laid_front, plain_laid}
 use Rattle.multi_judge.proofs.ReadLemmas.{at_end}
 use Rattle.multi_layout.proofs.SettingLemmas.{setting_is, setting_passed}
-use Rattle.multi_layout.proofs.WalkLemmas.{few_placed, fine_items, none_at_end, placed_more, spell_of-append, within}
+use Rattle.multi_layout.proofs.WalkLemmas.{few_placed, fine_items, none_at_end, placed_more, spell_of-append, steps_of, steps_then, steps_within, within}
 use Rattle.multi_layout.proofs.FilledRoomLemmas.{counted_whole}
 
--- the steps of one more item, of which this is still to be read, and of what goes on behind it, the octet there too
-pub steps_on : (source a b d e : Counted) (from at len to taken known paid : ℕ) (octet : Bool) → from ≤ at → at + len ≤ to → 1 ≤ len → (octet ≡ false → to ≡ at + len) → RisesBetween source a 0 taken → taken + paid ≤ 9 * (at - from) + known → known ≤ 9 * len - 9
-    → RisesBetween a b 0 (9 * len - 9 - known) → RisesBetween b d 0 8 → (octet ≡ true → d ≡ charged b 1) → RisesBetween d e 1 (if octet then 2 * (to - (at + len)) + 3 else 1)
-    → RisesBetween source e 0 (9 * (to - from) - paid) × (paid ≤ 9 * (to - from))
-steps_on source a b d e from at len to taken known paid octet low on some alone earlier few least item passing one further = (of octet refl, omega (arith, low, on, few, least))
-  where
-    both : RisesBetween source b 0 (taken + (9 * len - 9 - known))
-    both = rises_then source a b 0 taken 0 (9 * len - 9 - known) earlier item
-
-    of : (is : Bool) → octet ≡ is → RisesBetween source e 0 (9 * (to - from) - paid)
-    of true is =
-        let step : RisesBetween b d 0 1 = (1, omega arith, omega arith, one is) in
-        let last : RisesBetween d e 1 (2 * (to - (at + len)) + 3) = subst (λ (o : Bool). RisesBetween d e 1 (if o then 2 * (to - (at + len)) + 3 else 1)) is further in
-        let all = rises_then source d e 0 (taken + (9 * len - 9 - known) + 1) 1 (2 * (to - (at + len)) + 3) (rises_then source b d 0 (taken + (9 * len - 9 - known)) 0 1 both step) last in
-        (all.0, omega arith, omega (arith, all.2), all.3)
-    of false is =
-        let last : RisesBetween d e 1 1 = subst (λ (o : Bool). RisesBetween d e 1 (if o then 2 * (to - (at + len)) + 3 else 1)) is further in
-        let all = rises_then source d e 0 (taken + (9 * len - 9 - known) + 8) 1 1 (rises_then source b d 0 (taken + (9 * len - 9 - known)) 0 8 both passing) last in
-        (all.0, omega arith, omega (arith, all.2, alone is), all.3)
-
--- the steps of a setting, and of the octet behind it
-pub steps_set : (source a b d : Counted) (from at len taken known paid : ℕ) → from ≤ at → 1 ≤ len → RisesBetween source a 0 taken → taken + paid ≤ 9 * (at - from) + known → known ≤ 9 * len - 8 → RisesBetween a b 0 (9 * len - 8 - known) → d ≡ charged b 1
-    → RisesBetween source d 0 (9 * (at + len - from) - paid) × (paid ≤ 9 * (at + len - from))
-steps_set source a b d from at len taken known paid low some earlier few least item one = (
-  rises_more source d 0 _ (9 * (at + len - from) - paid) (omega (arith, low, some, few, least))
-      (rises_then source b d 0 (taken + (9 * len - 8 - known)) 0 1 (rises_then source a b 0 taken 0 (9 * len - 8 - known) earlier item) (1, omega arith, omega arith, one)),
-  omega (arith, low, few, least),
-)
+-- the steps of an item that was met, and of what goes on behind it, the octet there too
+pub steps_gone : (b : Counted) {d e : Counted} (at to : ℕ) (octet : Bool) → RisesBetween b d 0 8 → (octet ≡ true → d ≡ charged b 1) → RisesBetween d e 1 (if octet then 2 * (to - at) + 3 else 1)
+    → RisesBetween b e 0 (9 * (to - at) + 9)
+steps_gone b at to true passing one further = steps_within b (steps_then b (steps_of b (one refl)) further) (omega arith) (omega arith)
+steps_gone b at to false passing one further = steps_within b (steps_then b passing further) (omega arith) (omega arith)
 
 abbrev item_at : LaidItem → Item
 item_at piece = piece.item
@@ -231,17 +206,8 @@ module _ {words : Bool} {sign : SignData} {octets : List ℕ} {before behind : L
         }
 
   -- an item that is no setting was met
-  abbrev pub met_stays : (state : State) → state ≡ kept.state → SoFar words sign octets before behind at (record kept { state = state }) lines
-  met_stays _ same = record {
-    pieces = so.pieces;
-    left = so.left;
-    split = so.split;
-    plain = so.plain;
-    same_area = so.same_area;
-    laid = so.laid;
-    placed = so.placed;
-    read = subst (λ (s : State). IsReadOf words sign (items_of done) s.area.present (record kept { state = s }) lines) (sym same) so.read;
-  }
+  pub met_stays : (state : State) → state ≡ kept.state → SoFar words sign octets before behind at (record kept { state = state }) lines
+  met_stays state same = subst (λ (s : State). SoFar words sign octets before behind at (record kept { state = s }) lines) (sym same) so
 
   -- a setting is passed
   pub setting_read : IsSound sign → {octets' : List ℕ} → octets' ≡ octets → (len : ℕ) (state : State) → IsMet sign octets' at kept.state (Setting len) state → SoFar words sign octets before behind (at + len) (record kept { state = state }) lines
@@ -251,7 +217,7 @@ module _ {words : Bool} {sign : SignData} {octets : List ℕ} {before behind : L
       let it = so_next n in
       let ms = map meaning (items_of done) in
       let new : Pass = record kept { state = state } in
-      let (plain, closed, placed) = setting_is tag puts.setting in
+      let (plain, closed, placed, line, unput) = setting_is tag puts.setting in
       let of = setting_passed words sign ms kept state tag so.read.of puts in
       let passed = tag_stays words sign ms kept new tag so.read.of (next_fine it) of plain closed in
       let present : next_group kept.state (Does tag) ≡ kept.state.area.present = ap (λ b. cond b (page_number kept.state.attributes.page_just) kept.state.area.present) placed in
@@ -267,16 +233,14 @@ module _ {words : Bool} {sign : SignData} {octets : List ℕ} {before behind : L
   pub none_ends : items_of so.left ≡ [] → EndsArea (map meaning (items_of so.left))
   none_ends none = subst (λ (l : List Item). EndsArea (map meaning l)) (sym none) (inl refl)
 
-  -- an item that begins an area ends this one, and this many steps are for it
-  pub area_ended : (next : NextItem) → IsFirst (items_of so.left) (Some next) → begins_area (meant_by next.item) ≡ true → EndsArea (map meaning (items_of so.left)) × (first_steps (items_of so.left) ≡ 9 * next.len - 8)
-  area_ended next (item, rest, is, read) begins = (
-    subst (λ (l : List Item). EndsArea (map meaning l)) (sym is) (inr (meaning item, map meaning rest, ap begins_area read.meant ∙ begins, refl)),
-    ap first_steps is ∙ ap (λ n. 9 * n - 8) (sym read.len),
-  )
+  -- an item that begins an area ends this one
+  pub area_ended : (next : NextItem) → IsFirst (items_of so.left) (Some next) → begins_area (meant_by next.item) ≡ true → EndsArea (map meaning (items_of so.left))
+  area_ended next (item, rest, is, read) begins =
+      subst (λ (l : List Item). EndsArea (map meaning l)) (sym is) (inr (meaning item, map meaning rest, ap begins_area read.meant ∙ begins, refl))
 
   -- at the end no item was read
-  pub none_known : items_of so.left ≡ [] → (item : Option NextItem) → IfSome item (IsNextAt sign octets at) → (item_steps item ≡ 0) × (first_steps (items_of so.left) ≡ 1)
-  none_known none None is = (refl, ap first_steps none)
+  pub none_known : items_of so.left ≡ [] → (item : Option NextItem) → IfSome item (IsNextAt sign octets at) → item_steps item ≡ 0
+  none_known none None is = refl
   none_known none (Some next) is = let (item, rest, first, read) = is (items_of done) (items_of so.left) so.placed in let wrong : [] ≡ item ∷ rest = sym none ∙ first in absurd (cc)
 
   -- the table has all lines behind the last one
@@ -291,10 +255,9 @@ module _ {words : Bool} {sign : SignData} {octets : List ℕ} {before behind : L
       (known (present + 1) (omega arith) (present_area sign laid) (present_placing sign laid) st.area so.read.known)
 
   -- the end of the area
-  pub area_read : sign.line_fill ≡ fill_of words → (start : Cursor) (begun : Begun) (read : AreaLines) (source source' : Counted) (taken : ℕ) → start.at ≡ length (spell_of before) → EndsArea (map meaning (items_of so.left))
-      → HasCounted (present_area sign (laid_items (fill_of words) sign (map meaning (items_of done)) (map meaning (items_of done)))) read.lines → read.end ≡ at → IsFirst (items_of so.left) read.next
-      → RisesBetween source source' 0 taken → taken + 1 + item_steps begun.item ≤ 9 * (at - start.at) + first_steps (items_of so.left) → IsAreaRead sign before behind start begun read source source'
-  area_read kind start begun read source source' taken place ends counted end first steps few =
+  pub area_read : sign.line_fill ≡ fill_of words → (start : Cursor) (read : AreaLines) → start.at ≡ length (spell_of before) → EndsArea (map meaning (items_of so.left))
+      → HasCounted (laid_area words sign (map meaning (items_of done))) read.lines → read.end ≡ at → IsFirst (items_of so.left) read.next → IsInArea sign read before behind start
+  area_read kind start read place ends counted end first =
       let ms = map meaning (items_of done) in
       let rest = map meaning (items_of so.left) in
       let octets_of : length (spell_of done) ≡ length (spell_of before) + length (spell_of so.pieces) = ap length (spell_of-append before so.pieces) ∙ length-append (spell_of before) (spell_of so.pieces) in
@@ -313,10 +276,7 @@ module _ {words : Bool} {sign : SignData} {octets : List ℕ} {before behind : L
         ends = ends_laid sign done so.left so.laid ends;
         end = end ∙ long;
         next = first;
-        table = subst (λ a. HasCounted a read.lines) (sym whole) (counted_among words sign ms rest ends read.lines counted);
-        taken = taken;
-        steps = steps;
-        few = omega (arith, few, long);
+        counted = subst (λ a. HasCounted a read.lines) (sym whole) (counted_among words sign ms rest ends read.lines counted);
       }
 
 -- the first of the items that are left was met, and is no setting

@@ -3,7 +3,7 @@ use Rattle.std.proofs.Common.{◌≡◌, ℕ, ◌+◌, ◌-◌, ◌^◌, ◌<◌
 use Rattle.std.proofs.lemmas.Option.{slice_get_within}
 use Rattle.multi_token.specs.Counted.{Counted, RisesBetween, charged}
 use Rattle.multi_token.specs.Spelling.{IsPlain}
-use Rattle.multi_token.specs.Tokens.{IsTokenOf, item_of}
+use Rattle.multi_token.specs.Tokens.{item_of}
 use Rattle.multi_token.specs.declared.token.Kind.TheVariants as kinds
 use Rattle.multi_token.specs.declared.token.Token.{Token}
 use Rattle.multi_token.proofs.PlaceLemmas.{single_token}
@@ -15,16 +15,16 @@ use Rattle.multi_meaning.specs.kept.ItemAt.{IsFaultAt, IsItemAt}
 use Rattle.multi_meaning.specs.Laid.{too_big}
 use Rattle.multi_meaning.specs.Meaning.{Meaning, Shows, meaning}
 use Rattle.multi_meaning.specs.Offence.{offence}
-use Rattle.multi_meaning.specs.Verdict.{IsVerdict, Refused}
+use Rattle.multi_meaning.specs.Verdict.{IsVerdict, Refused, pages_of}
 use Rattle.multi_meaning.proofs.OffenceLemmas.{offence-faulty}
 use Rattle.multi_layout.specs.kept.Told.{IsRefused, IsTold}
-use Rattle.multi_judge.specs.Judging.{IsAt, IsBehind}
+use Rattle.multi_judge.specs.Judging.{IsAt, IsBehind, ReadSoFar}
 use Rattle.multi_judge.proofs.ReadLemmas.{nothing_read, read_more, refused_at_bracket, refused_here, accepted_at_end, at_end, cycle_at_end}
 use Rattle.multi_judge.specs.declared.pass.Pass.{Pass}
-use Rattle.multi_judge.specs.declared.state.State.{State}
-use Rattle.multi_judge.specs.FilledState.{IsFilledFor}
 use Rattle.multi_judge.specs.PassState.{IsPassOf}
-use Rattle.multi_judge.specs.State.{IsUnfilledOf, whole_times}
+use Rattle.multi_judge.specs.State.{attributes_of, whole_times}
+use Rattle.multi_meaning.specs.Address.{standing}
+use Rattle.multi_meaning.specs.Times.{cycle, ended_times}
 use Rattle.multi_judge.proofs.FilledJudgedLemmas.{attributes_here}
 use Rattle.multi_judge.proofs.FilledReadLemmas.{kept_pages, kept_times}
 
@@ -52,92 +52,75 @@ module _ (sign : SignData) (octets : List ℕ) (at first : ℕ) (IsKept : List M
   abbrev so_far : List Meaning
   so_far = map meaning i.so_far.items
 
-  -- an octet that stands for itself
-  module _ (plain : IsPlain first) (judged : Counted) (count : ℕ) (few : count ≤ 5) (step : judged ≡ charged source count) where
-    abbrev token : Token
-    token = record { at = at; len = 1; kind = kinds.Char first }
-
-    stands : IsTokenOf octets token
-    stands = single_token octets at first (omega (arith, short)) here plain
-
-    steps : judged.steps ≡ (charged source count).steps
-    steps = ap (λ (s : Counted). s.steps) step
-
-    same : judged.octets ≡ octets
-    same = ap (λ (s : Counted). s.octets) step ∙ i.same
-
-    pub octet_offends : (error : SyntaxError) → offence sign.line_fill sign so_far (Shows first) ≡ Some (code_of error) → IsRefused sign octets (record { error = error; at = at }) judged
-    octet_offends error offends =
-        let least = i.least in
-        let most = i.most in
-        record {
-          verdict = refused_here sign octets at IsKept i.so_far token refl stands (code_of error) offends;
-          same = same;
-          least = omega (arith, steps, few, least, most, before, short);
-          most = omega (arith, steps, few, least, most, before, short);
-        }
-
-    pub octet_behind : (IsNow : List Meaning → Type 0) → offence sign.line_fill sign so_far (Shows first) ≡ None → IsNow (so_far ++ Shows first ∷ []) → IsBehind sign judged.octets (at + 1) IsNow judged
-    octet_behind IsNow fine is =
-        let least = i.least in
-        let most = i.most in
-        subst (λ (os : List ℕ). IsBehind sign os (at + 1) IsNow judged) (sym same) (record {
-          so_far = read_more sign octets at IsKept i.so_far token refl stands IsNow fine is;
-          same = same;
-          least = omega (arith, steps, few, least, most, before, short);
-          most = omega (arith, steps, few, least, most, before, short);
-        })
-
   -- an item of these octets, judged in at most so many steps
   module _ (len : ℕ) (means : Meaning) (item : IsItemAt octets at len means) (judged : Counted) (rises : RisesBetween source judged (len - 1) (9 * len - 1)) where
-    abbrev t : Token
-    t = item.0
+    steps : judged.steps ≡ (charged source rises.0).steps
+    steps = ap (λ (s : Counted). s.steps) rises.3
 
-    steps_there : judged.steps ≡ (charged source rises.0).steps
-    steps_there = ap (λ (s : Counted). s.steps) rises.3
+    same : judged.octets ≡ octets
+    same = ap (λ (s : Counted). s.octets) rises.3 ∙ i.same
 
-    same_there : judged.octets ≡ octets
-    same_there = ap (λ (s : Counted). s.octets) rises.3 ∙ i.same
+    ends : (at + len ≤ length octets) × (1 ≤ len)
+    ends =
+        let (t, at_is, len_is, token, meant) = item in
+        (omega (arith, at_is, len_is, token.within), omega (arith, len_is, token.len, spelling_some (item_of octets t)))
+
+    bounds : (at + len ≤ judged.steps) × (judged.steps ≤ 9 * (at + len))
+    bounds =
+        let few = rises.2 in
+        let fewest = rises.1 in
+        (omega (arith, steps, ends, few, fewest, i.least, i.most, short), omega (arith, steps, ends, few, i.most, short))
 
     pub item_offends : (error : SyntaxError) → offence sign.line_fill sign so_far means ≡ Some (code_of error) → IsRefused sign octets (record { error = error; at = at }) judged
     item_offends error offends =
         let (t, at_is, len_is, token, meant) = item in
-        let within = token.within in
-        let long = token.len in
-        let some = spelling_some (item_of octets t) in
-        let few = rises.2 in
-        let fewest = rises.1 in
-        let least = i.least in
-        let most = i.most in
         record {
           verdict = refused_here sign octets at IsKept i.so_far t at_is token (code_of error) (ap (offence sign.line_fill sign so_far) meant ∙ offends);
-          same = same_there;
-          least = omega (arith, steps_there, len_is, within, long, some, few, fewest, least, most, short);
-          most = omega (arith, at_is, steps_there, len_is, within, long, some, few, least, most, short);
+          same = same;
+          least = omega (arith, bounds, ends);
+          most = omega (arith, bounds, ends);
         }
 
-    pub item_behind : (IsNow : List Meaning → Type 0) → offence sign.line_fill sign so_far means ≡ None → IsNow (so_far ++ means ∷ [])
-        → (next : Option ℕ) (behind : Counted) → next ≡ slice_get judged.octets (at + len) → behind ≡ charged judged 1 → (at < at + len) × IsAt sign octets (at + len) next IsNow behind
-    item_behind IsNow fine is next behind next_is step =
+    items_more : (IsNow : List Meaning → Type 0) → offence sign.line_fill sign so_far means ≡ None → IsNow (so_far ++ means ∷ []) → ReadSoFar sign octets (at + len) IsNow
+    items_more IsNow fine is =
         let (t, at_is, len_is, token, meant) = item in
-        let steps : behind.steps ≡ (charged judged 1).steps = ap (λ (s : Counted). s.steps) step in
-        let within = token.within in
-        let long = token.len in
-        let some = spelling_some (item_of octets t) in
-        let few = rises.2 in
-        let fewest = rises.1 in
-        let least = i.least in
-        let most = i.most in (
-          omega (arith, len_is, long, some),
-          record {
-            so_far = rw len_is at (read_more sign octets at IsKept i.so_far t at_is token IsNow (ap (offence sign.line_fill sign so_far) meant ∙ fine)
-                (subst (λ (m : Meaning). IsNow (so_far ++ m ∷ [])) (sym meant) is));
-            octet = next_is ∙ ap (λ o. slice_get o (at + len)) same_there;
-            same = ap (λ (s : Counted). s.octets) step ∙ same_there;
-            least = omega (arith, at_is, steps, steps_there, len_is, within, long, some, few, fewest, least, most, short);
-            most = omega (arith, at_is, steps, steps_there, len_is, within, long, some, few, least, most, short);
-          },
-        )
+        rw len_is at (read_more sign octets at IsKept i.so_far t at_is token IsNow (ap (offence sign.line_fill sign so_far) meant ∙ fine) (subst (λ (m : Meaning). IsNow (so_far ++ m ∷ [])) (sym meant) is))
+
+    pub item_behind : (IsNow : List Meaning → Type 0) → offence sign.line_fill sign so_far means ≡ None → IsNow (so_far ++ means ∷ [])
+        → (next : Option ℕ) (behind : Counted) → next ≡ slice_get judged.octets (at + len) → behind ≡ charged judged 1 → IsAt sign octets (at + len) next IsNow behind
+    item_behind IsNow fine is next behind next_is step =
+        let more : behind.steps ≡ (charged judged 1).steps = ap (λ (s : Counted). s.steps) step in
+        record {
+          so_far = items_more IsNow fine is;
+          octet = next_is ∙ ap (λ o. slice_get o (at + len)) same;
+          same = ap (λ (s : Counted). s.octets) step ∙ same;
+          least = omega (arith, more, bounds, ends, short);
+          most = omega (arith, more, bounds, ends, short);
+        }
+
+  -- an octet that stands for itself, judged in two steps
+  module _ (plain : IsPlain first) (judged : Counted) (step : judged ≡ charged source 2) where
+    itself : IsItemAt octets at 1 (Shows first)
+    itself =
+        let token : Token = record { at = at; len = 1; kind = kinds.Char first } in
+        (token, refl, refl, single_token octets at first (omega (arith, short)) here plain, refl)
+
+    rises_two : RisesBetween source judged 0 8
+    rises_two = (2, omega arith, omega arith, step)
+
+    pub octet_offends : (error : SyntaxError) → offence sign.line_fill sign so_far (Shows first) ≡ Some (code_of error) → IsRefused sign octets (record { error = error; at = at }) judged
+    octet_offends error offends = item_offends 1 (Shows first) itself judged rises_two error offends
+
+    pub octet_behind : (IsNow : List Meaning → Type 0) → offence sign.line_fill sign so_far (Shows first) ≡ None → IsNow (so_far ++ Shows first ∷ []) → IsBehind sign judged.octets (at + 1) IsNow judged
+    octet_behind IsNow fine is =
+        let steps_two : judged.steps ≡ (charged source 2).steps = ap (λ (s : Counted). s.steps) step in
+        let all = same 1 (Shows first) itself judged rises_two in
+        subst (λ (os : List ℕ). IsBehind sign os (at + 1) IsNow judged) (sym all) (record {
+          so_far = items_more 1 (Shows first) itself judged rises_two IsNow fine is;
+          same = all;
+          least = omega (arith, bounds 1 (Shows first) itself judged rises_two);
+          most = omega (arith, steps_two, i.most, before, short);
+        })
 
   -- a bracket with which no item begins, or a tag at fault
   pub fault_refused : (error : SyntaxError) → IsFaultAt octets at (code_of error) → (behind : Counted) → RisesBetween source behind 0 (4 * (length octets - at)) → IsRefused sign octets (record { error = error; at = at }) behind
@@ -161,38 +144,23 @@ module _ (sign : SignData) (octets : List ℕ) (at first : ℕ) (IsKept : List M
 
 -- WHAT IS TOLD AT THE END
 
--- where lines aren't filled
-unfilled_told : (sign : SignData) (octets : List ℕ) (at : ℕ) (state : State) (source : Counted) → IsAt sign octets at None (IsUnfilledOf sign state) source → IsTold sign octets state.pages (whole_times state) source
-unfilled_told sign octets at state source i =
-    let end = at_end octets at i.so_far.within (sym i.octet) in
-    let of = i.so_far.is.state_is in
-    let least = i.least in
-    let most = i.most in
-    record {
-      verdict = accepted_at_end sign octets at (IsUnfilledOf sign state) i.so_far end state.pages of.pages;
-      cycle = cycle_at_end sign octets at (IsUnfilledOf sign state) i.so_far end state of.times of.attributes;
-      same = i.same;
-      least = omega (arith, least, end);
-      most = omega (arith, most, end);
-    }
-
--- where they are
-filled_told : (sign : SignData) (octets : List ℕ) (at : ℕ) (kept : Pass) (source : Counted) → IsAt sign octets at None (IsFilledFor sign kept) source → IsTold sign octets kept.state.pages (whole_times kept.state) source
-filled_told sign octets at kept source i =
-    let end = at_end octets at i.so_far.within (sym i.octet) in
-    let items = map meaning i.so_far.items in
-    let of = i.so_far.is.of in
-    let least = i.least in
-    let most = i.most in
-    record {
-      verdict = accepted_at_end sign octets at (IsFilledFor sign kept) i.so_far end kept.state.pages (kept_pages sign items kept of);
-      cycle = cycle_at_end sign octets at (IsFilledFor sign kept) i.so_far end kept.state (kept_times sign items kept of) (attributes_here sign items kept of);
-      same = i.same;
-      least = omega (arith, least, end);
-      most = omega (arith, most, end);
-    }
+-- the state has the pages and times of its items, and the values in force behind them
+told : (words : Bool) (sign : SignData) (pass : Pass) (items : List Meaning) → IsPassOf words sign pass items
+    → (pass.state.pages ≡ pages_of items) × (pass.state.cycle ≡ cycle (ended_times sign items)) × (pass.state.attributes ≡ attributes_of (standing sign items))
+told true sign pass items p = (kept_pages sign items pass p.of, kept_times sign items pass p.of, attributes_here sign items pass p.of)
+told false sign pass items p = (p.state_is.pages, p.state_is.times, p.state_is.attributes)
 
 -- what is told of a string where all its items are read
 pub pass_told : (sign : SignData) (octets : List ℕ) (at : ℕ) (pass : Pass) (words : Bool) (source : Counted) → IsAt sign octets at None (IsPassOf words sign pass) source → IsTold sign octets pass.state.pages (whole_times pass.state) source
-pass_told sign octets at pass true source i = filled_told sign octets at pass source i
-pass_told sign octets at pass false source i = unfilled_told sign octets at pass.state source i
+pass_told sign octets at pass words source i =
+    let end = at_end octets at i.so_far.within (sym i.octet) in
+    let (pages, times, attributes) = told words sign pass (map meaning i.so_far.items) i.so_far.is in
+    let least = i.least in
+    let most = i.most in
+    record {
+      verdict = accepted_at_end sign octets at (IsPassOf words sign pass) i.so_far end pass.state.pages pages;
+      cycle = cycle_at_end sign octets at (IsPassOf words sign pass) i.so_far end pass.state times attributes;
+      same = i.same;
+      least = omega (arith, least, end);
+      most = omega (arith, most, end);
+    }

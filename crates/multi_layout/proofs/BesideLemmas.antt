@@ -1,14 +1,11 @@
 -- A character stands beside the one before it, where both have the same attributes.
-use Rattle.std.proofs.Common.{◌≡◌, ℕ, ◌+◌, ◌-◌, ◌^◌, ◌<◌, ◌≤◌, Bool, true, false, cond, ◌&&◌, ◌||◌, ◌==◌, List, [], ◌∷◌, ◌++◌, length, take, map, Option, Some, None, slice_get, refl, sym, ap, subst, ◌∙◌, arith, append_assoc, append-nil}
+use Rattle.std.proofs.Common.{◌≡◌, ℕ, ◌+◌, ◌-◌, ◌^◌, ◌<◌, ◌≤◌, Bool, true, false, cond, ◌&&◌, ◌||◌, ◌==◌, List, [], ◌∷◌, ◌++◌, length, take, map, Option, Some, None, slice_get, refl, sym, ap, subst, ◌∙◌, arith, append_assoc}
 use Rattle.std.specs.Prelude.{slice_index_or, if◌then◌else◌}
 use Rattle.std.specs.List.{after_last, count_by}
 use Rattle.std.specs.Option.{option_map, option_map_or, unwrap_or}
 use Rattle.std.proofs.lemmas.Bool.{eq-eqb}
 use Rattle.std.proofs.lemmas.List.Sums.{sum_by_push}
-use Rattle.multi_token.specs.Spelling.{IsPlain, is_bracket}
-use Rattle.multi_token.specs.declared.token.Token.{Token}
-use Rattle.multi_token.specs.declared.token.Kind.TheVariants as kinds
-use Rattle.multi_token.proofs.PlaceLemmas.{single_token}
+use Rattle.multi_token.specs.Spelling.{IsPlain}
 use Rattle.multi_tag.specs.declared.just.LineJust.{LineJust}
 use Rattle.multi_tag.specs.declared.just.LineJust.TheVariants.{Left, Centre, Right, Full}
 use Rattle.multi_tag.specs.Just.{line_number, page_number}
@@ -19,7 +16,7 @@ use Rattle.sign_font.specs.Sign.{SignData, CellData, cell_in, cell_numbered}
 use Rattle.multi_meaning.specs.declared.place.Place.{Place}
 use Rattle.multi_meaning.specs.Address.{Glyph, Put, Spot, Standing, group_of, in_area, in_group, is_break, is_glyph, line_before, lines_of, segment, spots, standing}
 use Rattle.multi_meaning.specs.Line.{char_gap, glyph_width, height_of, width_of}
-use Rattle.multi_meaning.specs.Meaning.{Meaning, Shows, begins_area}
+use Rattle.multi_meaning.specs.Meaning.{Meaning, Shows}
 use Rattle.multi_meaning.specs.Offence.{unsized_offence}
 use Rattle.multi_meaning.specs.Place.{place_of, spread, start}
 use Rattle.multi_meaning.proofs.GroupLemmas.{glyph_put, own_group, filter_yes}
@@ -33,20 +30,26 @@ use Rattle.multi_judge.specs.declared.item.KnownItem.TheVariants as known
 use Rattle.multi_judge.specs.declared.item.NextItem.{NextItem}
 use Rattle.multi_layout.specs.declared.paint.Layer.{Layer}
 use Rattle.multi_judge.specs.declared.state.State.{State}
-use Rattle.multi_judge.specs.declared.table.LineTable.{LineTable}
-use Rattle.multi_layout.specs.kept.AreaDrawing.{BeginsNoArea, HasCounted, whole_area}
-use Rattle.multi_layout.specs.kept.RunDrawing.{DrawsCharacter, AreaSoFar, NextStandsAt}
-use Rattle.multi_layout.specs.kept.Cursors.{IsBetween, IsRead, LaidItem, items_of, meant, spell_of}
+use Rattle.multi_layout.specs.declared.read.AreaLines.{AreaLines}
+use Rattle.multi_layout.specs.kept.AreaDrawing.{HasCounted, IsAreaDrawn}
+use Rattle.multi_layout.specs.kept.RunDrawing.{DrawsCharacter, IsNextDrawn, IsRunDrawn, NextStandsAt, StandsAt}
+use Rattle.multi_layout.specs.kept.Cursors.{IsBetween, IsRead, meant}
 use Rattle.multi_judge.specs.Run.{IsBehindCharacter, lengthened, line_in_force}
 use Rattle.multi_judge.specs.State.{IsStateOf}
-use Rattle.multi_layout.proofs.AreaDrawLemmas.{area_begins, area_left, area_more, area_next, none_first}
-use Rattle.multi_layout.proofs.DrawLemmas.{glyph_drawn, map_split, glyph_found}
+use Rattle.multi_layout.proofs.AreaDrawLemmas.{area_more, next_here}
+use Rattle.multi_layout.proofs.DrawLemmas.{glyph_found, stands_at}
+use Rattle.multi_judge.specs.KnownItem.{meant_by}
+use Rattle.multi_judge.specs.Placing.{PlacesCharacter}
+use Rattle.multi_judge.specs.State.{attributes_of}
+use Rattle.multi_judge.specs.Sums.{area_sum}
+use Rattle.multi_judge.specs.Table.{group_lines}
+use Rattle.multi_meaning.specs.kept.Present.{present_area}
+use Rattle.sign_font.specs.Text.{width_in}
 use Rattle.multi_judge.proofs.GroupSumLemmas.{present_push}
 use Rattle.multi_judge.proofs.JudgedLemmas.{unsized-undefined}
-use Rattle.multi_layout.proofs.PieceLemmas.{first_piece, no_piece, read_unfilled}
-use Rattle.multi_judge.proofs.ReadLemmas.{at_end}
+use Rattle.multi_layout.proofs.PieceLemmas.{read_unfilled}
 use Rattle.multi_judge.proofs.RunLemmas.{average_same, state_beside}
-use Rattle.multi_layout.proofs.WalkLemmas.{between_more, item_is, never_offends, none_at_end, within}
+use Rattle.multi_layout.proofs.WalkLemmas.{between_more, map_split, never_offends, octet_next}
 
 -- a value that is only there on a full line
 not_full : (b : Bool) (n : ℕ) → b ≡ false → cond b n 0 ≡ 0
@@ -171,95 +174,93 @@ beside_stands sign items state st number cell found all place gap apart gap_is s
     subst (λ n. NextStandsAt sign (items ++ Shows number ∷ []) all (record { column = place.column + (n + gap); row = place.row })) width
     (next_stands sign items number c all place gap numbered (λ e. apart (just ∙ e)) (stands c numbered) between)
 
--- ONE MORE CHARACTER OF A RUN
+-- ONE MORE CHARACTER
 
--- what is drawn of an area so far, and where one more character stands
-pub record RunSoFar (sign : SignData) (octets : List ℕ) (before area rest : List LaidItem) (lines : LineTable) (layer : Layer) (cursor : Cursor) (place : Place) (old new : BitPlane) : Type 0 where
-  pub so_far : AreaSoFar sign octets before area rest lines layer cursor old new
-  pub stands : NextStandsAt sign (map meant (before ++ so_far.done)) (map meant (before ++ (area ++ rest))) place
+-- what is read of it
+pub seen : {sign : SignData} {octets : List ℕ} {layer : Layer} {page : ℕ} {read : AreaLines} {next : NextItem} {cursor : Cursor} {plane : BitPlane} (n : IsNextDrawn sign octets layer page read next cursor plane)
+    → {number : ℕ} → next.item ≡ known.Char number → IsRead n.item (record { item = known.Char number; len = next.len })
+seen n is = record { meant = n.read_is.meant ∙ ap meant_by is; len = n.read_is.len }
 
--- none is drawn
-pub run_begins : (sign : SignData) (octets : List ℕ) (before area rest : List LaidItem) (lines : LineTable) (layer : Layer) (cursor : Cursor) (place : Place) (old : BitPlane) → IsBetween sign octets before (area ++ rest) cursor
-    → BeginsNoArea area → HasCounted (whole_area sign before (area ++ rest)) lines → NextStandsAt sign (map meant before) (map meant (before ++ (area ++ rest))) place
-    → RunSoFar sign octets before area rest lines layer cursor place old old
-run_begins sign octets before area rest lines layer cursor place old b plain counted stands = record {
-  so_far = area_begins sign octets before area rest lines layer old cursor b plain counted;
-  stands = subst (λ l. NextStandsAt sign (map meant l) (map meant (before ++ (area ++ rest))) place) (sym (append-nil before)) stands;
-}
+pub own_width : (sign : SignData) (font number : ℕ) {cell : SizedCell} {width : ℕ} → cell_in sign font number ≡ Some cell → width ≡ cell.width → width_in sign font number ≡ Some width
+own_width sign font number found wide = ap (option_map (λ (c : SizedCell). c.width)) found ∙ ap Some (sym wide)
 
--- an octet that is no bracket stands for itself
-pub no_bracket : (octet : ℕ) → is_bracket octet ≡ false → IsPlain octet
-no_bracket octet none =
-    (λ e. let wrong : true ≡ false = ap is_bracket (sym e) ∙ none in absurd cc, λ e. let wrong : true ≡ false = ap is_bracket (sym e) ∙ none in absurd cc)
+module _ {sign : SignData} {octets : List ℕ} {layer : Layer} {page : ℕ} {read : AreaLines} {next : NextItem} {cursor : Cursor} {plane : BitPlane} (n : IsNextDrawn sign octets layer page read next cursor plane)
+    (number : ℕ) (shows : meant n.item ≡ Shows number) (cursor' : Cursor) (between : IsBetween sign octets (n.before ++ n.item ∷ []) n.rest cursor') where
+  with : map meant (n.before ++ n.item ∷ []) ≡ map meant n.before ++ Shows number ∷ []
+  with = map_split n.before [] n.item (Shows number) shows
 
--- before the end of the area an octet stands
-pub octet_stands : (sign : SignData) (octets : List ℕ) (before area rest : List LaidItem) (lines : LineTable) (layer : Layer) (cursor : Cursor) (old new : BitPlane)
-    → AreaSoFar sign octets before area rest lines layer cursor old new → (end : ℕ) → end ≡ length (spell_of before) + length (spell_of area) → cursor.at < end → slice_get octets cursor.at ≡ None → ⊥
-octet_stands sign octets before area rest lines layer cursor old new s end ends before_end none =
-    let placed = s.between.placed in
-    none_first sign octets before area rest lines layer old cursor new s end ends before_end
-    (no_piece (s.left ++ rest) (none_at_end sign octets (items_of (before ++ s.done)) (items_of (s.left ++ rest)) cursor.at placed
-    (sym (at_end octets cursor.at (within sign octets (items_of (before ++ s.done)) (items_of (s.left ++ rest)) cursor.at placed) none))))
+  -- it leaves the attributes
+  pub same_attributes : cursor'.state.attributes ≡ cursor.state.attributes
+  same_attributes =
+      between.state_is.attributes ∙ ap (λ ms. attributes_of (standing sign ms)) with ∙ ap attributes_of (same_standing sign (map meant n.before) number) ∙ sym n.up_to.between.state_is.attributes
 
-module _ (sign : SignData) (octets : List ℕ) (before area rest : List LaidItem) (lines : LineTable) (layer : Layer) (cursor : Cursor) (place : Place) (old new : BitPlane)
-    (r : RunSoFar sign octets before area rest lines layer cursor place old new) (end : ℕ) (ends : end ≡ length (spell_of before) + length (spell_of area)) (before_end : cursor.at < end)
-    (off : sign.line_fill ≡ Off) (octet : ℕ) (room : length octets < 2 ^ 63) (here : slice_get octets cursor.at ≡ Some octet) (plain : IsPlain octet) where
-  abbrev done : List LaidItem
-  done = r.so_far.done
+  -- and stands at its place
+  pub next_stands_at : (cell : SizedCell) → cell_in sign cursor.state.attributes.font.number number ≡ Some cell → (place : Place)
+      → PlacesCharacter cursor.state.attributes cursor'.state.area (group_lines (page_number cursor.state.attributes.page_just) read.lines) cell.width place
+      → StandsAt sign (map meant n.before) number (map meant n.rest) place
+  next_stands_at cell found place placed =
+      let items = map meant n.before in
+      let b = n.up_to.between in
+      let lines = subst (λ (ms : List Meaning). HasCounted (in_area (standing sign items).area (spots sign ms)) read.lines) (map_split n.before n.rest n.item (Shows number) shows) n.left.counted in
+      stands_at sign items cursor.state b.state_is number cell found (map meant n.rest) read.lines lines place cursor'.state.area (between.state_is.area ∙ ap (λ ms. area_sum (present_area sign ms)) with) placed
+      (ap (unsized_offence sign items) (sym shows) ∙ never_offends sign octets n.before n.rest n.item cursor b)
 
-  abbrev next : NextItem
-  next = record { item = known.Char octet; len = 1 }
+-- it is drawn, and the next stands beside it where the line isn't full
+module _ {sign : SignData} {octets : List ℕ} {layer : Layer} {page : ℕ} {read : AreaLines} {next : NextItem} {cursor : Cursor} {plane : BitPlane} (n : IsNextDrawn sign octets layer page read next cursor plane)
+    (number : ℕ) (shows : meant n.item ≡ Shows number) (cursor' : Cursor) (between : IsBetween sign octets (n.before ++ n.item ∷ []) n.rest cursor') (to : cursor'.at ≡ cursor.at + next.len)
+    (cell : SizedCell) (found : cell_in sign cursor.state.attributes.font.number number ≡ Some cell) (place : Place) (stands : StandsAt sign (map meant n.before) number (map meant n.rest) place)
+    (plane' : BitPlane) (put : DrawsCharacter sign layer cursor.state.attributes cell place plane plane') where
+  abbrev pub character_drawn : IsAreaDrawn sign octets layer page read cursor' plane'
+  character_drawn = area_more n (Shows number) shows refl cursor' plane' between to (put (map meant n.before) (map meant n.rest) cursor.state number n.up_to.between.state_is refl found stands)
 
+  pub character_beside : (gap : ℕ) → (cursor.state.attributes.line_just ≡ Full → ⊥) → gap ≡ unwrap_or cursor.state.attributes.spacing cursor.state.attributes.font.char_spacing
+      → IsRunDrawn sign octets layer page read (record { column = place.column + (cell.width + gap); row = place.row }) cursor' plane'
+  character_beside gap apart gap_is =
+      let next_place : Place = record { column = place.column + (cell.width + gap); row = place.row } in
+      let all : map meant ((n.before ++ n.item ∷ []) ++ n.rest) ≡ map meant n.before ++ Shows number ∷ map meant n.rest = ap (map meant) (append_assoc n.before (n.item ∷ []) n.rest) ∙ map_split n.before n.rest n.item (Shows number) shows in
+      record {
+        so = character_drawn;
+        stands = subst (λ ms. NextStandsAt sign ms (map meant ((n.before ++ n.item ∷ []) ++ n.rest)) next_place) (sym (map_split n.before [] n.item (Shows number) shows))
+            (subst (λ ms. NextStandsAt sign (map meant n.before ++ Shows number ∷ []) ms next_place) (sym all)
+            (beside_stands sign (map meant n.before) cursor.state n.up_to.between.state_is number cell found (map meant n.before ++ Shows number ∷ map meant n.rest) place gap apart gap_is stands));
+      }
+
+pub run_in : {sign : SignData} {octets octets' : List ℕ} {layer : Layer} {page : ℕ} {read : AreaLines} {place : Place} {cursor : Cursor} {plane : BitPlane} → octets' ≡ octets
+    → IsRunDrawn sign octets layer page read place cursor plane → IsRunDrawn sign octets' layer page read place cursor plane
+run_in {sign} {octets} {octets'} {layer} {page} {read} {place} {cursor} {plane} same r = subst (λ o. IsRunDrawn sign o layer page read place cursor plane) (sym same) r
+
+-- ONE MORE OF A RUN
+
+module _ {sign : SignData} {octets : List ℕ} {layer : Layer} {page : ℕ} {read : AreaLines} {place : Place} {cursor : Cursor} {plane : BitPlane} (r : IsRunDrawn sign octets layer page read place cursor plane)
+    (before_end : cursor.at < read.end) (off : sign.line_fill ≡ Off) (octet : ℕ) (room : length octets < 2 ^ 63) (here : slice_get octets cursor.at ≡ Some octet) (plain : IsPlain octet) where
   -- it is the next item
-  one : (item : LaidItem) × (more : List LaidItem) × (r.so_far.left ≡ item ∷ more) × IsBetween sign octets (before ++ done) (item ∷ (more ++ rest)) cursor × IsRead item next
-      × HasCounted (whole_area sign (before ++ done) (item ∷ (more ++ rest))) lines × (begins_area (meant item) ≡ false)
+  one : (n : IsNextDrawn sign octets layer page read (record { item = known.Char octet; len = 1 }) cursor plane) × (n.before ≡ r.so.before) × (r.so.behind ≡ n.item ∷ n.rest)
   one =
-      area_next sign octets before area rest lines layer old cursor new r.so_far end ends before_end next
-      (λ earlier behind b counted.
-      let token : Token = record { at = cursor.at; len = 1; kind = kinds.Char octet } in
-      let first = item_is sign octets (items_of earlier) (items_of behind) cursor.at b.placed next (token, refl, refl, single_token octets cursor.at octet room here plain, refl) in
-      let (piece, others, is, read) = first_piece behind next first in
-      (piece, others, is, read_unfilled (subst (λ l. IsBetween sign octets earlier l cursor) is b) off read))
+      let next : NextItem = record { item = known.Char octet; len = 1 } in
+      next_here r.so before_end next next (octet_next sign octets cursor.at octet room here plain)
+      (λ before rest item b counted seen. read_unfilled b off seen)
 
-  fine : unsized_offence sign (map meant (before ++ done)) (Shows octet) ≡ None
-  fine =
-      let (item, more, is, b, read, counted, quiet) = one in
-      ap (unsized_offence sign (map meant (before ++ done))) (sym read.meant) ∙ never_offends sign octets (before ++ done) (more ++ rest) item cursor b
+  fine : unsized_offence sign (map meant one.0.before) (Shows octet) ≡ None
+  fine = ap (unsized_offence sign (map meant one.0.before)) (sym one.0.read_is.meant) ∙ never_offends sign octets one.0.before one.0.rest one.0.item cursor one.0.up_to.between
 
   -- it has a cell
   pub has_cell : cell_in sign cursor.state.attributes.font.number octet ≡ None → ⊥
   has_cell none =
-      let wrong : ◌≡◌ {A = Option ℕ} (Some 7) None = sym (unsized-undefined sign (map meant (before ++ done)) cursor.state r.so_far.between.state_is octet none) ∙ fine in
+      let wrong : ◌≡◌ {A = Option ℕ} (Some 7) None = sym (unsized-undefined sign (map meant one.0.before) cursor.state one.0.up_to.between.state_is octet none) ∙ fine in
       absurd cc
 
-  module _ (behind : IsBehindCharacter cursor.state) (apart : cursor.state.attributes.line_just ≡ Full → ⊥) (gap : ℕ) (gap_is : gap ≡ unwrap_or cursor.state.attributes.spacing cursor.state.attributes.font.char_spacing) (narrow : gap ≤ 255)
-      (cell : SizedCell) (found : cell_in sign cursor.state.attributes.font.number octet ≡ Some cell) (small : cell.width ≤ 64) (new' : BitPlane)
-      (put : DrawsCharacter sign layer cursor.state.attributes cell place new new') where
-    abbrev behind_it : Cursor
-    behind_it = record {
-      at = cursor.at + 1;
-      state = lengthened ((line_in_force cursor.state).part.width + (gap + cell.width)) ((line_in_force cursor.state).part.count + 1) cursor.state;
-    }
-
-    abbrev beside_it : Place
-    beside_it = record { column = place.column + (cell.width + gap); row = place.row }
-
-    -- it is drawn, and lengthens the run
-    pub run_more : RunSoFar sign octets before area rest lines layer behind_it beside_it old new'
-    run_more =
-        let (item, more, is, b, read, counted, quiet) = one in
-        let items = map meant (before ++ done) in
-        let shows : meant item ≡ Shows octet = read.meant in
-        let left : before ++ (area ++ rest) ≡ (before ++ done) ++ item ∷ (more ++ rest) = area_left sign octets before area rest lines layer old cursor new r.so_far end ends item more is in
-        let whole : map meant (before ++ (area ++ rest)) ≡ items ++ Shows octet ∷ map meant (more ++ rest) = ap (map meant) left ∙ map_split (before ++ done) (more ++ rest) item (Shows octet) shows in
-        let stands = λ (c : CellData). sym (r.stands (record { at = standing sign items; put = Glyph c }) refl refl) in
-        let st = state_beside cursor.state behind gap gap_is cell sign items b.state_is octet found narrow small fine in
-        let between = between_more sign octets (before ++ done) (more ++ rest) item cursor b behind_it (ap (λ n. cursor.at + n) read.len) (subst (λ (m : Meaning). IsStateOf sign (items ++ m ∷ []) behind_it.state) (sym shows) st) in
-        let drawn = glyph_drawn sign layer (before ++ done) (more ++ rest) item octet shows new new'
-        (put items (map meant (more ++ rest)) cursor.state octet b.state_is refl found (λ c numbered. stands c ∙ ap (λ ms. place_of (spots sign items) (spots sign ms) (record { at = standing sign items; put = Glyph c })) whole)) in
-        let one_more : map meant (before ++ (done ++ item ∷ [])) ≡ items ++ Shows octet ∷ [] = ap (map meant) (sym (append_assoc before done (item ∷ []))) ∙ map_split (before ++ done) [] item (Shows octet) shows in
-        record {
-          so_far = area_more sign octets before area rest lines layer old cursor new r.so_far end ends item more is behind_it new' between drawn;
-          stands = subst (λ ms. NextStandsAt sign ms (map meant (before ++ (area ++ rest))) beside_it) (sym one_more)
-              (beside_stands sign items cursor.state b.state_is octet cell found (map meant (before ++ (area ++ rest))) place gap apart gap_is (λ c numbered. stands c));
-        }
+  -- it is drawn, and lengthens the run
+  pub run_more : IsBehindCharacter cursor.state → (cursor.state.attributes.line_just ≡ Full → ⊥) → (gap : ℕ) → gap ≡ unwrap_or cursor.state.attributes.spacing cursor.state.attributes.font.char_spacing → gap ≤ 255
+      → (cell : SizedCell) → cell_in sign cursor.state.attributes.font.number octet ≡ Some cell → cell.width ≤ 64 → (plane' : BitPlane) → DrawsCharacter sign layer cursor.state.attributes cell place plane plane'
+      → IsRunDrawn sign octets layer page read (record { column = place.column + (cell.width + gap); row = place.row })
+      (record { at = cursor.at + 1; state = lengthened ((line_in_force cursor.state).part.width + (gap + cell.width)) ((line_in_force cursor.state).part.count + 1) cursor.state }) plane'
+  run_more behind apart gap gap_is narrow cell found small plane' put =
+      let (n, same, split) = one in
+      let before = map meant n.before in
+      let cursor' : Cursor = record { at = cursor.at + 1; state = lengthened ((line_in_force cursor.state).part.width + (gap + cell.width)) ((line_in_force cursor.state).part.count + 1) cursor.state } in
+      let shows : meant n.item ≡ Shows octet = n.read_is.meant in
+      let st = state_beside cursor.state behind gap gap_is cell sign before n.up_to.between.state_is octet found narrow small fine in
+      let between = between_more sign octets n.before n.rest n.item cursor n.up_to.between cursor' (ap (λ k. cursor.at + k) n.read_is.len) (subst (λ (m : Meaning). IsStateOf sign (before ++ m ∷ []) cursor'.state) (sym shows) st) in
+      let all : map meant (r.so.before ++ r.so.behind) ≡ before ++ Shows octet ∷ map meant n.rest = (λ i. map meant (sym same i ++ split i)) ∙ map_split n.before n.rest n.item (Shows octet) shows in
+      let here : NextStandsAt sign before (before ++ Shows octet ∷ map meant n.rest) place = subst (λ l. NextStandsAt sign (map meant l) (before ++ Shows octet ∷ map meant n.rest) place) (sym same) (subst (λ ms. NextStandsAt sign (map meant r.so.before) ms place) all r.stands) in
+      character_beside n octet shows cursor' between refl cell found place (λ c numbered. sym (here (record { at = standing sign before; put = Glyph c }) refl refl)) plane' put gap apart gap_is

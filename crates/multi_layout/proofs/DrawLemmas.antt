@@ -5,7 +5,7 @@ use Rattle.std.specs.Option.{unwrap_or, option_map}
 use Rattle.std.specs.Str.{str_to_ascii_lowercase}
 use Rattle.std.proofs.Math.Nat.{le-mul_of_pos_right}
 use Rattle.std.proofs.lemmas.Option.{same_Some}
-use Rattle.std.proofs.lemmas.List.{length-append, length-map, map-append}
+use Rattle.std.proofs.lemmas.List.{length-append, length-map}
 use Rattle.multi_token.specs.Spelling as spelled
 use Rattle.multi_token.specs.Spelling.{spelling}
 use Rattle.multi_tag.specs.Body.{Spells, SpellsSmall, table}
@@ -27,7 +27,7 @@ use Rattle.multi_meaning.specs.Drawn.{has_colour}
 use Rattle.multi_meaning.specs.Drawn as drawn
 use Rattle.multi_meaning.specs.Picture.{shown_colour, is_lit_at}
 use Rattle.multi_meaning.proofs.DrawnLemmas.{covered_cover, covered_same, covered_glyph}
-use Rattle.std.proofs.lemmas.Bool.{false≢true, eq-eqb}
+use Rattle.std.proofs.lemmas.Bool.{eq-eqb}
 use Rattle.multi_meaning.proofs.MeaningLemmas.{does_tag}
 use Rattle.multi_meaning.proofs.SpotsLemmas.{same_page_behind, area_with_glyph}
 use Rattle.multi_layout.specs.declared.cursor.Cursor.{Cursor}
@@ -35,8 +35,7 @@ use Rattle.multi_layout.specs.declared.paint.Layer.{Layer}
 use Rattle.multi_judge.specs.declared.state.State.{State}
 use Rattle.multi_judge.specs.declared.attributes.Attributes.{Attributes}
 use Rattle.multi_layout.specs.Limits.{plane_octets}
-use Rattle.multi_judge.specs.KnownItem.{is_setting}
-use Rattle.multi_layout.specs.kept.AreaDrawing.{DrawsGlyph, DrawsOn, IsDrawnTo, IsFilledBy, IsQuiet, HasCounted}
+use Rattle.multi_layout.specs.kept.AreaDrawing.{HasCounted, IsCountedBy, IsDrawnTo, IsFilledBy, IsQuiet}
 use Rattle.multi_judge.specs.State.{IsStateOf}
 use Rattle.multi_judge.specs.Sums.{IsBelow, area_sum}
 use Rattle.multi_layout.specs.kept.Cursors.{IsBetween, meant, LaidItem}
@@ -49,7 +48,6 @@ use Rattle.multi_meaning.proofs.StateLemmas.{present_area-placing}
 use Rattle.multi_meaning.specs.declared.place.Place.{Place}
 use Rattle.multi_meaning.specs.Place.{place_of}
 use Rattle.multi_meaning.specs.kept.Present.{present_area}
-use Rattle.multi_meaning.proofs.CellLemmas.{covers}
 use Rattle.multi_meaning.specs.Offence.{unsized_offence}
 use Rattle.multi_tag.proofs.JustLemmas.{page_number_known}
 use Rattle.multi_judge.specs.declared.area.Area.{Area}
@@ -111,74 +109,35 @@ module _ (sign : SignData) (before : List Meaning) (state : State) (st : IsState
         (no_clash (spots sign before) spot (page_number at.page_just) refl refl (no_conflict sign before number cell numbered fine))
         (no_back (spots sign before) spot (page_number state.attributes.page_just) _ (sym page) refl (no_conflict sign before number cell numbered fine))
 
-  -- the pixels of a character that is lit
-  module _ (rest : List Meaning) (layer : Layer) (place : Place) (stands : StandsAt sign before number rest place) where
-    -- a character that is lit covers the pixels of its cell
-    pub lit_drawn : (old new : BitPlane) (on : Bool) → is_lit_at layer.phase state.attributes.flash ≡ true → on ≡ (shown_colour sign state.attributes.fore == layer.colour)
-        → new.width ≡ old.width → new.height ≡ old.height
-        → ((x y : ℕ) → x < old.width → y < old.height → is_lit new x y ≡ cond (covers c place.column place.row x y) on (is_lit old x y))
-        → IsDrawnTo sign layer (before ++ Shows number ∷ rest) before old → IsDrawnTo sign layer (before ++ Shows number ∷ rest) (before ++ Shows number ∷ []) new
-    lit_drawn old new on lit colour width tall pixels drawn = λ x y across down.
-        let at = standing sign before in
-        let all = spots sign (before ++ Shows number ∷ rest) in
-        let (cell, numbered, is) = glyph_found in
-        let spot : Spot = record { at = at; put = Glyph cell } in
-        let here = place_of (spots sign before) all spot in
-        let page = same_page_behind sign before (Shows number) refl in
-        let shown = shown_colour sign at.fore == layer.colour in
-        let was = has_colour sign at.page layer.phase layer.colour all (spots sign before) x y in
-        let flash : is_lit_at layer.phase at.flash ≡ true = ap (λ (a : Attributes). is_lit_at layer.phase a.flash) (sym st.attributes) ∙ lit in
-        let covered = covered_glyph sign layer.phase layer.colour all x y before number cell numbered in
-        let in_old : x < old.width = omega (arith, width, across) in
-        let in_old' : y < old.height = omega (arith, tall, down) in
-        pixels x y in_old in_old'
-        ∙ ap (λ (p : Place). cond (covers c p.column p.row x y) on (is_lit old x y)) (stands cell numbered)
-        ∙ ap (λ (z : cells.SizedCell). cond (covers z here.column here.row x y) on (is_lit old x y)) (sym is)
-        ∙ ap (λ o. cond (covers (sized at.font cell) here.column here.row x y) o (is_lit old x y)) (colour ∙ ap (λ (a : Attributes). shown_colour sign a.fore == layer.colour) st.attributes)
-        ∙ ap (λ b. cond (covers (sized at.font cell) here.column here.row x y) shown b) (drawn x y in_old in_old')
-        ∙ ap (λ l. cond (lit_covers l (sized at.font cell) here.column here.row at.font.height x y) shown was) (sym flash)
-        ∙ sym covered
-        ∙ ap (λ p. has_colour sign p layer.phase layer.colour all (spots sign (before ++ Shows number ∷ [])) x y) (sym page)
-
-  -- a character that isn't lit covers none
-  pub dark_drawn : (rest : List Meaning) (layer : Layer) (old : BitPlane) → is_lit_at layer.phase state.attributes.flash ≡ false
-      → IsDrawnTo sign layer (before ++ Shows number ∷ rest) before old → IsDrawnTo sign layer (before ++ Shows number ∷ rest) (before ++ Shows number ∷ []) old
-  dark_drawn rest layer old dark drawn = λ x y across down.
+  -- a character covers the pixels of its cell if it is lit, and else none
+  pub character_put : (rest : List Meaning) (layer : Layer) (place : Place) → StandsAt sign before number rest place → (old new : BitPlane) (on lit : Bool) → is_lit_at layer.phase state.attributes.flash ≡ lit
+      → on ≡ (shown_colour sign state.attributes.fore == layer.colour) → new.width ≡ old.width → new.height ≡ old.height
+      → ((x y : ℕ) → x < old.width → y < old.height → is_lit new x y ≡ cond (lit_covers lit c place.column place.row c.height x y) on (is_lit old x y))
+      → IsDrawnTo sign layer (before ++ Shows number ∷ rest) before old → IsDrawnTo sign layer (before ++ Shows number ∷ rest) (before ++ Shows number ∷ []) new
+  character_put rest layer place stands old new on lit flashes colour width tall pixels drawn = λ x y across down.
       let at = standing sign before in
       let all = spots sign (before ++ Shows number ∷ rest) in
       let (cell, numbered, is) = glyph_found in
-      let spot : Spot = record { at = at; put = Glyph cell } in
-      let here = place_of (spots sign before) all spot in
-      let page = same_page_behind sign before (Shows number) refl in
+      let here = place_of (spots sign before) all (record { at = at; put = Glyph cell }) in
       let shown = shown_colour sign at.fore == layer.colour in
       let was = has_colour sign at.page layer.phase layer.colour all (spots sign before) x y in
-      let flash : is_lit_at layer.phase at.flash ≡ false = ap (λ (a : Attributes). is_lit_at layer.phase a.flash) (sym st.attributes) ∙ dark in
-      let covered = covered_glyph sign layer.phase layer.colour all x y before number cell numbered in
-      drawn x y across down
-      ∙ ap (λ l. cond (lit_covers l (sized at.font cell) here.column here.row at.font.height x y) shown was) (sym flash)
-      ∙ sym covered
-      ∙ ap (λ p. has_colour sign p layer.phase layer.colour all (spots sign (before ++ Shows number ∷ [])) x y) (sym page)
-
--- ONE MORE ITEM
+      let in_old : x < old.width = omega (arith, width, across) in
+      let in_old' : y < old.height = omega (arith, tall, down) in
+      pixels x y in_old in_old'
+      ∙ ap (λ (p : Place). cond (lit_covers lit c p.column p.row c.height x y) on (is_lit old x y)) (stands cell numbered)
+      ∙ ap (λ (z : cells.SizedCell). cond (lit_covers lit z here.column here.row z.height x y) on (is_lit old x y)) (sym is)
+      ∙ ap (λ o. cond (lit_covers lit (sized at.font cell) here.column here.row at.font.height x y) o (is_lit old x y)) (colour ∙ ap (λ (a : Attributes). shown_colour sign a.fore == layer.colour) st.attributes)
+      ∙ ap (λ b. cond (lit_covers lit (sized at.font cell) here.column here.row at.font.height x y) shown b) (drawn x y in_old in_old')
+      ∙ ap (λ l. cond (lit_covers l (sized at.font cell) here.column here.row at.font.height x y) shown was) (sym flashes ∙ ap (λ (a : Attributes). is_lit_at layer.phase a.flash) st.attributes)
+      ∙ sym (covered_glyph sign layer.phase layer.colour all x y before number cell numbered)
+      ∙ ap (λ p. has_colour sign p layer.phase layer.colour all (spots sign (before ++ Shows number ∷ [])) x y) (sym (same_page_behind sign before (Shows number) refl))
 
 -- FOUR OCTETS
 
 -- a name has two octets at least
 long_name : (name : Name) → 2 ≤ length (table name).name
 long_name names.NewPage = omega arith
-long_name names.NewLine = omega arith
-long_name names.LineJust = omega arith
-long_name names.PageJust = omega arith
-long_name names.Font = omega arith
-long_name names.CharSpacing = omega arith
-long_name names.CharSpacingEnd = omega arith
-long_name names.PageTime = omega arith
-long_name names.Flash = omega arith
-long_name names.FlashEnd = omega arith
-long_name names.HexChar = omega arith
-long_name names.Fore = omega arith
-long_name names.Back = omega arith
-long_name names.Rect = omega arith
+long_name name = omega arith
 
 -- and so has a body that spells a tag
 long_body : (body : List ℕ) (tag : Tag) → Spells body tag → 2 ≤ length body
@@ -219,20 +178,6 @@ cell_height sign before state st number c found =
     (high ∙ sym (ap (λ (a : Attributes). a.font.height) st.attributes), omega (arith, high, tall))
 
 -- ONE MORE ITEM
-
--- the items of a string, as they mean
-pub map_split : (before rest : List LaidItem) (item : LaidItem) (m : Meaning) → meant item ≡ m → map meant (before ++ item ∷ rest) ≡ map meant before ++ m ∷ map meant rest
-map_split before rest item m e = map-append meant before (item ∷ rest) ∙ ap (λ x. map meant before ++ x ∷ map meant rest) e
-
--- what is drawn of a character is drawn of its piece
-pub glyph_drawn : (sign : SignData) (layer : Layer) (before rest : List LaidItem) (item : LaidItem) (number : ℕ) → meant item ≡ Shows number → (old new : BitPlane)
-    → DrawsGlyph sign layer (map meant before) number (map meant rest) old new → DrawsOn sign layer before (item ∷ []) rest old new
-glyph_drawn sign layer before rest item number shows old new puts drawn =
-    let all = map_split before rest item (Shows number) shows in
-    let one = map_split before [] item (Shows number) shows in
-    subst (λ (ms : List Meaning). IsDrawnTo sign layer ms (map meant (before ++ item ∷ [])) new) (sym all)
-    (subst (λ (ms : List Meaning). IsDrawnTo sign layer (map meant before ++ Shows number ∷ map meant rest) ms new) (sym one)
-    (puts (subst (λ (ms : List Meaning). IsDrawnTo sign layer ms (map meant before) old) all drawn)))
 
 module _ (sign : SignData) (layer : Layer) (before rest : List Meaning) where
   -- a background covers the page
@@ -282,64 +227,35 @@ tag_drawn sign layer before rest tag old new plain back quiet drawn = of (back_o
     of (inr other) = subst (IsDrawnTo sign layer (before ++ Does tag ∷ rest) (before ++ Does tag ∷ [])) (sym (quiet other))
         (same_drawn sign layer before rest (Does tag) old (no_page tag plain) (quiet_put sign.defaults (standing sign before) tag other plain) drawn)
 
--- a setting puts nothing
-quiet_setting : (tag : Tag) → is_setting (Does tag) ≡ true → IsQuiet tag
-quiet_setting (Back colour) e = absurd (false≢true e)
-quiet_setting tag e = tt
-
-pub setting_put : (sign : SignData) (layer : Layer) (before rest : List Meaning) (tag : Tag) (plane : BitPlane) → begins_area (Does tag) ≡ false → is_setting (Does tag) ≡ true
-    → IsDrawnTo sign layer (before ++ Does tag ∷ rest) before plane → IsDrawnTo sign layer (before ++ Does tag ∷ rest) (before ++ Does tag ∷ []) plane
-setting_put sign layer before rest tag plane plain setting drawn =
-    same_drawn sign layer before rest (Does tag) plane (no_page tag plain) (quiet_put sign.defaults (standing sign before) tag (quiet_setting tag setting) plain) drawn
-
-pub setting_unput : (defaults : Defaults) (at : Standing) (tag : Tag) → is_setting (Does tag) ≡ true → put_at defaults at (Does tag) ≡ None
-setting_unput defaults at NewPage e = absurd (false≢true e)
-setting_unput defaults at (NewLine gap) e = absurd (false≢true e)
-setting_unput defaults at (Rect x y w h) e = absurd (false≢true e)
-setting_unput defaults at (Back colour) e = absurd (false≢true e)
-setting_unput defaults at tag e = refl
-
 -- STEPS OVER THE PLANE
 
 no_more : (n a b : ℕ) → n ≤ n + a + b * 0
 no_more n a b = omega arith
 
 -- no more than a row for each row of a font
-pub rows_few : (sign : SignData) (old new : BitPlane) (octets rows : ℕ) → 1 ≤ octets → rows ≤ tallest sign → old.steps ≤ new.steps → new.steps ≤ old.steps + rows → new.width ≡ old.width → new.height ≡ old.height → IsFilledBy sign old new octets
-rows_few sign old new octets rows some tall least most width height = record {
+pub rows_few : (sign : SignData) {old new : BitPlane} {rows : ℕ} (octets : ℕ) → 1 ≤ octets → rows ≤ tallest sign → IsCountedBy old new rows → IsFilledBy sign old new octets
+rows_few sign octets some tall k = record {
   fills = 0;
   few = omega arith;
-  least = least;
-  most = omega (arith, most, tall, le-mul_of_pos_right {m = octets} (tallest sign) some);
-  width = width;
-  height = height;
+  least = k.least;
+  most = omega (arith, k.most, tall, le-mul_of_pos_right {m = octets} (tallest sign) some);
+  width = k.width;
+  height = k.height;
 }
 
--- one fill for four octets
-pub fill_few : (sign : SignData) (old new : BitPlane) (octets k : ℕ) → 4 ≤ octets → old.steps ≤ new.steps → new.steps ≤ old.steps + k → k ≡ plane_octets sign → new.width ≡ old.width → new.height ≡ old.height → IsFilledBy sign old new octets
-fill_few sign old new octets k four least most is width height = record {
-  fills = 1;
-  few = omega arith;
-  least = least;
-  most = omega (arith, most, is);
-  width = width;
-  height = height;
-}
-
--- a tag fills the plane once where it sets the background, and else never
-pub tag_filled : (sign : SignData) (old new : BitPlane) (octets : ℕ) (tag : Tag) → ((given : Option ℕ) → tag ≡ Back given → 4 ≤ octets) → old.steps ≤ new.steps → new.steps ≤ old.steps + plane_octets sign
-    → (IsQuiet tag → new ≡ old) → new.width ≡ old.width → new.height ≡ old.height → IsFilledBy sign old new octets
-tag_filled sign old new octets tag four least most quiet width height = of (back_or_quiet tag)
+-- a tag fills the plane once where it sets the background, which has four octets, and else never
+pub tag_filled : (sign : SignData) {old new : BitPlane} (octets : ℕ) (tag : Tag) → ((given : Option ℕ) → tag ≡ Back given → 4 ≤ octets) → IsCountedBy old new (plane_octets sign) → (IsQuiet tag → new ≡ old) → IsFilledBy sign old new octets
+tag_filled sign {old} {new} octets tag four k quiet = of (back_or_quiet tag)
   where
     of : ((given : Option ℕ) × (tag ≡ Back given)) ⊎ IsQuiet tag → IsFilledBy sign old new octets
-    of (inl (given, is)) = fill_few sign old new octets (plane_octets sign) (four given is) least most refl width height
+    of (inl (given, is)) = record { fills = 1; few = omega (arith, four given is); least = k.least; most = omega (arith, k.most); width = k.width; height = k.height }
     of (inr other) = record {
       fills = 0;
       few = omega arith;
-      least = least;
+      least = k.least;
       most = omega (arith, ap (λ (p : BitPlane). p.steps) (quiet other), no_more old.steps (tallest sign * octets) (plane_octets sign));
-      width = width;
-      height = height;
+      width = k.width;
+      height = k.height;
     }
 
 pub low_between : (sign : SignData) (octets : List ℕ) (before behind : List LaidItem) (cursor : Cursor) → IsBetween sign octets before behind cursor → IsBelow (2 ^ 42) cursor.state.area

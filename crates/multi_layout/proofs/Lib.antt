@@ -11,7 +11,6 @@ pub mod KnownLinesLemmas
 mod LimitExamples
 pub mod LocateLemmas
 pub mod PageDrawLemmas
-pub mod PageLoopLemmas
 pub mod PagesLemmas
 pub mod PieceLemmas
 mod RunLinesLemmas

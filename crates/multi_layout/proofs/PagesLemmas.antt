@@ -1,173 +1,40 @@
 -- The pages of an accepted string, one after the other.
-use Rattle.std.proofs.Common.{◌≡◌, ℕ, ◌+◌, ◌-◌, ◌*◌, ◌/◌, ◌^◌, ◌<◌, ◌≤◌, inl, inr, Bool, true, false, cond, List, [], ◌∷◌, ◌++◌, length, map, refl, sym, ap, subst, ◌∙◌, arith, append-nil}
+use Rattle.std.proofs.Common.{◌≡◌, ℕ, ◌+◌, ◌-◌, ◌*◌, ◌/◌, ◌^◌, ◌<◌, ◌≤◌, inl, inr, Bool, true, false, cond, List, [], ◌∷◌, length, map, refl, sym, ap, subst, ◌∙◌, arith}
 use Rattle.std.specs.Prelude.{◌==◌}
-use Rattle.std.specs.List.{All, count_by}
+use Rattle.std.specs.List.{All}
 use Rattle.std.proofs.lemmas.Bool.{ne_eqb, cases_eq, eq-eqb}
-use Rattle.std.proofs.lemmas.List.{map-append}
 use Rattle.std.proofs.lemmas.List.Elements.{All-head, All-tail}
-use Rattle.std.proofs.lemmas.List.Sums.{sum_by-append}
 use Rattle.std.proofs.lemmas.Nat.{mul-le}
 use Rattle.multi_token.specs.Counted.{Counted, RisesBetween, charged}
-use Rattle.multi_token.specs.Reading.{reading}
-use Rattle.multi_token.specs.Spelling.{Item, IsReading, spell}
-use Rattle.multi_token.proofs.ReadingLemmas.{each_string_has_a_reading, none_found}
-use Rattle.multi_token.proofs.SpellingLemmas.{one_reading}
-use Rattle.multi_token.proofs.StepLemmas.{rises_more, rises_then}
+use Rattle.multi_token.proofs.StepLemmas.{rises_more}
 use Rattle.page_plane.specs.Plane.{BitPlane}
 use Rattle.sign_font.specs.Sign.{FontData, SignData, largest, tallest}
 use Rattle.sign_font.specs.Sound.{IsSound, IsSoundFont}
-use Rattle.multi_meaning.specs.LaidItems.{laid_out}
-use Rattle.multi_meaning.specs.Drawn as drawn
-use Rattle.multi_meaning.specs.Meaning.{BeginsPage, Meaning, is_new_page, meaning, meanings}
-use Rattle.multi_meaning.specs.declared.times.Shown.{Shown}
-use Rattle.multi_meaning.specs.declared.times.Shown.TheVariants.{Page, Off}
-use Rattle.multi_meaning.specs.Picture.{in_plane, picture}
-use Rattle.multi_meaning.specs.Verdict.{pages_of}
-use Rattle.multi_meaning.specs.kept.Fine.{IsAccepted, IsOrderly}
 use Rattle.multi_layout.specs.declared.cursor.Cursor.{Cursor}
 use Rattle.multi_layout.specs.Limits.{drawing_limit, plane_limit, plane_octets, reading_limit}
 use Rattle.multi_layout.specs.declared.next_page.NextPage.{NextPage}
 use Rattle.multi_layout.specs.NextPage.{IsNextPage, IsReadOn}
 use Rattle.multi_layout.specs.CheckedData.{CheckedData}
 use Rattle.multi_layout.specs.Pages.{IsSized, IsUnderWay, PagesState, TurnsPage, page_count}
-use Rattle.multi_layout.specs.kept.PageDrawing.{IsFilledFew, IsPagePassed, IsPageStart, IsReadTwice, IsStartOf}
-use Rattle.multi_layout.specs.kept.Cursors.{IsBetween, IsPlaced, items_of, laid_meanings, meant, LaidItem}
-use Rattle.multi_layout.specs.kept.Passing.{IsPageSkipped, IsPassing}
-use Rattle.multi_layout.proofs.LocateLemmas.{clock_of}
-use Rattle.multi_layout.proofs.PieceLemmas.{begins_page, laid_pages, pieces_before, pieces_behind, starts_between}
-use Rattle.multi_layout.proofs.WalkLemmas.{within, within_between}
+use Rattle.multi_layout.specs.kept.PageDrawing.{IsFilledFew, IsPagePassed, IsPageStart, IsReadTwice}
+use Rattle.multi_layout.proofs.WalkLemmas.{steps_then, steps_within, within_between}
 use Rattle.std.proofs.lemmas.Bool.Decides.{nat_tests}
 use Rattle.std.proofs.Math.Nat.{mul-add}
 
--- ---- the items of a string are those of its reading
-
-pub same_items : (sign : SignData) (octets : List ℕ) (items : List Item) → IsAccepted sign octets items → items ≡ (reading octets).items
-same_items sign octets items a =
-    let read : IsReading octets items [] = record { each = a.each; spelled = a.spelled ∙ sym (append-nil (spell items)); ends = none_found [] refl } in
-    (one_reading octets items (reading octets).items [] (reading octets).rest read (each_string_has_a_reading octets)).0
-
--- and so is what they mean
-pub same_meanings : (sign : SignData) (octets : List ℕ) (items : List Item) → IsAccepted sign octets items → map meaning items ≡ meanings octets
-same_meanings sign octets items a = ap (map meaning) (same_items sign octets items a)
-
--- ---- the number of pages
-
-pages_of-append : (a b : List Meaning) → pages_of (a ++ b) ≡ pages_of a + count_by is_new_page b
-pages_of-append a b = omega (arith, sum_by-append (λ x. cond (is_new_page x) 1 0) a b)
-
--- the items before are some of the string's
-pages_before : (sign : SignData) (octets : List ℕ) (before behind : List Item) (cursor : Cursor) → IsPlaced sign octets before behind cursor.at → cursor.state.pages ≡ pages_of (map meaning before)
-    → cursor.state.pages + count_by is_new_page (map meaning behind) ≡ pages_of (meanings octets)
-pages_before sign octets before behind cursor p pages =
-    omega (
-      arith,
-      pages,
-      pages_of-append (map meaning before) (map meaning behind),
-      ap pages_of (sym (map-append meaning before behind)),
-      ap pages_of (same_meanings sign octets (before ++ behind) p.accepted),
-    )
-
--- the pieces have the pages of the items
-pages_left : (sign : SignData) (octets : List ℕ) (before behind : List LaidItem) (cursor : Cursor) → IsBetween sign octets before behind cursor → cursor.state.pages + count_by is_new_page (map meant behind) ≡ pages_of (meanings octets)
-pages_left sign octets before behind cursor b =
-    omega (
-      arith,
-      b.state_is.pages,
-      pages_of-append (map meant before) (map meant behind),
-      ap pages_of (sym (map-append meant before behind)),
-      ap pages_of (b.laid ∙ ap (laid_meanings sign) (map-append (λ (p : LaidItem). p.item) before behind)),
-      laid_pages sign (map meaning (items_of before ++ items_of behind)),
-      ap pages_of (same_meanings sign octets (items_of before ++ items_of behind) b.placed.accepted),
-    )
-
 -- ---- a page that is passed
 
-pub passed_within : (sign : SignData) (octets : List ℕ) (before behind : List LaidItem) (old new : Cursor) → IsPagePassed sign octets before behind old new → (old.at ≤ new.at) × (new.at ≤ length octets)
-passed_within sign octets before behind old new p = (p.on, within_between sign octets (before ++ p.page) p.rest new p.between)
-
 -- behind it the one after it is next, of the same string with whatever count
-pub turns_to : (old new : CheckedData) (next : NextPage) (cursor : Cursor) (page : ℕ) → IsNextPage old next page
-    → ((before behind : List LaidItem) → IsBetween old.sign old.source.octets before behind next.cursor → IsPagePassed old.sign old.source.octets before behind next.cursor cursor)
+pub turns_to : (old new : CheckedData) (next : NextPage) (cursor : Cursor) (page : ℕ) → IsNextPage old next page → IsPagePassed old.sign old.source.octets next.cursor cursor
     → new.sign ≡ old.sign → new.source.octets ≡ old.source.octets → IsNextPage new (record { cursor = cursor }) (page + 1)
 turns_to old new next cursor page is passed sign octets = rw (sign, octets) further
   where
     further : page + 1 < page_count old → IsPageStart old.sign old.source.octets cursor × (cursor.state.pages ≡ page + 1 + 1)
     further more =
-        let ((before, behind, b, begins), begun) = is (omega (arith, more)) in
-        let p = passed before behind b in
-        let left = pages_left old.sign old.source.octets (before ++ p.page) p.rest cursor p.between in
-        elim p.ends [
-          | inl last ↦ absurd (omega (arith, begun, last.1, left, ap (λ l. count_by is_new_page (map meant l)) last.0, more))
-          | inr then ↦ ((before ++ p.page, p.rest, p.between, then.0), omega (arith, begun, then.1))
+        let begun = (is (omega (arith, more))).1 in
+        elim passed.ends [
+          | inl last ↦ absurd (omega (arith, begun, last, more))
+          | inr then ↦ (then.1, omega (arith, begun, then.0))
         ]
-
--- the first page is next where the items begin
-pub first_next : (string : CheckedData) (cursor : Cursor) (items : List LaidItem) → IsBetween string.sign string.source.octets [] items cursor → IsNextPage string (record { cursor = cursor }) 0
-first_next string cursor items b more = (([], items, b, inl refl), omega (arith, b.state_is.pages))
-
--- what is drawn of its pieces is the picture of the string
-pub shows_picture : (plane : BitPlane) (sign : SignData) (octets : List ℕ) (before behind : List LaidItem) (cursor : Cursor) (page phase colour : ℕ) → IsBetween sign octets before behind cursor
-    → drawn.Lights plane (λ column row. in_plane sign (map meant (before ++ behind)) page phase colour column row) → drawn.Lights plane (picture sign octets page phase colour)
-shows_picture plane sign octets before behind cursor page phase colour b shows =
-    let all = b.laid ∙ ap (laid_meanings sign) (map-append (λ (p : LaidItem). p.item) before behind) ∙ ap (laid_out sign) (same_meanings sign octets (items_of before ++ items_of behind) b.placed.accepted) in
-    λ column row w h. shows column row w h ∙ ap (λ ms. in_plane sign ms page phase colour column row) all
-
--- ---- the way to a page
-
--- where a page begins the cursor stands between pieces
-pub page_starts : (sign : SignData) (octets : List ℕ) (before behind : List Item) (cursor : Cursor) → IsPassing sign octets before behind cursor → BeginsPage (map meaning before)
-    → IsOrderly sign (laid_out sign (meanings octets)) → IsPageStart sign octets cursor
-page_starts sign octets before behind cursor p begins all =
-    let items = same_meanings sign octets (before ++ behind) p.placed.accepted in
-    let orderly = subst (λ ms. IsOrderly sign (laid_out sign ms)) (sym items) all in (
-      pieces_before sign octets before behind cursor p begins orderly,
-      pieces_behind sign octets before behind cursor p begins orderly,
-      starts_between sign octets before behind cursor p begins orderly,
-      begins_page sign octets before behind cursor p begins orderly,
-    )
-
--- the cursor stands where a page begins: a page, counted from 0, or one before it
-pub record IsOnTheWay (sign : SignData) (octets : List ℕ) (page : ℕ) (cursor : Cursor) : Type 0 where
-  pub before : List Item
-  pub behind : List Item
-  pub between : IsPassing sign octets before behind cursor
-  pub begins : BeginsPage (map meaning before)
-  pub few : cursor.state.pages ≤ page + 1
-
--- the last page has begun where the items end
-not_the_end : (sign : SignData) (octets : List ℕ) (page : ℕ) (before behind : List Item) (cursor : Cursor) → IsPassing sign octets before behind cursor → behind ≡ [] → cursor.state.pages ≤ page → page < pages_of (meanings octets) → ⊥
-not_the_end sign octets page before behind cursor b none few more =
-    omega (arith, few, more, pages_before sign octets before behind cursor b.placed (clock_of b).pages, ap (λ l. count_by is_new_page (map meaning l)) none)
-
--- behind a page before it the next one begins
-pub way_on : (sign : SignData) (octets : List ℕ) (page : ℕ) (old new : Cursor) (w : IsOnTheWay sign octets page old) → old.state.pages ≤ page → page < pages_of (meanings octets)
-    → IsPageSkipped sign octets w.before w.behind old new → IsOnTheWay sign octets page new × (old.at < new.at) × (new.at ≤ length octets) × (new.state.pages ≡ old.state.pages + 1)
-way_on sign octets page old new w few more p = elim p.ends [
-  | inl last ↦ absurd (not_the_end sign octets page (w.before ++ p.page) p.rest new p.between last.0 (omega (arith, few, last.2)) more)
-  | inr next ↦ (
-    record { before = w.before ++ p.page; behind = p.rest; between = p.between; begins = next.0; few = omega (arith, few, next.1) },
-    next.2,
-    within sign octets (w.before ++ p.page) p.rest new.at p.between.placed,
-    next.1,
-  )
-]
-
--- the steps to the end of a page, behind those to its start
-pub passes_page : (start source new : Counted) (at at' pages pages' : ℕ) → at ≤ at' → RisesBetween start source 0 (9 * at) → RisesBetween source new 0 (9 * (at' - at) + cond (pages' == pages) 1 0)
-    → RisesBetween start new 0 (9 * at' + cond (pages' == pages) 1 0)
-passes_page start source new at at' pages pages' on earlier here =
-    rises_more start new 0 _ _ (omega (arith, on)) (rises_then start source new 0 (9 * at) 0 (9 * (at' - at) + cond (pages' == pages) 1 0) earlier here)
-
--- of a page that an `np` ends
-pub passes_whole : (start source new : Counted) (at at' pages pages' : ℕ) → at ≤ at' → pages' ≡ pages + 1 → RisesBetween start source 0 (9 * at) → RisesBetween source new 0 (9 * (at' - at) + cond (pages' == pages) 1 0)
-    → RisesBetween start new 0 (9 * at')
-passes_whole start source new at at' pages pages' on more earlier here =
-    rises_more start new 0 _ _ (omega (arith, ap {B = ℕ} (λ b. cond b 1 0) (ne_eqb pages' pages (λ e. omega (arith, e, more))))) (passes_page start source new at at' pages pages' on earlier here)
-
--- where a page that is shown begins
-pub starts_shown : (sign : SignData) (octets : List ℕ) (start : Cursor) (shown : Shown) → IsPageStart sign octets start → ((page phase : ℕ) → shown ≡ Page page phase → start.state.pages ≡ page + 1) → IsStartOf sign octets shown start
-starts_shown sign octets start (Page page phase) begins pages = (begins, pages page phase refl)
-starts_shown sign octets start Off begins pages = tt
 
 -- ---- bounds
 
@@ -202,12 +69,14 @@ pub at_most : (b : Bool) (n : ℕ) → cond b n 0 ≤ n
 at_most true n = omega arith
 at_most false n = omega arith
 
+pub if_next : (a b n : ℕ) → a ≡ b + 1 → cond (a == b) n 0 ≡ 0
+if_next a b n next = ap (λ t. cond t n 0) (ne_eqb a b (λ e. omega (arith, e, next)))
+
 -- the steps over the string to a page and to draw it
-pub drawing_reads : (start source new : Counted) (old cursor : Cursor) (n : ℕ) → RisesBetween start source 0 (18 * old.at) → IsReadTwice source new old cursor → old.at ≤ cursor.at → cursor.at ≤ n
+pub drawing_reads : (start : Counted) {source new : Counted} {way : ℕ} (old cursor : Cursor) (n : ℕ) → RisesBetween start source 0 way → way ≤ 18 * old.at → IsReadTwice source new old cursor → old.at ≤ cursor.at → cursor.at ≤ n
     → RisesBetween start new 0 (reading_limit n)
-drawing_reads start source new old cursor n way twice on few =
-    let all = rises_then start source new 0 (18 * old.at) 0 (18 * (cursor.at - old.at) + cond (cursor.state.pages == old.state.pages) 2 0) way twice in
-    rises_more start new 0 _ (reading_limit n) (omega (arith, on, few, at_most (cursor.state.pages == old.state.pages) 2)) all
+drawing_reads start old cursor n to less twice on few =
+    steps_within start (steps_then start to twice) (omega arith) (omega (arith, less, on, few, at_most (cursor.state.pages == old.state.pages) 2))
 
 -- the steps over the plane to draw a page
 pub drawing_fills : (sign : SignData) (plane plane' : BitPlane) (old cursor : Cursor) (n : ℕ) → IsFilledFew sign plane plane' old cursor → cursor.at ≤ n → plane'.steps ≤ plane.steps + plane_limit sign n
@@ -219,14 +88,14 @@ drawing_fills sign plane plane' old cursor n f few =
 -- at the start
 pub under_way_first : (pages : PagesState) (cursor : Cursor) → IsSound pages.string.sign → length pages.string.source.octets < 2 ^ 32 → IsSized pages.plane pages.string.sign
     → pages.next ≡ 0 → pages.string_started ≡ pages.string.source.steps → pages.plane_started ≡ pages.plane.steps
-    → (items : List LaidItem) → IsBetween pages.string.sign pages.string.source.octets [] items cursor → IsUnderWay pages cursor
-under_way_first pages cursor sound short size first read drawn items b = record {
+    → IsPageStart pages.string.sign pages.string.source.octets cursor → cursor.state.pages ≡ 1 → IsUnderWay pages cursor
+under_way_first pages cursor sound short size first read drawn begins one = record {
   sound = sound;
   short = short;
   size = size;
   next_most = omega (arith, first);
-  begins = rw first (first_next pages.string cursor items b);
-  within = within_between pages.string.sign pages.string.source.octets [] items cursor b;
+  begins = λ more. (begins, omega (arith, first, one));
+  within = within_between pages.string.sign pages.string.source.octets begins.0 begins.1 cursor begins.2;
   read_least = omega (arith, read);
   read_most = omega (arith, read);
   fills = 0;

@@ -1,5 +1,5 @@
 -- The pieces of an accepted string: what each of its items is laid out as.
-use Rattle.std.proofs.Common.{◌≡◌, ℕ, Bool, true, false, cond, inl, inr, List, [], ◌∷◌, ◌++◌, length, map, Option, Some, None, refl, sym, ap, subst, ◌∙◌, arith, append-nil}
+use Rattle.std.proofs.Common.{◌≡◌, ℕ, Bool, true, false, cond, inl, inr, List, [], ◌∷◌, ◌++◌, map, Option, Some, None, refl, sym, ap, subst, ◌∙◌, arith, append-nil}
 use Rattle.std.specs.Option.{option_map}
 use Rattle.std.proofs.lemmas.List.{map-append}
 use Rattle.multi_token.specs.Spelling.{Item}
@@ -25,27 +25,16 @@ use Rattle.multi_judge.specs.declared.item.NextItem.{NextItem}
 use Rattle.multi_judge.specs.declared.item.KnownItem.{KnownItem}
 use Rattle.multi_judge.specs.declared.item.KnownItem.TheVariants as items
 use Rattle.multi_judge.specs.declared.item.KnownItem.TheVariants.{Char}
-use Rattle.multi_judge.specs.declared.table.LineTable.{LineTable}
 use Rattle.multi_judge.specs.KnownItem.{meant_by}
-use Rattle.multi_layout.specs.kept.AreaDrawing.{HasCounted, whole_area}
 use Rattle.multi_layout.specs.kept.Cursors.{IsBetween, IsFirst, IsItemRead, IsPieceFirst, IsPlaced, IsRead, items_of, laid_meanings, meant, LaidItem, pieces_of}
 use Rattle.multi_layout.specs.kept.Passing.{IsPassing}
 use Rattle.multi_judge.proofs.FilledStateLemmas.{pages_at, same_times}
 use Rattle.multi_layout.proofs.SkipLemmas.{settled_at}
 use Rattle.multi_meaning.proofs.UnfilledItemLemmas.{unfilled_item}
 use Rattle.multi_meaning.proofs.VerdictLemmas.{length-meanings}
-use Rattle.multi_layout.proofs.WalkLemmas.{few_pieces, laid_here}
+use Rattle.multi_layout.proofs.WalkLemmas.{few_pieces, laid_here, same_parts}
 
 -- THE PIECES OF A STRING
-
-same_front : {X : Type 0} (xs ys as' bs : List X) → length xs ≡ length ys → xs ++ as' ≡ ys ++ bs → xs ≡ ys
-same_front [] [] as' bs n e = refl
-same_front [] (y ∷ ys) as' bs n e = absurd (omega (arith, n))
-same_front (x ∷ xs) [] as' bs n e = absurd (omega (arith, n))
-same_front (x ∷ xs) (y ∷ ys) as' bs n e =
-    let front = same_front xs ys as' bs (omega (arith, n)) cc in
-    let first : x ≡ y = cc in
-    λ i. first i ∷ front i
 
 -- they are its items, laid out
 pub items_of_pieces : (f : List Item → Item → Meaning) (items : List Item) → items_of (each_after (λ before item. let p : LaidItem = record { item = item; as_laid = f before item } in p) items) ≡ items
@@ -80,8 +69,8 @@ laid_front sign before behind laid =
     let rest = map meaning (items_of behind) in
     let f = laid_item sign.line_fill sign (ms ++ rest) in
     let split : map meaning (items_of (before ++ behind)) ≡ ms ++ rest = ap (map meaning) (map-append (λ (p : LaidItem). p.item) before behind) ∙ map-append meaning (items_of before) (items_of behind) in
-    same_front (map meant before) (each_after f ms) (map meant behind) _ (few_pieces before ∙ sym (length-meanings (items_of before)) ∙ sym (each_after_length f ms))
-    (sym (map-append meant before behind) ∙ laid ∙ ap (λ l. laid_items sign.line_fill sign l l) split ∙ each_after-append f ms rest)
+    (same_parts (map meant before) (each_after f ms) (map meant behind) _ (few_pieces before ∙ sym (length-meanings (items_of before)) ∙ sym (each_after_length f ms))
+    (sym (map-append meant before behind) ∙ laid ∙ ap (λ l. laid_items sign.line_fill sign l l) split ∙ each_after-append f ms rest)).0
 
 module _ {sign : SignData} {octets : List ℕ} {before rest : List LaidItem} {piece : LaidItem} {cursor : Cursor} (b : IsBetween sign octets before (piece ∷ rest) cursor) where
   all_split : map meaning (items_of (before ++ piece ∷ rest)) ≡ map meaning (items_of before) ++ meaning piece.item ∷ map meaning (items_of rest)
@@ -202,15 +191,6 @@ first_ended {sign} {octets} {before} {behind} {cursor} b ends next first =
     let b' = subst (λ l. IsBetween sign octets before l cursor) is b in
     let none = (itself b' (begins_unplaced (meant piece) (first_begins piece rest (subst (λ l. EndsArea (map meant l)) is ends)))).0 in
     (piece, rest, is, read_unplaced b' (ap has_place (sym read.meant) ∙ none) read)
-
--- the first item, laid out, is the first piece
-pub laid_first : {sign : SignData} {octets : List ℕ} {cursor : Cursor} (lines : LineTable) (raw next : NextItem) (before behind : List LaidItem) → IsBetween sign octets before behind cursor → HasCounted (whole_area sign before behind) lines
-    → IsFirst (items_of behind) (Some raw)
-    → ((before rest : List LaidItem) (piece : LaidItem) → IsBetween sign octets before (piece ∷ rest) cursor → HasCounted (whole_area sign before (piece ∷ rest)) lines → IsItemRead piece.item raw → IsRead piece next)
-    → IsPieceFirst behind (Some next)
-laid_first {sign} {octets} {cursor} lines raw next before behind b counted first lays =
-    let (piece, rest, is, read) = first_piece behind raw first in
-    (piece, rest, is, lays before rest piece (subst (λ l. IsBetween sign octets before l cursor) is b) (subst (λ l. HasCounted (whole_area sign before l) lines) is counted) read)
 
 -- where a page begins the cursor stands between pieces
 module _ (sign : SignData) (octets : List ℕ) (before behind : List Item) (cursor : Cursor) (p : IsPassing sign octets before behind cursor) (begins : BeginsPage (map meaning before))

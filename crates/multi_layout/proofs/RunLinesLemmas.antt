@@ -7,16 +7,13 @@ use Rattle.std.proofs.lemmas.List.{length-drop, length-take-le, take-append-drop
 use Rattle.std.proofs.lemmas.List.Elements.{All-head, All-tail}
 use Rattle.std.proofs.lemmas.List.Sums.{sum_by-append}
 use Rattle.multi_token.specs.Spelling.{IsPlain}
-use Rattle.multi_token.specs.declared.token.Token.{Token}
-use Rattle.multi_token.specs.declared.token.Kind.TheVariants as kinds
-use Rattle.multi_token.proofs.PlaceLemmas.{drop_read, read_drop, single_token}
+use Rattle.multi_token.proofs.PlaceLemmas.{drop_read, read_drop}
 use Rattle.sign_font.specs.Sign.{SignData, cell_in}
 use Rattle.sign_font.specs.Sound.{IsSound, IsWithin}
 use Rattle.sign_font.specs.Text.{width_in}
 use Rattle.multi_meaning.specs.Meaning.{Shows, meaning}
 use Rattle.multi_meaning.proofs.OrderlyLemmas.{unsized_if}
 use Rattle.multi_judge.specs.declared.item.KnownItem.TheVariants as known
-use Rattle.multi_judge.specs.declared.item.NextItem.{NextItem}
 use Rattle.multi_judge.specs.declared.pass.Pass.{Pass}
 use Rattle.multi_judge.specs.declared.state.State.{State}
 use Rattle.multi_judge.specs.declared.table.LineTable.{LineTable}
@@ -25,12 +22,12 @@ use Rattle.multi_layout.specs.kept.Cursors.{LaidItem, items_of}
 use Rattle.multi_judge.specs.PassState.{IsPassReady}
 use Rattle.multi_judge.specs.State.{IsReady}
 use Rattle.multi_judge.specs.Run.{IsBehindCharacter, IsRunPassed, lengthened, line_in_force}
-use Rattle.multi_layout.proofs.AreaLinesLemmas.{SoFar, read_on, so_first, so_next}
+use Rattle.multi_layout.proofs.AreaLinesLemmas.{SoFar, read_on, so_next, so_read}
 use Rattle.multi_judge.proofs.PassedLemmas.{plain_passed}
 use Rattle.multi_layout.proofs.AreaReadLemmas.{next_fine, step_stays}
 use Rattle.multi_judge.proofs.RunLemmas.{behind_stays, state_beside}
 use Rattle.multi_judge.proofs.RunReadLemmas.{behind_first, cell_of_width}
-use Rattle.multi_layout.proofs.WalkLemmas.{item_is}
+use Rattle.multi_layout.proofs.WalkLemmas.{octet_next}
 
 -- what is kept with another state
 abbrev pub in_state : Pass → State → Pass
@@ -46,9 +43,7 @@ module _ {sign : SignData} (sound : IsSound sign) {octets : List ℕ} (short : l
   octet_passed : (at width count : ℕ) → SoFar false sign octets before behind at (longer kept width count) lines → (octet : ℕ) → slice_get octets at ≡ Some octet → IsPlain octet
       → (w : ℕ) → Some w ≡ width_in sign kept.state.attributes.font.number octet → w ≤ 64 → SoFar false sign octets before behind (at + 1) (longer kept (width + (gap + w)) (count + 1)) lines
   octet_passed at width count so octet here plain w w_is small =
-      let next : NextItem = record { item = known.Char octet; len = 1 } in
-      let token : Token = record { at = at; len = 1; kind = kinds.Char octet } in
-      let n = so_first so next (item_is sign octets (items_of (before ++ so.pieces)) (items_of so.left) at so.placed next (token, refl, refl, single_token octets at octet short here plain, refl)) in
+      let n = so_read so refl (record { item = known.Char octet; len = 1 }) (octet_next sign octets at octet short here plain) in
       let it = so_next so n in
       let items = map meaning (items_of (before ++ so.pieces)) in
       let of = so.read.of in

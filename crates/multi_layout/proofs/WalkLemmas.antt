@@ -1,21 +1,27 @@
 -- The next item of an accepted string.
-use Rattle.std.proofs.Common.{◌≡◌, ℕ, ◌+◌, ◌^◌, ◌<◌, ◌≤◌, inl, inr, List, [], ◌∷◌, ◌++◌, length, drop, map, Some, None, refl, sym, ap, subst, ◌∙◌, arith, append_assoc, append-nil}
+use Rattle.std.proofs.Common.{◌≡◌, ℕ, true, false, ◌+◌, ◌^◌, ◌<◌, ◌≤◌, inl, inr, List, [], ◌∷◌, ◌++◌, length, drop, take, map, slice_get, Some, None, refl, sym, ap, subst, ◌∙◌, arith, append_assoc, append-nil}
 use Rattle.std.specs.List.{All, cons_option}
+use Rattle.std.proofs.Math.Seq.{drop-append_seam, take-append_seam}
 use Rattle.std.proofs.lemmas.List.{length-append, map-append}
 use Rattle.std.proofs.lemmas.List.Concat.{flat_map-append}
 use Rattle.std.proofs.lemmas.List.Elements.{All-head, All-tail}
-use Rattle.multi_token.specs.Counted.{Counted}
+use Rattle.multi_token.specs.Counted.{Counted, RisesBetween, charged}
 use Rattle.multi_token.specs.declared.token.Token.{Token}
-use Rattle.multi_token.specs.Spelling.{Item, IsItem, spelling, spell, HasNoItem}
+use Rattle.multi_token.specs.Spelling.{IsPlain, is_bracket, Item, IsItem, spelling, spell, HasNoItem}
 use Rattle.multi_token.specs.Tokens.{IsTokenOf, item_of}
+use Rattle.multi_token.specs.declared.token.Kind.TheVariants as kinds
+use Rattle.multi_token.proofs.PlaceLemmas.{single_token}
 use Rattle.multi_token.proofs.ReadingLemmas.{spelling_some}
+use Rattle.multi_judge.specs.declared.item.KnownItem.TheVariants as known
+use Rattle.multi_layout.specs.kept.Settings.{IsNextAt}
 use Rattle.multi_token.proofs.SpellingLemmas.{one_item_begins}
+use Rattle.multi_token.proofs.StepLemmas.{charged-zero, rises_then}
 use Rattle.sign_font.specs.declared.parts.LineFill.TheVariants.{Off}
 use Rattle.sign_font.specs.Sign.{SignData}
 use Rattle.multi_meaning.specs.Words.{each_after, some_after}
 use Rattle.multi_meaning.specs.Laid.{too_big}
 use Rattle.multi_meaning.specs.LaidItems.{laid_item}
-use Rattle.multi_meaning.specs.Meaning.{Faulty, meaning}
+use Rattle.multi_meaning.specs.Meaning.{Faulty, Meaning, meaning}
 use Rattle.multi_meaning.specs.Offence.{offence, unsized_offence}
 use Rattle.multi_meaning.specs.Verdict.{fault_at, offences}
 use Rattle.multi_meaning.specs.kept.ItemAt.{IsFaultAt, IsItemAt}
@@ -30,10 +36,6 @@ use Rattle.multi_judge.specs.State.{IsReady, IsStateOf}
 use Rattle.multi_judge.specs.KnownItem.{meant_by}
 use Rattle.multi_layout.specs.kept.Cursors.{IsBetween, IsFirst, IsPlaced, LaidItem, items_of, laid_meanings, meant, spell_of}
 use Rattle.multi_judge.proofs.JudgedLemmas.{ready}
-
-drop_front : (xs ys : List ℕ) → drop (length xs) (xs ++ ys) ≡ ys
-drop_front [] ys = refl
-drop_front (x ∷ xs) ys = drop_front xs ys
 
 All-right : (P : Item → Type 0) (xs ys : List Item) → All P (xs ++ ys) → All P ys
 All-right P [] ys h = h
@@ -53,9 +55,9 @@ module _ (sign : SignData) (octets : List ℕ) (before behind : List Item) (at :
   ahead =
       ap (λ n. drop n octets) p.place
       ∙ ap (drop (length (spell before))) (p.accepted.spelled ∙ spell-append before behind)
-      ∙ drop_front (spell before) (spell behind)
+      ∙ drop-append_seam (spell before) (spell behind)
 
-  total : length octets ≡ length (spell before) + length (spell behind)
+  pub total : length octets ≡ length (spell before) + length (spell behind)
   total = ap length (p.accepted.spelled ∙ spell-append before behind) ∙ length-append (spell before) (spell behind)
 
   pub within : at ≤ length octets
@@ -97,9 +99,37 @@ module _ (sign : SignData) (octets : List ℕ) (before behind : List Item) (at :
       let (rest, is) = first_is t here stands in
       (item_of octets t, rest, is, record { meant = means; len = sym long ∙ stands.len })
 
+pub next_at : (sign : SignData) (octets : List ℕ) (at : ℕ) (next : NextItem) → IsItemAt octets at next.len (meant_by next.item) → IsNextAt sign octets at next
+next_at sign octets at next item before behind p = item_is sign octets before behind at p next item
+
+-- an octet that is no bracket stands for itself
+pub no_bracket : (octet : ℕ) → is_bracket octet ≡ false → IsPlain octet
+no_bracket octet none =
+    (λ e. let wrong : true ≡ false = ap is_bracket (sym e) ∙ none in absurd cc, λ e. let wrong : true ≡ false = ap is_bracket (sym e) ∙ none in absurd cc)
+
+-- and is the next item
+pub octet_next : (sign : SignData) (octets : List ℕ) (at octet : ℕ) → length octets < 2 ^ 63 → slice_get octets at ≡ Some octet → IsPlain octet → IsNextAt sign octets at (record { item = known.Char octet; len = 1 })
+octet_next sign octets at octet room here plain =
+    let token : Token = record { at = at; len = 1; kind = kinds.Char octet } in
+    next_at sign octets at (record { item = known.Char octet; len = 1 }) (token, refl, refl, single_token octets at octet room here plain, refl)
+
 -- reading leaves the octets
 pub same_octets : {source : Counted} {octets : List ℕ} {steps : ℕ} → source ≡ record { octets = octets; steps = steps } → source.octets ≡ octets
 same_octets same = ap (λ (x : Counted). x.octets) same
+
+-- the steps of one call, and then those of another
+pub steps_then : (a : Counted) {b d : Counted} {low high low' high' : ℕ} → RisesBetween a b low high → RisesBetween b d low' high' → RisesBetween a d (low + low') (high + high')
+steps_then a r s = rises_then a _ _ _ _ _ _ r s
+
+pub steps_within : (a : Counted) {b : Counted} {low high least most : ℕ} → RisesBetween a b low high → least ≤ low → high ≤ most → RisesBetween a b least most
+steps_within a (k, least, most, is) less more = (k, omega (arith, least, less), omega (arith, most, more), is)
+
+-- as many steps as were counted
+pub steps_of : (a : Counted) {b : Counted} {k : ℕ} → b ≡ charged a k → RisesBetween a b k k
+steps_of a {b} {k} is = (k, omega arith, omega arith, is)
+
+pub no_steps : (a : Counted) {most : ℕ} → RisesBetween a a 0 most
+no_steps a = (0, omega arith, omega arith, sym (charged-zero a))
 
 -- the next item of an accepted string
 module _ (sign : SignData) (octets : List ℕ) (before rest : List Item) (item : Item) (at : ℕ) (p : IsPlaced sign octets before (item ∷ rest) at) where
@@ -155,6 +185,10 @@ fine_items sign off = push_ind (λ items. offences sign items ≡ [] → IsFine 
 pub spell_of-append : (xs ys : List LaidItem) → spell_of (xs ++ ys) ≡ spell_of xs ++ spell_of ys
 spell_of-append xs ys = ap spell (map-append (λ (p : LaidItem). p.item) xs ys) ∙ spell-append (items_of xs) (items_of ys)
 
+-- the items of a string, as they mean
+pub map_split : (before rest : List LaidItem) (item : LaidItem) (m : Meaning) → meant item ≡ m → map meant (before ++ item ∷ rest) ≡ map meant before ++ m ∷ map meant rest
+map_split before rest item m e = map-append meant before (item ∷ rest) ∙ ap (λ x. map meant before ++ x ∷ map meant rest) e
+
 pub few_pieces : (pieces : List LaidItem) → length (map meant pieces) ≡ length (items_of pieces)
 few_pieces [] = refl
 few_pieces (p ∷ pieces) = ap (λ n. Prim.Native.Nat.suc n) (few_pieces pieces)
@@ -199,11 +233,10 @@ stands_in {sign} {octets} {octets'} {before} {behind} {cursor} same b = subst (�
 
 -- AS THEY ARE LAID OUT
 
-same_head : {X : Type 0} (xs ys as' bs : List X) (a b : X) → length xs ≡ length ys → xs ++ a ∷ as' ≡ ys ++ b ∷ bs → a ≡ b
-same_head [] [] as' bs a b n e = cc
-same_head [] (y ∷ ys) as' bs a b n e = absurd (omega (arith, n))
-same_head (x ∷ xs) [] as' bs a b n e = absurd (omega (arith, n))
-same_head (x ∷ xs) (y ∷ ys) as' bs a b n e = same_head xs ys as' bs a b (omega (arith, n)) (cc)
+-- two lists are the same up to one place, and from there on
+pub same_parts : {X : Type 0} (xs ys as' bs : List X) → length xs ≡ length ys → xs ++ as' ≡ ys ++ bs → (xs ≡ ys) × (as' ≡ bs)
+same_parts xs ys as' bs n e =
+    (sym (take-append_seam xs as') ∙ (λ i. take (n i) (e i)) ∙ take-append_seam ys bs, sym (drop-append_seam xs as') ∙ (λ i. drop (n i) (e i)) ∙ drop-append_seam ys bs)
 
 -- what an item is laid out as, by its place among all
 pub laid_here : (sign : SignData) (before rest : List LaidItem) (piece : LaidItem) → map meant (before ++ piece ∷ rest) ≡ laid_meanings sign (items_of (before ++ piece ∷ rest))
@@ -215,6 +248,6 @@ laid_here sign before rest piece laid =
     let split : all ≡ ms ++ meaning piece.item ∷ map meaning (items_of rest) = ap (map meaning) (map-append (λ (p : LaidItem). p.item) before (piece ∷ rest)) ∙ map-append meaning (items_of before) (piece.item ∷ items_of rest) in
     let parts : laid_meanings sign (items_of (before ++ piece ∷ rest)) ≡ each_after f ms ++ f ms (meaning piece.item) ∷ each_after (λ more. f (ms ++ meaning piece.item ∷ more)) (map meaning (items_of rest)) =
     ap (each_after f) split ∙ each_after-append f ms (meaning piece.item ∷ map meaning (items_of rest)) ∙ ap (λ l. each_after f ms ++ f l (meaning piece.item) ∷ each_after (λ more. f (ms ++ meaning piece.item ∷ more)) (map meaning (items_of rest))) (append-nil ms) in
-    same_head (map meant before) (each_after f ms) (map meant rest) _ (meant piece) (f ms (meaning piece.item))
-    (few_pieces before ∙ sym (length-meanings (items_of before)) ∙ sym (each_after_length f ms))
-    (sym (map-append meant before (piece ∷ rest)) ∙ laid ∙ parts)
+    let same = (same_parts (map meant before) (each_after f ms) (meant piece ∷ map meant rest) _ (few_pieces before ∙ sym (length-meanings (items_of before)) ∙ sym (each_after_length f ms))
+    (sym (map-append meant before (piece ∷ rest)) ∙ laid ∙ parts)).1 in
+    cc

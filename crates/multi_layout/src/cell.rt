@@ -1,7 +1,8 @@
 //! A cell of a font, put on a plane.
 
-ghost use Rattle.std.specs.Prelude.{◌≡◌, ℕ, ◌+◌, ◌-◌, ◌<◌, ◌≤◌, ◌&&◌, nat_le, nat_lt, if◌then◌else◌};
+ghost use Rattle.std.specs.Prelude.{◌≡◌, ℕ, ◌+◌, ◌-◌, ◌<◌, ◌&&◌, nat_le, nat_lt, if◌then◌else◌};
 ghost use Rattle.page_plane.specs.Plane.{is_lit};
+ghost use Rattle.multi_layout.specs.kept.AreaDrawing.{IsCountedBy};
 ghost use Rattle.sign_font.specs.Cell as cells;
 ghost use Rattle.sign_font.specs.Sound.{IsSoundSize};
 
@@ -16,10 +17,7 @@ pub(crate) fn put_cell(cell: &Cell<'_>, column: u64, row: u64, on: bool, plane: 
     ensures pixels { (x y : ℕ) → x < plane.old.width → y < plane.old.height
         → is_lit plane.new x y ≡ (if nat_le column x && nat_le row y && nat_lt y (row + cell.now.height)
         && cells.is_lit cell.now (x - column) (y - row) then on else is_lit plane.old x y) }
-    ensures width { plane.new.width ≡ plane.old.width }
-    ensures height { plane.new.height ≡ plane.old.height }
-    ensures counted { plane.old.steps ≤ plane.new.steps }
-    ensures steps { plane.new.steps ≤ plane.old.steps + cell.now.height }
+    ensures counted { IsCountedBy plane.old plane.new cell.now.height }
 {
     let (columns, rows) = (u64::from(plane.width()), u64::from(plane.height()));
     if column >= columns || row >= rows {

@@ -19,50 +19,33 @@ pub(crate) struct Told {
 pub struct Checked<'a> {
     pub(crate) terms: Terms<'a>,
     pub(crate) source: Source<'a>,
-    pub(crate) pages: u8,
-    pub(crate) cycle: u32,
+    pub(crate) told: Told,
 }
 
 impl<'a> Model for Checked<'a> {
-    ghost use Rattle.std.specs.Prelude.{◌<◌, ◌^◌, length};
-    ghost use Rattle.multi_meaning.specs.Verdict.{Accepted, IsVerdict, IsCycle};
     ghost use Rattle.multi_layout.specs.CheckedData.{CheckedData};
+    ghost use Rattle.multi_layout.specs.kept.Told.{IsToldOf};
 
     ghost Value = { CheckedData };
 
     ghost view = { λ c. record { sign = c.terms; source = c.source } };
 
-    ghost invariant = { λ c. IsVerdict c.terms c.source.octets (Accepted c.pages) × IsCycle c.terms c.source.octets c.cycle
-        × (length c.source.octets < 2 ^ 32) };
+    ghost invariant = { λ c. IsToldOf c.terms c.source.octets c.told };
 }
 
 impl<'a> Checked<'a> {
-    ghost use Rattle.std.specs.Prelude.{◌<◌, ◌^◌, length};
-
     /// The number of pages, from 1 to the sign's limit.
     pub fn pages(&self) -> u8
         ensures { IsVerdict self.now.sign self.now.source.octets (Accepted result) }
     {
-        self.pages
+        self.told.pages
     }
 
     /// The cycle: the sum of the on times and off times of all pages, in tenths of a second.
     pub fn cycle(&self) -> u32
         ensures { IsCycle self.now.sign self.now.source.octets result }
     {
-        self.cycle
-    }
-
-    /// What is told of it.
-    pub(crate) fn told(&self) -> Told
-        ensures pages { IsVerdict self.now.sign self.now.source.octets (Accepted result.pages) }
-        ensures cycle { IsCycle self.now.sign self.now.source.octets result.cycle }
-        ensures short { length self.now.source.octets < 2 ^ 32 }
-    {
-        Told {
-            pages: self.pages,
-            cycle: self.cycle,
-        }
+        self.told.cycle
     }
 
     /// The number of steps that were taken over the string so far; `u64::MAX` means that many or more.

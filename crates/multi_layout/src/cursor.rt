@@ -2,7 +2,6 @@
 
 ghost use Rattle.std.specs.Prelude.{◌≡◌, false, None, ℕ, ◌+◌, ◌-◌, ◌*◌, ◌<◌, ◌≤◌, ◌==◌, if◌then◌else◌, ◌⊎◌, ◌^◌, [], ◌∷◌, ◌++◌, List, Some, IfSome};
 ghost use Rattle.multi_token.specs.Counted.{RisesBetween};
-ghost use Rattle.multi_token.specs.Spelling as spelled;
 ghost use Rattle.sign_font.specs.Sign.{SignData};
 ghost use Rattle.sign_font.specs.Sound.{IsSound};
 ghost use Rattle.sign_font.specs.Text.{width_in};
@@ -11,9 +10,12 @@ ghost use Rattle.multi_meaning.specs.Offence.{unsized_offence};
 ghost use Rattle.multi_judge.specs.KnownItem.{meant_by};
 ghost use Rattle.multi_judge.specs.Run.{IsBehindCharacter};
 ghost use Rattle.multi_judge.specs.State.{IsReady, IsStateOf};
-ghost use Rattle.multi_layout.specs.kept.Cursors.{GoesBehind, IsBefore, IsBetween, LaidItem};
-ghost use Rattle.multi_layout.specs.kept.Passing.{IsAtStart, IsPageSkipped, IsPassing, IsPassingBefore, IsTextPassed, PassesOn};
-ghost use Rattle.multi_layout.specs.kept.Settings.{AreSettingsPassed, IsBegun, IsMet, IsNextAt, MayMeet, item_steps, met_octets, met_steps};
+ghost use Rattle.page_plane.specs.Plane.{BitPlane};
+ghost use Rattle.multi_layout.specs.declared.paint.Layer.{Layer};
+ghost use Rattle.multi_layout.specs.kept.AreaDrawing.{IsPageDrawn};
+ghost use Rattle.multi_layout.specs.kept.Cursors.{GoesBehind, IsBefore};
+ghost use Rattle.multi_layout.specs.kept.Passing.{IsAtStart, IsOnTheWay, IsPageSkipped, IsPassingBefore, PassesOn};
+ghost use Rattle.multi_layout.specs.kept.Settings.{IsBegun, IsMet, IsNextAt, MayMeet, PassesSettings, item_steps, met_octets, met_steps};
 
 use crate::bracket::{is_bracket, read_spelled};
 use multi_judge::{KnownItem, NextItem, Run, State, Terms, judge_tag};
@@ -41,9 +43,8 @@ impl Cursor {
 
     /// Goes behind the settings from here on, and puts them into force. What stands there then is read.
     pub(crate) fn pass_settings(&mut self, sign: &Terms<'_>, source: &mut Source<'_>) -> Begun
-        requires { (before behind : List LaidItem) × IsBetween sign.now source.old.octets before behind self.old }
-        ensures passed { (before behind : List LaidItem) → IsBetween sign.now source.old.octets before behind self.old
-            → AreSettingsPassed sign.now source.old.octets before behind self.new }
+        requires { (layer : Layer) × (page : ℕ) × (plane : BitPlane) × IsPageDrawn sign.now source.old.octets layer page self.old plane }
+        ensures passed { PassesSettings sign.now source.old.octets self.old self.new }
         ensures begun { IsBegun sign.now source.old.octets self.new.at result }
         ensures on { self.old.at ≤ self.new.at }
         ensures steps { RisesBetween source.old source.new 0 (9 * (self.new.at - self.old.at) + 1 + item_steps result.item) }
@@ -68,9 +69,8 @@ impl Cursor {
 
     /// Goes behind the page that begins here, and lays nothing out: behind the `np` that ends it, or to the end of the string.
     pub(crate) fn pass_page(&mut self, sign: &Terms<'_>, source: &mut Source<'_>)
-        requires { (before behind : List spelled.Item) × IsPassing sign.now source.old.octets before behind self.old }
-        ensures passed { (before behind : List spelled.Item) → IsPassing sign.now source.old.octets before behind self.old
-            → IsPageSkipped sign.now source.old.octets before behind self.old self.new }
+        requires { IsOnTheWay sign.now source.old.octets self.old }
+        ensures passed { IsPageSkipped sign.now source.old.octets self.old self.new }
         ensures on { self.old.at ≤ self.new.at }
         ensures steps { RisesBetween source.old source.new 0
             (9 * (self.new.at - self.old.at) + (if self.new.state.pages == self.old.state.pages then 1 else 0)) }
@@ -105,9 +105,8 @@ impl Cursor {
 
     /// Goes behind octets from here on that stand for themselves, as many as one reading takes, and lays nothing out.
     fn skip_text(&mut self, sign: &Terms<'_>, source: &mut Source<'_>)
-        requires { (before behind : List spelled.Item) × IsPassing sign.now source.old.octets before behind self.old }
-        ensures passed { (before behind : List spelled.Item) → IsPassing sign.now source.old.octets before behind self.old
-            → IsTextPassed sign.now source.old.octets before behind self.new }
+        requires { IsOnTheWay sign.now source.old.octets self.old }
+        ensures passed { IsOnTheWay sign.now source.old.octets self.new }
         ensures on { self.old.at ≤ self.new.at }
         ensures state { self.new.state ≡ self.old.state }
         ensures steps { RisesBetween source.old source.new 0 (2 * (self.new.at - self.old.at) + 3) }

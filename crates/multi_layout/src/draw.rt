@@ -1,18 +1,19 @@
 //! The drawing of a page into one plane: each area is read for the table of its lines, and then to put its cells.
 
-ghost use Rattle.std.specs.Prelude.{◌^◌, ◌≡◌, ◌≢◌, ℕ, ◌+◌, ◌-◌, ◌*◌, ◌≤◌, [], ◌∷◌, ◌++◌, List, Option, IfSome, Some, false, length, map, slice_get, ◌==◌};
+ghost use Rattle.std.specs.Prelude.{◌^◌, ◌≡◌, ◌≢◌, ℕ, ◌+◌, ◌-◌, ◌*◌, ◌≤◌, ◌∷◌, List, Option, IfSome, Some, slice_get, ◌==◌};
 ghost use Rattle.std.specs.Option.{unwrap_or};
 ghost use Rattle.multi_token.specs.Counted.{RisesBetween, charged};
 ghost use Rattle.multi_tag.specs.declared.just.LineJust.TheVariants.{Full};
+ghost use Rattle.sign_font.specs.Sound.{IsSound};
 ghost use Rattle.multi_meaning.specs.Drawn.{Lights};
-ghost use Rattle.multi_meaning.specs.Meaning.{begins_area};
-ghost use Rattle.multi_meaning.specs.Picture.{in_plane, shown_colour};
+ghost use Rattle.multi_meaning.specs.Picture.{picture, shown_colour};
 ghost use Rattle.multi_layout.specs.Pages.{IsSized};
 ghost use Rattle.multi_layout.specs.kept.PageDrawing.{IsFilledFew, IsPagePassed, IsPageStart, IsReadTwice};
-ghost use Rattle.multi_layout.specs.kept.AreaDrawing.{DrawsOn, HasCounted, IsFilledBy, OverArea, BeginsNoArea, IsQuiet, whole_area};
-ghost use Rattle.multi_layout.specs.kept.RunDrawing.{AreaSoFar, IsItemHere, IsNextDrawn, IsReadBehind, PlacesNext, octets_read};
+ghost use Rattle.multi_layout.specs.kept.AreaDrawing.{DrawsOn, HasCounted, IsAreaDrawn, IsCountedBy, IsFilledBy, IsPageDrawn, IsQuiet, whole_area};
+ghost use Rattle.multi_layout.specs.kept.RunDrawing.{DrawsNext, IsNextDrawn, IsReadBehind, PlacesNext, octets_read};
 ghost use Rattle.multi_layout.specs.Limits.{plane_octets};
-ghost use Rattle.multi_layout.specs.kept.Cursors.{GoesBehind, IsBetween, IsItemRead, IsRead, meant, LaidItem, spell_of};
+ghost use Rattle.multi_layout.specs.kept.Cursors.{IsBetween, IsItemRead, IsRead, LaidItem};
+ghost use Rattle.multi_layout.specs.kept.Settings.{item_steps};
 
 use crate::cursor::{Cursor, Met, meet};
 use crate::draw_run::draw_run;
@@ -36,11 +37,9 @@ pub(crate) fn draw_page(
 )
     requires begins { IsPageStart sign.now source.old.octets cursor.old }
     requires size { IsSized plane.old sign.now }
-    ensures drawn { (before behind : List LaidItem) → IsBetween sign.now source.old.octets before behind cursor.old
-        → Lights plane.new
-        (λ column row. in_plane sign.now (map meant (before ++ behind)) (cursor.old.state.pages - 1) layer.phase layer.colour column row) }
-    ensures passed { (before behind : List LaidItem) → IsBetween sign.now source.old.octets before behind cursor.old
-        → IsPagePassed sign.now source.old.octets before behind cursor.old cursor.new }
+    ensures drawn { Lights plane.new
+        (picture sign.now source.old.octets (cursor.old.state.pages - 1) layer.phase layer.colour) }
+    ensures passed { IsPagePassed sign.now source.old.octets cursor.old cursor.new }
     ensures size { (plane.new.width ≡ plane.old.width) × (plane.new.height ≡ plane.old.height) }
     ensures kept { source.new.octets ≡ source.old.octets }
     ensures steps { IsReadTwice source.old source.new cursor.old cursor.new }
@@ -48,9 +47,7 @@ pub(crate) fn draw_page(
 {
     plane.fill(layer.has(sign, cursor.state.attributes.back));
     loop {
-        let begun = cursor.pass_settings(sign, source);
-        read_area(sign, source, cursor, begun, read);
-        draw_area(sign, source, cursor, read, layer, plane);
+        draw_next_area(sign, source, cursor, layer, read, plane);
         let Some(next) = read.next else {
             return;
         };
@@ -59,6 +56,29 @@ pub(crate) fn draw_page(
             return;
         }
     }
+}
+
+/// Reads the area that begins at a cursor and draws it, and goes behind it.
+fn draw_next_area(
+    sign: &Terms<'_>,
+    source: &mut Source<'_>,
+    cursor: &mut Cursor,
+    layer: Layer,
+    read: &mut AreaLines,
+    plane: &mut Plane,
+)
+    requires sound { IsSound sign.now }
+    requires known { (page : ℕ) × IsPageDrawn sign.now source.old.octets layer page cursor.old plane.old }
+    requires size { IsSized plane.old sign.now }
+    ensures drawn { (page : ℕ) → IsPageDrawn sign.now source.old.octets layer page cursor.old plane.old
+        → IsAreaDrawn sign.now source.old.octets layer page read.new cursor.new plane.new }
+    ensures at { (cursor.old.at ≤ cursor.new.at) × (cursor.new.at ≡ read.new.end) }
+    ensures steps { RisesBetween source.old source.new 0 (18 * (cursor.new.at - cursor.old.at) + 1 + item_steps read.new.next) }
+    ensures fills { IsFilledBy sign.now plane.old plane.new (cursor.new.at - cursor.old.at) }
+{
+    let begun = cursor.pass_settings(sign, source);
+    read_area(sign, source, cursor, begun, read);
+    draw_area(sign, source, cursor, read, layer, plane);
 }
 
 /// Draws the items of an area from its start on, and goes behind them.
@@ -70,14 +90,10 @@ fn draw_area(
     layer: Layer,
     plane: &mut Plane,
 )
-    requires known { (before area rest : List LaidItem) × IsBetween sign.now source.old.octets before (area ++ rest) cursor.old
-        × BeginsNoArea area × (read.now.end ≡ cursor.old.at + length (spell_of area))
-        × HasCounted (whole_area sign.now before (area ++ rest)) read.now.lines }
+    requires known { (page : ℕ) × IsAreaDrawn sign.now source.old.octets layer page read.now cursor.old plane.old }
     requires size { IsSized plane.old sign.now }
-    ensures passed { OverArea sign.now source.old.octets cursor.old read.now
-        (λ before area rest. IsBetween sign.now source.old.octets (before ++ area) rest cursor.new) }
-    ensures drawn { OverArea sign.now source.old.octets cursor.old read.now
-        (λ before area rest. DrawsOn sign.now layer before area rest plane.old plane.new) }
+    ensures drawn { DrawsOn sign.now source.old.octets layer read.now cursor.old cursor.new plane.old plane.new }
+    ensures at { cursor.new.at ≡ read.now.end }
     ensures steps { RisesBetween source.old source.new 0 (9 * (read.now.end - cursor.old.at)) }
     ensures fills { IsFilledBy sign.now plane.old plane.new (read.now.end - cursor.old.at) }
 {
@@ -102,8 +118,7 @@ fn draw_area(
 
 /// The next item as it is laid out: a space that is dropped is the end of its line.
 fn lay(sign: &Terms<'_>, cursor: &Cursor, lines: &LineTable, next: NextItem) -> NextItem
-    requires stands { (octets : List ℕ) × (before rest : List LaidItem) × (item : LaidItem)
-        × IsBetween sign.now octets before (item ∷ rest) cursor.now }
+    requires stands { (octets : List ℕ) × (before behind : List LaidItem) × IsBetween sign.now octets before behind cursor.now }
     ensures read { (octets : List ℕ) (before rest : List LaidItem) (item : LaidItem)
         → IsBetween sign.now octets before (item ∷ rest) cursor.now
         → HasCounted (whole_area sign.now before (item ∷ rest)) lines.now → IsItemRead item.item next → IsRead item result }
@@ -149,18 +164,15 @@ fn draw_next(
     layer: Layer,
     plane: &mut Plane,
 ) -> Option<u8>
-    requires known { (before area rest : List LaidItem) × (item : LaidItem) × IsNextDrawn sign.now source.old.octets before area rest item
-        next read.now cursor.old }
+    requires known { (page : ℕ) × IsNextDrawn sign.now source.old.octets layer page read.now next cursor.old plane.old }
     requires size { IsSized plane.old sign.now }
-    ensures so_far { (before area rest : List LaidItem) (item : LaidItem)
-        → IsNextDrawn sign.now source.old.octets before area rest item next read.now cursor.old
-        → AreaSoFar sign.now source.old.octets before (item ∷ area) rest read.now.lines layer cursor.new plane.old plane.new }
+    ensures drawn { DrawsNext sign.now source.old.octets layer read.now next cursor.old cursor.new plane.old plane.new }
     ensures next { IsReadBehind source.old.octets cursor.new.at read.now.end result }
     ensures steps { RisesBetween source.old source.new 0 (8 + 9 * (cursor.new.at - (cursor.old.at + next.len)) + octets_read result) }
     ensures fills { IsFilledBy sign.now plane.old plane.new (cursor.new.at - cursor.old.at) }
     ensures forward { cursor.old.at + next.len ≤ cursor.new.at }
 {
-    let place = draw_item(sign, source, cursor, next, &read.lines, layer, plane)?;
+    let place = draw_item(sign, source, cursor, next, read, layer, plane)?;
     draw_run(sign, source, cursor, place, read, layer, plane)
 }
 
@@ -170,21 +182,17 @@ fn draw_item(
     source: &mut Source<'_>,
     cursor: &mut Cursor,
     next: NextItem,
-    lines: &LineTable,
+    read: &AreaLines,
     layer: Layer,
     plane: &mut Plane,
 ) -> Option<Place>
-    requires known { (before rest : List LaidItem) × (item : LaidItem)
-        × IsItemHere sign.now source.old.octets before rest item next lines.now cursor.old }
+    requires known { (page : ℕ) × IsNextDrawn sign.now source.old.octets layer page read.now next cursor.old plane.old }
     requires size { IsSized plane.old sign.now }
-    ensures passed { GoesBehind sign.now source.old.octets next cursor.old cursor.new }
-    ensures drawn { (before rest : List LaidItem) (item : LaidItem)
-        → IsItemHere sign.now source.old.octets before rest item next lines.now cursor.old → begins_area (meant item) ≡ false
-        → DrawsOn sign.now layer before (item ∷ []) rest plane.old plane.new }
+    ensures drawn { DrawsNext sign.now source.old.octets layer read.now next cursor.old cursor.new plane.old plane.new }
     ensures at { cursor.new.at ≡ cursor.old.at + next.len }
     ensures steps { RisesBetween source.old source.new 0 8 }
     ensures fills { IsFilledBy sign.now plane.old plane.new next.len }
-    ensures beside { IfSome result (PlacesNext sign.now source.old.octets next lines.now cursor.old cursor.new) }
+    ensures beside { IfSome result (PlacesNext sign.now source.old.octets layer read.now next cursor.old cursor.new plane.old plane.new) }
 {
     match next.item {
         KnownItem::Char(number) => {
@@ -195,7 +203,7 @@ fn draw_item(
             };
             let width = cell.width();
             cursor.pass_character(number, width, next.len);
-            let lines = lines.group(attributes.page_just);
+            let lines = read.lines.group(attributes.page_just);
             let place = place_at(&attributes, &cursor.state.area, lines, width);
             put_character(sign, &attributes, &cell, place, layer, plane);
             beside(&attributes, place, width)
@@ -232,10 +240,7 @@ fn draw_tag(sign: &Terms<'_>, tag: Tag, layer: Layer, plane: &mut Plane)
     ensures back { (given : Option ℕ) → tag ≡ Tag.Back given
         → Lights plane.new (λ column row. shown_colour sign.now (unwrap_or given sign.now.defaults.back) == layer.colour) }
     ensures quiet { IsQuiet tag → plane.new ≡ plane.old }
-    ensures counted { plane.old.steps ≤ plane.new.steps }
-    ensures steps { plane.new.steps ≤ plane.old.steps + plane_octets sign.now }
-    ensures width { plane.new.width ≡ plane.old.width }
-    ensures height { plane.new.height ≡ plane.old.height }
+    ensures counted { IsCountedBy plane.old plane.new (plane_octets sign.now) }
 {
     if let Tag::Back(colour) = tag {
         let colour = colour.unwrap_or(sign.defaults.back);

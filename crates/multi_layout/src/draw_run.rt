@@ -1,13 +1,12 @@
 //! Characters behind one that was drawn, with the same attributes: each stands beside the one before it.
 
-ghost use Rattle.std.specs.Prelude.{◌≡◌, ◌≢◌, ◌+◌, ◌-◌, ◌*◌, ◌^◌, ◌<◌, ◌≤◌, List};
+ghost use Rattle.std.specs.Prelude.{◌≡◌, ◌≢◌, ◌+◌, ◌-◌, ◌*◌, ℕ, ◌^◌, ◌<◌, ◌≤◌};
 ghost use Rattle.multi_token.specs.Counted.{RisesBetween};
 ghost use Rattle.multi_tag.specs.declared.just.LineJust.TheVariants.{Full};
 ghost use Rattle.sign_font.specs.declared.parts.LineFill.TheVariants.{Off};
 ghost use Rattle.multi_layout.specs.kept.AreaDrawing.{IsFilledBy};
-ghost use Rattle.multi_layout.specs.kept.Cursors.{LaidItem};
 ghost use Rattle.multi_judge.specs.Run.{IsBehindCharacter};
-ghost use Rattle.multi_layout.specs.kept.RunDrawing.{DrawsRun, IsReadBehind, IsRunHere, cursor_behind, octets_read};
+ghost use Rattle.multi_layout.specs.kept.RunDrawing.{DrawsRun, IsReadBehind, IsRunDrawn, cursor_behind, octets_read};
 ghost use Rattle.multi_layout.specs.Pages.{IsSized};
 
 use crate::bracket::is_bracket;
@@ -34,9 +33,9 @@ pub(crate) fn draw_run(
     requires behind { IsBehindCharacter cursor.old.state }
     requires apart { cursor.old.state.attributes.line_just ≢ Full }
     requires low { place.column ≤ 2 ^ 63 }
-    requires known { (before area rest : List LaidItem) × IsRunHere sign.now source.old.octets before area rest read.now place cursor.old }
+    requires known { (page : ℕ) × IsRunDrawn sign.now source.old.octets layer page read.now place cursor.old plane.old }
     requires size { IsSized plane.old sign.now }
-    ensures so_far { DrawsRun sign.now source.old.octets read.now place layer cursor.old cursor.new plane.old plane.new }
+    ensures drawn { DrawsRun sign.now source.old.octets layer read.now place cursor.old cursor.new plane.old plane.new }
     ensures next { IsReadBehind source.old.octets cursor.new.at read.now.end result }
     ensures steps { RisesBetween source.old source.new 0 (9 * (cursor.new.at - cursor.old.at) + octets_read result) }
     ensures fills { IsFilledBy sign.now plane.old plane.new (cursor.new.at - cursor.old.at) }
@@ -67,9 +66,9 @@ fn draw_beside(
     requires off { sign.now.line_fill ≡ Off }
     requires on { IsBehindCharacter cursor.now.state }
     requires place { (cursor.now.state.attributes.line_just ≢ Full) × (place.column ≤ 2 ^ 63) }
-    requires known { (before area rest : List LaidItem) × IsRunHere sign.now source.old.octets before area rest read.now place cursor.now }
+    requires known { (page : ℕ) × IsRunDrawn sign.now source.old.octets layer page read.now place cursor.now plane.old }
     requires size { IsSized plane.old sign.now }
-    ensures so_far { DrawsRun sign.now source.old.octets read.now place layer cursor.now
+    ensures drawn { DrawsRun sign.now source.old.octets layer read.now place cursor.now
         (cursor_behind cursor.now place.column result.1 result.0) plane.old plane.new }
     ensures next { IsReadBehind source.old.octets result.0 read.now.end result.2 }
     ensures steps { RisesBetween source.old source.new 0 (9 * (result.0 - cursor.now.at) + octets_read result.2) }

@@ -3,17 +3,14 @@
 ghost use Rattle.std.specs.Prelude.{◌≡◌, ◌+◌, ◌-◌, ◌*◌, ◌^◌, ◌<◌, ◌≤◌, true, false, nat_lt, length, IfSome, MatchOption};
 ghost use Rattle.std.specs.Borrow.{sem};
 ghost use Rattle.multi_token.specs.Counted.{RisesBetween};
-ghost use Rattle.multi_token.specs.Reading.{reading};
-ghost use Rattle.multi_meaning.specs.LaidItems.{laid_out};
 ghost use Rattle.multi_meaning.specs.Drawn.{Lights};
 ghost use Rattle.multi_meaning.specs.Meaning.{meanings};
 ghost use Rattle.multi_meaning.specs.Picture.{picture, pixel_at};
 ghost use Rattle.multi_meaning.specs.Times.{shown};
-ghost use Rattle.multi_meaning.specs.Verdict.{Accepted, IsCycle, IsVerdict, pages_of};
-ghost use Rattle.multi_meaning.specs.kept.Fine.{IsAccepted, IsOrderly};
 ghost use Rattle.multi_layout.specs.Limits.{check_limit, drawing_limit, plane_limit, reading_limit};
 ghost use Rattle.multi_layout.specs.Pages.{IsSized, ShowsAt, TakesFew, page_count};
 ghost use Rattle.multi_layout.specs.kept.PageDrawing.{IsPageStart};
+ghost use Rattle.multi_layout.specs.kept.Told.{IsToldOf};
 
 use crate::checked::{Checked, Told};
 use crate::cursor::Cursor;
@@ -101,7 +98,7 @@ impl<'a> Checked<'a> {
         ensures plane_steps { (plane.old.steps ≤ plane.new.steps)
             × (plane.new.steps ≤ plane.old.steps + plane_limit self.old.sign (length self.old.source.octets)) }
     {
-        if page >= self.pages {
+        if page >= self.told.pages {
             return false;
         }
         let cursor = page_start(&self.terms, &mut self.source, page);
@@ -131,16 +128,8 @@ impl<'a> Checked<'a> {
         ensures plane_steps { (plane.old.steps ≤ plane.new.steps)
             × (plane.new.steps ≤ plane.old.steps + plane_limit self.old.sign (length self.old.source.octets)) }
     {
-        let told = self.told();
-        draw_told(
-            &self.terms,
-            &mut self.source,
-            told,
-            clock,
-            colour,
-            lines,
-            plane,
-        )
+        let (sign, source) = (&self.terms, &mut self.source);
+        draw_told(sign, source, self.told, clock, colour, lines, plane)
     }
 
     /// Takes the plane, to draw one page after another into it from page 0 on, each at this phase and in this colour as
@@ -182,9 +171,7 @@ pub(crate) fn draw_told(
     lines: &mut AreaLines,
     plane: &mut Plane,
 ) -> Shown
-    requires pages { IsVerdict sign.now source.old.octets (Accepted told.pages) }
-    requires cycle { IsCycle sign.now source.old.octets told.cycle }
-    requires short { length source.old.octets < 2 ^ 32 }
+    requires known { IsToldOf sign.now source.old.octets told }
     requires size { IsSized plane.old sign.now }
     ensures shown { ShowsAt sign.now source.old.octets clock colour plane.new result }
     ensures size { (plane.new.width ≡ plane.old.width) × (plane.new.height ≡ plane.old.height) }
@@ -206,9 +193,7 @@ pub(crate) fn draw_told(
 
 /// The cursor where a page begins, read from the front of the string.
 fn page_start(sign: &Terms<'_>, source: &mut Source<'_>, page: u8) -> Cursor
-    requires accepted { IsAccepted sign.now source.old.octets (reading source.old.octets).items }
-    requires orderly { IsOrderly sign.now (laid_out sign.now (meanings source.old.octets)) }
-    requires page { page < pages_of (meanings source.old.octets) }
+    requires known { (told : Told) × IsToldOf sign.now source.old.octets told × (page < told.pages) }
     ensures begins { IsPageStart sign.now source.old.octets result }
     ensures page { result.state.pages ≡ page + 1 }
     ensures steps { RisesBetween source.old source.new 0 (9 * result.at) }

@@ -1,8 +1,9 @@
 //! What a plane shows of a page: the pixels of one colour at one phase.
 
-ghost use Rattle.std.specs.Prelude.{◌≡◌, ◌+◌, ◌≤◌, ◌==◌};
+ghost use Rattle.std.specs.Prelude.{◌≡◌, ◌==◌};
 ghost use Rattle.sign_font.specs.Sound.{IsSound, IsSoundSize};
 ghost use Rattle.multi_meaning.specs.Picture.{is_lit_at, shown_colour};
+ghost use Rattle.multi_layout.specs.kept.AreaDrawing.{IsCountedBy};
 ghost use Rattle.multi_layout.specs.kept.RunDrawing.{DrawsCharacter};
 
 use crate::cell::put_cell;
@@ -63,10 +64,7 @@ pub(crate) fn put_character(
 )
     requires size { IsSoundSize cell.now }
     ensures drawn { DrawsCharacter sign.now layer attributes.now cell.now place plane.old plane.new }
-    ensures counted { plane.old.steps ≤ plane.new.steps }
-    ensures steps { plane.new.steps ≤ plane.old.steps + cell.now.height }
-    ensures width { plane.new.width ≡ plane.old.width }
-    ensures height { plane.new.height ≡ plane.old.height }
+    ensures counted { IsCountedBy plane.old plane.new cell.now.height }
 {
     if layer.is_lit(attributes.flash) {
         let on = layer.has(sign, attributes.fore);

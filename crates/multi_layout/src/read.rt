@@ -16,7 +16,7 @@ ghost use Rattle.multi_layout.specs.kept.AreaDrawing.{BeginsArea, ReadsArea, nex
 ghost use Rattle.multi_judge.specs.State.{IsLimited, IsReady};
 ghost use Rattle.multi_judge.specs.Sums.{IsBelow};
 ghost use Rattle.multi_judge.specs.Table.{group_lines};
-ghost use Rattle.multi_layout.specs.kept.Settings.{IsBegun};
+ghost use Rattle.multi_layout.specs.kept.Settings.{IsBegun, item_steps};
 
 use crate::cursor::{Begun, Cursor, Met, meet_known};
 use multi_judge::{
@@ -59,7 +59,10 @@ pub(crate) fn read_area(
     requires sound { IsSound sign.now }
     requires begun { IsBegun sign.now source.old.octets cursor.now.at begun }
     requires begins { BeginsArea sign.now source.old.octets cursor.now }
-    ensures read { ReadsArea sign.now source.old.octets cursor.now begun read.new source.old source.new }
+    ensures read { ReadsArea sign.now source.old.octets cursor.now read.new }
+    ensures known { item_steps begun.item ≤ 9 * (read.new.end - cursor.now.at) + item_steps read.new.next }
+    ensures steps { RisesBetween source.old source.new 0
+        (9 * (read.new.end - cursor.now.at) + item_steps read.new.next - item_steps begun.item) }
 {
     read.lines.clear();
     match sign.bare.line_fill() {
@@ -81,7 +84,10 @@ fn read_lines<const WORDS: bool>(
     requires begun { IsBegun sign.now source.old.octets cursor.now.at begun }
     requires none { (just : ℕ) → group_lines just read.old.lines ≡ [] }
     requires begins { BeginsArea sign.now source.old.octets cursor.now }
-    ensures read { ReadsArea sign.now source.old.octets cursor.now begun read.new source.old source.new }
+    ensures read { ReadsArea sign.now source.old.octets cursor.now read.new }
+    ensures known { item_steps begun.item ≤ 9 * (read.new.end - cursor.now.at) + item_steps read.new.next }
+    ensures steps { RisesBetween source.old source.new 0
+        (9 * (read.new.end - cursor.now.at) + item_steps read.new.next - item_steps begun.item) }
 {
     let mut at = cursor.at;
     let mut kept = Pass::new(cursor.state);

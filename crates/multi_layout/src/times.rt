@@ -1,16 +1,13 @@
 //! What a string shows at a clock.
 
-ghost use Rattle.std.specs.Prelude.{◌≡◌, ◌+◌, ◌-◌, ◌^◌, ◌<◌, ◌≤◌, Some, None, length};
+ghost use Rattle.std.specs.Prelude.{◌≡◌, ◌<◌, ◌≤◌, length};
 ghost use Rattle.multi_token.specs.Counted.{RisesBetween};
-ghost use Rattle.multi_token.specs.Reading.{reading};
 ghost use Rattle.multi_meaning.specs.Meaning.{meanings};
 ghost use Rattle.multi_meaning.specs.Times.{cycle, page_times, shown, shown_within};
-ghost use Rattle.multi_meaning.specs.Verdict.{Accepted, IsCycle, IsVerdict};
-ghost use Rattle.multi_meaning.specs.kept.Fine.{IsAccepted, IsOrderly};
-ghost use Rattle.multi_meaning.specs.LaidItems.{laid_out};
 ghost use Rattle.multi_layout.specs.Limits.{check_limit};
-ghost use Rattle.multi_layout.specs.kept.Passing.{IsAtStart};
+ghost use Rattle.multi_layout.specs.kept.Passing.{IsAtStart, IsShownIn};
 ghost use Rattle.multi_layout.specs.kept.PageDrawing.{IsStartOf};
+ghost use Rattle.multi_layout.specs.kept.Told.{IsToldOf};
 
 use crate::checked::{Checked, Told};
 use crate::cursor::Cursor;
@@ -30,8 +27,7 @@ impl<'a> Checked<'a> {
         ensures steps { RisesBetween self.old.source self.new.source 0 (check_limit (length self.old.source.octets)) }
     {
         let mut start = Cursor::new(&self.terms);
-        let told = self.told();
-        find_shown(&self.terms, &mut self.source, told, clock, &mut start)
+        find_shown(&self.terms, &mut self.source, self.told, clock, &mut start)
     }
 }
 
@@ -44,9 +40,7 @@ pub(crate) fn find_shown(
     clock: u64,
     start: &mut Cursor,
 ) -> Shown
-    requires pages { IsVerdict sign.now source.old.octets (Accepted told.pages) }
-    requires cycle { IsCycle sign.now source.old.octets told.cycle }
-    requires short { length source.old.octets < 2 ^ 32 }
+    requires known { IsToldOf sign.now source.old.octets told }
     requires start { IsAtStart sign.now start.old }
     ensures shown { result ≡ shown sign.now source.old.octets clock }
     ensures begins { IsStartOf sign.now source.old.octets result start.new }
@@ -64,8 +58,7 @@ pub(crate) fn find_shown(
 /// What an accepted string shows at a time of its cycle. The cursor, which stands before its first item, goes to where a page that is shown
 /// begins.
 fn find_page(sign: &Terms<'_>, source: &mut Source<'_>, time: u64, start: &mut Cursor) -> Shown
-    requires accepted { IsAccepted sign.now source.old.octets (reading source.old.octets).items }
-    requires orderly { IsOrderly sign.now (laid_out sign.now (meanings source.old.octets)) }
+    requires known { (told : Told) × IsToldOf sign.now source.old.octets told }
     requires within { time < cycle (page_times sign.now (meanings source.old.octets)) }
     requires start { IsAtStart sign.now start.old }
     ensures shown { result ≡ shown_within (page_times sign.now (meanings source.old.octets)) time }
@@ -86,10 +79,7 @@ fn find_page(sign: &Terms<'_>, source: &mut Source<'_>, time: u64, start: &mut C
 fn shown_in(start: &State, times: &Attributes, time: u64) -> Option<Shown>
     requires some { 1 ≤ start.now.pages }
     requires began { start.now.cycle ≤ time }
-    ensures on { time < start.now.cycle + times.now.on → result ≡ Some (Shown.Page (start.now.pages - 1) (time - start.now.cycle)) }
-    ensures off { start.now.cycle + times.now.on ≤ time → time < start.now.cycle + times.now.on + times.now.off
-        → result ≡ Some Shown.Off }
-    ensures ended { start.now.cycle + times.now.on + times.now.off ≤ time → result ≡ None }
+    ensures { IsShownIn start.now times.now time result }
 {
     let phase = time - u64::from(start.cycle);
     let on = u64::from(times.on);

@@ -85,8 +85,7 @@ pub fn check_with<'a>(
     let mut source = source;
     match judge_string(&terms, &mut source) {
         Ok(told) => Ok(Checked {
-            pages: told.pages,
-            cycle: told.cycle,
+            told,
             terms,
             source,
         }),

@@ -1,8 +1,6 @@
 -- The two readings of an area: one for the table of its lines, one to put its cells.
-use Rattle.std.specs.Prelude.{◌≡◌, ℕ, ◌+◌, ◌-◌, ◌*◌, ◌≤◌, false, nat_lt, List, [], ◌∷◌, ◌++◌, map, length, if◌then◌else◌}
+use Rattle.std.specs.Prelude.{◌≡◌, ℕ, ◌+◌, ◌*◌, ◌≤◌, false, nat_lt, List, [], ◌∷◌, ◌++◌, map, length, if◌then◌else◌}
 use Rattle.std.specs.List.{All}
-use Rattle.multi_token.specs.Counted.{Counted, RisesBetween}
-use Rattle.multi_token.specs.Spelling.{Item, spelling}
 use Rattle.multi_tag.specs.declared.tag.Tag.{Tag}
 use Rattle.multi_tag.specs.declared.tag.Tag.TheVariants.{Back}
 use Rattle.multi_tag.specs.Just.{page_number}
@@ -12,7 +10,6 @@ use Rattle.multi_meaning.specs.Address.{Spot, spots, standing, in_group, lines_o
 use Rattle.multi_meaning.specs.Drawn.{Lights, has_colour}
 use Rattle.multi_meaning.specs.Meaning.{Meaning, Shows, EndsArea, begins_area, has_place}
 use Rattle.multi_meaning.specs.kept.Present.{ended_lines, present_area}
-use Rattle.multi_layout.specs.declared.cursor.Begun.{Begun}
 use Rattle.multi_layout.specs.declared.cursor.Cursor.{Cursor}
 use Rattle.multi_layout.specs.declared.paint.Layer.{Layer}
 use Rattle.multi_layout.specs.declared.read.AreaLines.{AreaLines}
@@ -20,7 +17,6 @@ use Rattle.multi_judge.specs.declared.state.State.{State}
 use Rattle.multi_judge.specs.declared.table.LineTable.{LineTable}
 use Rattle.multi_layout.specs.Limits.{plane_octets}
 use Rattle.multi_layout.specs.kept.Cursors.{IsBetween, IsFirst, items_of, meant, LaidItem, spell_of}
-use Rattle.multi_layout.specs.kept.Settings.{item_steps}
 use Rattle.multi_judge.specs.Table.{group_lines, table_of}
 
 -- the page justification of the group to which the next item belongs, if it has a place, or else that of the present group (own)
@@ -57,14 +53,8 @@ IsQuiet tag = Unit {0}
 abbrev pub whole_area : SignData → List LaidItem → List LaidItem → List Spot
 whole_area sign before behind = in_area (standing sign (map meant before)).area (spots sign (map meant (before ++ behind)))
 
--- the steps that reading the first of these items takes at most, and one at the end (own)
-abbrev pub first_steps : List Item → ℕ
-first_steps [] = 1
-first_steps (item ∷ rest) = 9 * length (spelling item) - 8
-
--- the area that begins at the cursor was read: these are its items, and those behind it; this was read of the first of them before (own)
-pub record IsAreaRead (sign : SignData) (before behind : List LaidItem) (cursor : Cursor) (begun : Begun) (read : AreaLines)
-    (source source' : Counted) : Type 0 where
+-- the cursor stands in an area that was read: these items are left of it, and this is known of those behind it (own)
+pub record IsInArea (sign : SignData) (read : AreaLines) (before behind : List LaidItem) (cursor : Cursor) : Type 0 where
   pub area : List LaidItem
   pub rest : List LaidItem
   pub split : behind ≡ area ++ rest
@@ -72,10 +62,7 @@ pub record IsAreaRead (sign : SignData) (before behind : List LaidItem) (cursor 
   pub ends : EndsArea (map meant rest)
   pub end : read.end ≡ cursor.at + length (spell_of area)
   pub next : IsFirst (items_of rest) read.next
-  pub table : HasCounted (whole_area sign before behind) read.lines
-  pub taken : ℕ
-  pub steps : RisesBetween source source' 0 taken
-  pub few : taken + 1 + item_steps begun.item ≤ 9 * length (spell_of area) + first_steps (items_of rest)
+  pub counted : HasCounted (whole_area sign before behind) read.lines
 
 -- an area begins at the cursor (own)
 abbrev pub BeginsArea : SignData → List ℕ → Cursor → Type 0
@@ -83,34 +70,55 @@ BeginsArea sign octets cursor =
     (before behind : List LaidItem) × IsBetween sign octets before behind cursor × (present_area sign (map meant before) ≡ [])
 
 -- it was read, wherever the cursor stands where it begins (own)
-abbrev pub ReadsArea : SignData → List ℕ → Cursor → Begun → AreaLines → Counted → Counted → Type 0
-ReadsArea sign octets cursor begun read source source' =
+abbrev pub ReadsArea : SignData → List ℕ → Cursor → AreaLines → Type 0
+ReadsArea sign octets cursor read =
     (before behind : List LaidItem) → IsBetween sign octets before behind cursor → present_area sign (map meant before) ≡ []
-    → IsAreaRead sign before behind cursor begun read source source'
+    → IsInArea sign read before behind cursor
 
 -- the plane shows what these items put on their page, of all the items of the string (own)
 abbrev pub IsDrawnTo : SignData → Layer → List Meaning → List Meaning → BitPlane → Type 0
 IsDrawnTo sign layer items before plane =
     Lights plane (has_colour sign (standing sign before).page layer.phase layer.colour (spots sign items) (spots sign before))
 
--- if the old plane shows what the items before these put on their page, the new one shows what these put on it too (own)
-abbrev pub DrawsOn : SignData → Layer → List LaidItem → List LaidItem → List LaidItem → BitPlane → BitPlane → Type 0
-DrawsOn sign layer before these rest old new =
-    IsDrawnTo sign layer (map meant (before ++ (these ++ rest))) (map meant before) old
-    → IsDrawnTo sign layer (map meant (before ++ (these ++ rest))) (map meant (before ++ these)) new
-
--- the same of a character by its number, whatever of the string is behind it (own)
+-- if the old plane shows what the items before a character put on their page, the new one shows what the character puts on it too (own)
 abbrev pub DrawsGlyph : SignData → Layer → List Meaning → ℕ → List Meaning → BitPlane → BitPlane → Type 0
 DrawsGlyph sign layer before number rest old new =
     IsDrawnTo sign layer (before ++ Shows number ∷ rest) before old
     → IsDrawnTo sign layer (before ++ Shows number ∷ rest) (before ++ Shows number ∷ []) new
 
--- so it is wherever the cursor stands before the items of an area that was read, and other items (own)
-abbrev pub OverArea : SignData → List ℕ → Cursor → AreaLines → (List LaidItem → List LaidItem → List LaidItem → Type 0) → Type 0
-OverArea sign octets cursor read So =
-    (before area rest : List LaidItem) → IsBetween sign octets before (area ++ rest) cursor → BeginsNoArea area
-    → read.end ≡ cursor.at + length (spell_of area)
-    → HasCounted (whole_area sign before (area ++ rest)) read.lines → So before area rest
+-- the cursor stands in this page, counted from 1, and the plane shows what the items before it put on the page (own)
+pub record IsDrawnUpTo (sign : SignData) (octets : List ℕ) (layer : Layer) (page : ℕ) (before behind : List LaidItem) (cursor : Cursor)
+    (plane : BitPlane) : Type 0 where
+  pub between : IsBetween sign octets before behind cursor
+  pub page_is : cursor.state.pages ≡ page
+  pub drawn : IsDrawnTo sign layer (map meant (before ++ behind)) (map meant before) plane
+
+-- a page is drawn as far as an area that begins at the cursor (own)
+pub record IsPageDrawn (sign : SignData) (octets : List ℕ) (layer : Layer) (page : ℕ) (cursor : Cursor) (plane : BitPlane) : Type 0 where
+  pub before : List LaidItem
+  pub behind : List LaidItem
+  pub up_to : IsDrawnUpTo sign octets layer page before behind cursor plane
+  pub begins : present_area sign (map meant before) ≡ []
+
+-- a page is drawn as far as the cursor in an area that was read (own)
+pub record IsAreaDrawn (sign : SignData) (octets : List ℕ) (layer : Layer) (page : ℕ) (read : AreaLines) (cursor : Cursor)
+    (plane : BitPlane) : Type 0 where
+  pub before : List LaidItem
+  pub behind : List LaidItem
+  pub up_to : IsDrawnUpTo sign octets layer page before behind cursor plane
+  pub left : IsInArea sign read before behind cursor
+
+-- from cursor to cursor the area is drawn on, whichever page it stands in (own)
+abbrev pub DrawsOn : SignData → List ℕ → Layer → AreaLines → Cursor → Cursor → BitPlane → BitPlane → Type 0
+DrawsOn sign octets layer read old new plane plane' =
+    (page : ℕ) → IsAreaDrawn sign octets layer page read old plane → IsAreaDrawn sign octets layer page read new plane'
+
+-- at most so many steps were taken over the plane, which has the same size (own)
+pub record IsCountedBy (plane plane' : BitPlane) (steps : ℕ) : Type 0 where
+  pub least : plane.steps ≤ plane'.steps
+  pub most : plane'.steps ≤ plane.steps + steps
+  pub width : plane'.width ≡ plane.width
+  pub height : plane'.height ≡ plane.height
 
 -- these octets of a page took at most these steps over the plane: a row for each row of each character, and a fill for each
 -- background, which has four octets (own)

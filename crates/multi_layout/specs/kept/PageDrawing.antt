@@ -1,11 +1,12 @@
 -- The drawing of pages, one after the other.
-use Rattle.std.specs.Prelude.{⊤, ◌≡◌, ◌⊎◌, ℕ, ◌+◌, ◌-◌, ◌*◌, ◌≤◌, ◌==◌, List, [], ◌++◌, map, if◌then◌else◌}
+use Rattle.std.specs.Prelude.{⊤, ◌≡◌, ◌⊎◌, ℕ, ◌+◌, ◌-◌, ◌*◌, ◌≤◌, ◌==◌, List, length, map, if◌then◌else◌}
 use Rattle.multi_token.specs.Counted.{Counted, RisesBetween}
 use Rattle.page_plane.specs.Plane.{BitPlane}
 use Rattle.sign_font.specs.Sign.{SignData, tallest}
 use Rattle.multi_meaning.specs.declared.times.Shown.{Shown}
 use Rattle.multi_meaning.specs.declared.times.Shown.TheVariants.{Page, Off}
-use Rattle.multi_meaning.specs.Meaning.{BeginsPage}
+use Rattle.multi_meaning.specs.Meaning.{BeginsPage, meanings}
+use Rattle.multi_meaning.specs.Verdict.{pages_of}
 use Rattle.multi_layout.specs.declared.cursor.Cursor.{Cursor}
 use Rattle.multi_layout.specs.Limits.{plane_octets}
 use Rattle.multi_layout.specs.kept.Cursors.{IsBetween, meant, LaidItem}
@@ -20,16 +21,13 @@ abbrev pub IsStartOf : SignData → List ℕ → Shown → Cursor → Type 0
 IsStartOf sign octets (Page page phase) cursor = IsPageStart sign octets cursor × (cursor.state.pages ≡ page + 1)
 IsStartOf sign octets Off cursor = ⊤
 
--- the page that begins at the old cursor is passed: the new one stands behind the `np` that ends it, or at the end of the string (own)
-pub record IsPagePassed (sign : SignData) (octets : List ℕ) (before behind : List LaidItem) (old new : Cursor) : Type 0 where
-  pub page : List LaidItem
-  pub rest : List LaidItem
-  pub split : behind ≡ page ++ rest
-  pub between : IsBetween sign octets (before ++ page) rest new
+-- the page that begins at the old cursor is passed: behind the `np` that ends it the next begins at the new one, or the string ends (own)
+pub record IsPagePassed (sign : SignData) (octets : List ℕ) (old new : Cursor) : Type 0 where
   pub on : old.at ≤ new.at
+  pub within : new.at ≤ length octets
   pub ends :
-      ((rest ≡ []) × (new.state.pages ≡ old.state.pages))
-      ⊎ (BeginsPage (map meant (before ++ page)) × (new.state.pages ≡ old.state.pages + 1))
+      ((new.state.pages ≡ old.state.pages) × (old.state.pages ≡ pages_of (meanings octets)))
+      ⊎ ((new.state.pages ≡ old.state.pages + 1) × IsPageStart sign octets new)
 
 -- the steps over the string from cursor to cursor: each octet is read at most twice for the table of its area's lines, and at most
 -- twice to draw; at the end of the string each of both takes one more (own)

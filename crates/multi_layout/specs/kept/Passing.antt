@@ -1,14 +1,18 @@
 -- Passing a page of an accepted string, with nothing laid out (own).
-use Rattle.std.specs.Prelude.{◌≡◌, ◌⊎◌, ℕ, ◌+◌, ◌<◌, not, List, [], ◌∷◌, ◌++◌, map}
+use Rattle.std.specs.Prelude.{◌≡◌, ◌⊎◌, ℕ, ◌+◌, ◌<◌, ◌≤◌, not, length, Option, Some, None, List, [], ◌∷◌, ◌++◌, map}
 use Rattle.std.specs.List.{filter}
 use Rattle.multi_token.specs.Spelling.{Item}
 use Rattle.sign_font.specs.Sign.{SignData}
-use Rattle.multi_meaning.specs.Meaning.{BeginsPage, Meaning, has_place, meaning}
-use Rattle.multi_meaning.specs.kept.Fine.{IsAccepted, IsOrderly}
-use Rattle.multi_meaning.specs.Times.{Times, ended_times, page_times}
+use Rattle.multi_meaning.specs.declared.times.Shown.{Shown}
+use Rattle.multi_meaning.specs.declared.times.Shown.TheVariants.{Page, Off}
+use Rattle.multi_meaning.specs.Meaning.{BeginsPage, Meaning, has_place, meaning, meanings}
+use Rattle.multi_meaning.specs.Verdict.{pages_of}
+use Rattle.multi_judge.specs.declared.attributes.Attributes.{Attributes}
+use Rattle.multi_judge.specs.declared.state.State.{State}
+use Rattle.multi_meaning.specs.Times.{Times, cycle, page_times}
 use Rattle.multi_layout.specs.declared.cursor.Cursor.{Cursor}
 use Rattle.multi_judge.specs.declared.item.NextItem.{NextItem}
-use Rattle.multi_layout.specs.kept.Cursors.{IsBetween, IsItemRead, IsPlaced, laid_meanings, pieces_of}
+use Rattle.multi_layout.specs.kept.Cursors.{IsItemRead, IsPlaced}
 use Rattle.multi_judge.specs.State.{IsStateOf}
 
 -- without the characters and the `nl`, which alone are laid out (own)
@@ -20,18 +24,21 @@ pub record IsPassing (sign : SignData) (octets : List ℕ) (before behind : List
   pub placed : IsPlaced sign octets before behind cursor.at
   pub state_is : IsStateOf sign (unplaced (map meaning before)) cursor.state
 
--- the cursor stands before the first item of whatever string is accepted (own)
+-- the cursor stands before the first item of a string (own)
 pub record IsAtStart (sign : SignData) (cursor : Cursor) : Type 0 where
-  pub between : (octets : List ℕ) (items : List Item) → IsAccepted sign octets items → IsOrderly sign (laid_meanings sign items)
-      → IsBetween sign octets [] (pieces_of sign items) cursor
-  pub passing : (octets : List ℕ) (items : List Item) → IsAccepted sign octets items → IsPassing sign octets [] items cursor
+  pub at : cursor.at ≡ 0
+  pub state_is : IsStateOf sign [] cursor.state
 
--- the cursor has passed some of the items behind, and nothing was laid out (own)
-pub record IsTextPassed (sign : SignData) (octets : List ℕ) (before behind : List Item) (cursor : Cursor) : Type 0 where
-  pub text : List Item
-  pub rest : List Item
-  pub split : behind ≡ text ++ rest
-  pub between : IsPassing sign octets (before ++ text) rest cursor
+-- the cursor stands between two items of an accepted string, and nothing was laid out (own)
+abbrev pub IsOnTheWay : SignData → List ℕ → Cursor → Type 0
+IsOnTheWay sign octets cursor = (before behind : List Item) × IsPassing sign octets before behind cursor
+
+-- and a page begins there (own)
+pub record IsAtPage (sign : SignData) (octets : List ℕ) (cursor : Cursor) : Type 0 where
+  pub before : List Item
+  pub behind : List Item
+  pub between : IsPassing sign octets before behind cursor
+  pub begins : BeginsPage (map meaning before)
 
 -- the cursor passes before an item of an accepted string, of which this is read (own)
 abbrev pub IsPassingBefore : SignData → List ℕ → NextItem → Cursor → Type 0
@@ -45,16 +52,23 @@ PassesOn sign octets next old new =
     → IsPassing sign octets (before ++ item ∷ []) rest new
 
 -- the page that begins at the old cursor is passed, and nothing was laid out: the new one stands behind the `np` that ends it, or at the
--- end of the string. The page's times are those in force there (own)
-pub record IsPageSkipped (sign : SignData) (octets : List ℕ) (before behind : List Item) (old new : Cursor) : Type 0 where
-  pub page : List Item
-  pub rest : List Item
+-- end of the string. The page's times are those in force there, behind those of earlier pages and before those of later ones (own)
+pub record IsPageSkipped (sign : SignData) (octets : List ℕ) (old new : Cursor) : Type 0 where
+  pub within : new.at ≤ length octets
+  pub earlier : List Times
   pub later : List Times
-  pub split : behind ≡ page ++ rest
-  pub between : IsPassing sign octets (before ++ page) rest new
-  pub times : page_times sign (map meaning (before ++ behind)) ≡
-      ended_times sign (map meaning before) ++ record { on = new.state.attributes.on; off = new.state.attributes.off } ∷ later
+  pub times : page_times sign (meanings octets) ≡
+      earlier ++ record { on = new.state.attributes.on; off = new.state.attributes.off } ∷ later
+  pub page_is : old.state.pages ≡ length earlier + 1
+  pub begins : old.state.cycle ≡ cycle earlier
   pub ends :
-      ((rest ≡ []) × (later ≡ []) × (new.state.pages ≡ old.state.pages))
-      ⊎ (BeginsPage (map meaning (before ++ page)) × (new.state.pages ≡ old.state.pages + 1) × (old.at < new.at)
-      × (new.state.cycle ≡ old.state.cycle + new.state.attributes.on + new.state.attributes.off))
+      ((new.state.pages ≡ old.state.pages) × (later ≡ []) × (old.state.pages ≡ pages_of (meanings octets)))
+      ⊎ ((new.state.pages ≡ old.state.pages + 1) × (old.at < new.at)
+      × (new.state.cycle ≡ old.state.cycle + new.state.attributes.on + new.state.attributes.off) × IsAtPage sign octets new)
+
+-- this is what a page shows at a time, if it isn't over: it begins at this state, and has these times (own)
+abbrev pub IsShownIn : State → Attributes → ℕ → Option Shown → Type 0
+IsShownIn start times time (Some (Page page phase)) =
+    (start.pages ≡ page + 1) × (time ≡ start.cycle + phase) × (time < start.cycle + times.on)
+IsShownIn start times time (Some Off) = (start.cycle + times.on ≤ time) × (time < start.cycle + times.on + times.off)
+IsShownIn start times time None = start.cycle + times.on + times.off ≤ time

@@ -1,12 +1,12 @@
 -- The drawing of an area's items, of which characters beside each other are drawn as a run (own).
-use Rattle.std.specs.Prelude.{◌≡◌, ◌≢◌, ℕ, ◌+◌, ◌-◌, ◌^◌, ◌<◌, ◌≤◌, true, List, [], ◌∷◌, ◌++◌, map, length, Option, None, Some, IfSome, slice_get}
+use Rattle.std.specs.Prelude.{◌≡◌, ◌≢◌, ℕ, ◌+◌, ◌-◌, ◌^◌, ◌<◌, ◌≤◌, true, false, List, ◌∷◌, ◌++◌, map, Option, None, Some, IfSome, slice_get}
 use Rattle.multi_tag.specs.declared.just.LineJust.TheVariants.{Full}
 use Rattle.page_plane.specs.Plane.{BitPlane}
 use Rattle.sign_font.specs.Cell.{SizedCell}
 use Rattle.sign_font.specs.Sign.{SignData, CellData, cell_in, cell_numbered}
 use Rattle.multi_meaning.specs.declared.place.Place.{Place}
 use Rattle.multi_meaning.specs.Address.{Glyph, Spot, is_glyph, spots, standing}
-use Rattle.multi_meaning.specs.Meaning.{Meaning, Shows}
+use Rattle.multi_meaning.specs.Meaning.{Meaning, Shows, begins_area}
 use Rattle.multi_meaning.specs.Place.{place_of}
 use Rattle.multi_judge.specs.declared.attributes.Attributes.{Attributes}
 use Rattle.multi_layout.specs.declared.cursor.Cursor.{Cursor}
@@ -14,37 +14,26 @@ use Rattle.multi_judge.specs.declared.item.NextItem.{NextItem}
 use Rattle.multi_layout.specs.declared.paint.Layer.{Layer}
 use Rattle.multi_layout.specs.declared.read.AreaLines.{AreaLines}
 use Rattle.multi_judge.specs.declared.state.State.{State}
-use Rattle.multi_judge.specs.declared.table.LineTable.{LineTable}
-use Rattle.multi_layout.specs.kept.AreaDrawing.{BeginsNoArea, DrawsGlyph, HasCounted, IsDrawnTo, whole_area}
-use Rattle.multi_layout.specs.kept.Cursors.{IsBetween, IsRead, LaidItem, meant, spell_of}
+use Rattle.multi_layout.specs.kept.AreaDrawing.{DrawsGlyph, IsAreaDrawn, IsDrawnUpTo, IsInArea}
+use Rattle.multi_layout.specs.kept.Cursors.{IsRead, LaidItem, meant}
 use Rattle.multi_judge.specs.Run.{IsBehindCharacter, lengthened, line_in_force}
 use Rattle.multi_judge.specs.State.{IsStateOf}
 
--- these of an area's items are drawn, and those are left (own)
-pub record AreaSoFar (sign : SignData) (octets : List ℕ) (before area rest : List LaidItem) (lines : LineTable) (layer : Layer)
-    (cursor : Cursor) (old new : BitPlane) : Type 0 where
-  pub done : List LaidItem
-  pub left : List LaidItem
-  pub split : area ≡ done ++ left
-  pub plain : BeginsNoArea left
-  pub between : IsBetween sign octets (before ++ done) (left ++ rest) cursor
-  pub counted : HasCounted (whole_area sign (before ++ done) (left ++ rest)) lines
-  pub drawn : IsDrawnTo sign layer (map meant (before ++ (area ++ rest))) (map meant before) old
-      → IsDrawnTo sign layer (map meant (before ++ (area ++ rest))) (map meant (before ++ done)) new
-
--- the cursor stands before an item of an area whose lines are in the table, and this is read of the item (own)
-pub record IsItemHere (sign : SignData) (octets : List ℕ) (before rest : List LaidItem) (item : LaidItem) (next : NextItem)
-    (lines : LineTable) (cursor : Cursor) : Type 0 where
-  pub between : IsBetween sign octets before (item ∷ rest) cursor
+-- a page is drawn as far as the cursor before an item of an area that was read, and this is read of the item (own)
+pub record IsNextDrawn (sign : SignData) (octets : List ℕ) (layer : Layer) (page : ℕ) (read : AreaLines) (next : NextItem) (cursor : Cursor)
+    (plane : BitPlane) : Type 0 where
+  pub before : List LaidItem
+  pub rest : List LaidItem
+  pub item : LaidItem
+  pub up_to : IsDrawnUpTo sign octets layer page before (item ∷ rest) cursor plane
+  pub left : IsInArea sign read before (item ∷ rest) cursor
   pub read_is : IsRead item next
-  pub counted : HasCounted (whole_area sign before (item ∷ rest)) lines
+  pub plain : begins_area (meant item) ≡ false
 
--- and the area was read: these are its items behind that one, and then these stand (own)
-pub record IsNextDrawn (sign : SignData) (octets : List ℕ) (before area rest : List LaidItem) (item : LaidItem) (next : NextItem)
-    (read : AreaLines) (cursor : Cursor) : Type 0 where
-  pub here : IsItemHere sign octets before (area ++ rest) item next read.lines cursor
-  pub plain : BeginsNoArea (item ∷ area)
-  pub ends : read.end ≡ cursor.at + length (spell_of (item ∷ area))
+-- from cursor to cursor the area is drawn on by that item, whichever page it stands in (own)
+abbrev pub DrawsNext : SignData → List ℕ → Layer → AreaLines → NextItem → Cursor → Cursor → BitPlane → BitPlane → Type 0
+DrawsNext sign octets layer read next old new plane plane' =
+    (page : ℕ) → IsNextDrawn sign octets layer page read next old plane → IsAreaDrawn sign octets layer page read new plane'
 
 -- the next item of a string, if it is a character, stands at this place (own)
 abbrev pub NextStandsAt : SignData → List Meaning → List Meaning → Place → Type 0
@@ -65,20 +54,16 @@ DrawsCharacter sign layer attributes cell place old new =
     → cell_in sign attributes.font.number number ≡ Some cell → StandsAt sign before number rest place
     → DrawsGlyph sign layer before number rest old new
 
--- the cursor stands before these items of an area that was read, the first of which stands at this place if it is a character (own)
-pub record IsRunHere (sign : SignData) (octets : List ℕ) (before area rest : List LaidItem) (read : AreaLines) (place : Place)
-    (cursor : Cursor) : Type 0 where
-  pub between : IsBetween sign octets before (area ++ rest) cursor
-  pub plain : BeginsNoArea area
-  pub ends : read.end ≡ cursor.at + length (spell_of area)
-  pub counted : HasCounted (whole_area sign before (area ++ rest)) read.lines
-  pub stands : NextStandsAt sign (map meant before) (map meant (before ++ (area ++ rest))) place
+-- a page is drawn as far as the cursor in an area that was read, and the next item stands at this place if it is a character (own)
+pub record IsRunDrawn (sign : SignData) (octets : List ℕ) (layer : Layer) (page : ℕ) (read : AreaLines) (place : Place) (cursor : Cursor)
+    (plane : BitPlane) : Type 0 where
+  pub so : IsAreaDrawn sign octets layer page read cursor plane
+  pub stands : NextStandsAt sign (map meant so.before) (map meant (so.before ++ so.behind)) place
 
--- the items are drawn up to the new cursor, where the old one stands before a run of them whose first stands at this place (own)
-abbrev pub DrawsRun : SignData → List ℕ → AreaLines → Place → Layer → Cursor → Cursor → BitPlane → BitPlane → Type 0
-DrawsRun sign octets read place layer cursor cursor' plane plane' =
-    (before area rest : List LaidItem) → IsRunHere sign octets before area rest read place cursor
-    → AreaSoFar sign octets before area rest read.lines layer cursor' plane plane'
+-- from cursor to cursor the area is drawn on, where the next item stands at this place if it is a character (own)
+abbrev pub DrawsRun : SignData → List ℕ → Layer → AreaLines → Place → Cursor → Cursor → BitPlane → BitPlane → Type 0
+DrawsRun sign octets layer read place old new plane plane' =
+    (page : ℕ) → IsRunDrawn sign octets layer page read place old plane → IsAreaDrawn sign octets layer page read new plane'
 
 -- the cursor behind characters up to an offset that lengthen its line from one column to another (own)
 abbrev pub cursor_behind : Cursor → ℕ → ℕ → ℕ → Cursor
@@ -89,12 +74,12 @@ cursor_behind cursor from column at = record {
 }
 
 -- behind an item that is drawn the next one stands at this place, if it is a character, and the line isn't full (own)
-pub record PlacesNext (sign : SignData) (octets : List ℕ) (next : NextItem) (lines : LineTable) (cursor cursor' : Cursor) (place : Place) :
-    Type 0 where
-  pub stands : (before rest : List LaidItem) (item : LaidItem) → IsItemHere sign octets before rest item next lines cursor
-      → NextStandsAt sign (map meant (before ++ item ∷ [])) (map meant (before ++ item ∷ rest)) place
-  pub behind : IsBehindCharacter cursor'.state
-  pub apart : cursor'.state.attributes.line_just ≢ Full
+pub record PlacesNext (sign : SignData) (octets : List ℕ) (layer : Layer) (read : AreaLines) (next : NextItem) (old new : Cursor)
+    (plane plane' : BitPlane) (place : Place) : Type 0 where
+  pub drawn : (page : ℕ) → IsNextDrawn sign octets layer page read next old plane
+      → IsRunDrawn sign octets layer page read place new plane'
+  pub behind : IsBehindCharacter new.state
+  pub apart : new.state.attributes.line_just ≢ Full
   pub low : place.column ≤ 2 ^ 63
 
 -- the octets that were read behind the cursor (own)

@@ -1,6 +1,5 @@
 -- Settings: tags that only set values that are in force behind them, met on the way through an accepted string (own).
-use Rattle.std.specs.Prelude.{◌≡◌, ℕ, ◌-◌, ◌*◌, ◌^◌, ◌<◌, true, List, ◌++◌, Option, Some, None, Ok, IfSome, length, slice_get}
-use Rattle.std.specs.List.{All}
+use Rattle.std.specs.Prelude.{◌≡◌, ℕ, ◌-◌, ◌*◌, ◌^◌, ◌<◌, true, List, Option, Some, None, Ok, IfSome, length, slice_get}
 use Rattle.multi_token.specs.Spelling.{Item}
 use Rattle.multi_tag.specs.declared.tag.Tag.{Tag}
 use Rattle.sign_font.specs.Sign.{SignData}
@@ -14,7 +13,10 @@ use Rattle.multi_judge.specs.declared.item.KnownItem.TheVariants as known
 use Rattle.multi_judge.specs.declared.item.NextItem.{NextItem}
 use Rattle.multi_judge.specs.declared.state.State.{State}
 use Rattle.multi_judge.specs.KnownItem.{is_setting}
-use Rattle.multi_layout.specs.kept.Cursors.{IsBetween, IsFirst, IsPlaced, IsWithin, LaidItem, meant}
+use Rattle.multi_layout.specs.kept.AreaDrawing.{IsPageDrawn}
+use Rattle.multi_layout.specs.kept.Cursors.{IsFirst, IsPlaced, IsWithin}
+use Rattle.multi_layout.specs.declared.paint.Layer.{Layer}
+use Rattle.page_plane.specs.Plane.{BitPlane}
 use Rattle.multi_judge.specs.State.{IsLimited, IsReady, IsStateOf, Judges}
 
 -- what this setting says is put into force: it doesn't offend behind any items, and the new state is that of the items with it (own)
@@ -61,10 +63,8 @@ abbrev pub item_steps : Option NextItem → ℕ
 item_steps None = 0
 item_steps (Some next) = 9 * next.len - 9
 
--- the settings from a cursor on are passed: the new one stands behind them (own)
-pub record AreSettingsPassed (sign : SignData) (octets : List ℕ) (before behind : List LaidItem) (new : Cursor) : Type 0 where
-  pub settings : List LaidItem
-  pub rest : List LaidItem
-  pub split : behind ≡ settings ++ rest
-  pub each : All (λ piece. is_setting (meant piece) ≡ true) settings
-  pub between : IsBetween sign octets (before ++ settings) rest new
+-- the settings from a cursor on are passed: what is drawn of a page as far as the old one is drawn as far as the new (own)
+abbrev pub PassesSettings : SignData → List ℕ → Cursor → Cursor → Type 0
+PassesSettings sign octets old new =
+    (layer : Layer) (page : ℕ) (plane : BitPlane) → IsPageDrawn sign octets layer page old plane
+    → IsPageDrawn sign octets layer page new plane

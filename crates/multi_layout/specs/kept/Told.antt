@@ -1,11 +1,18 @@
 -- The verdict on a string, with the steps that it took (own).
-use Rattle.std.specs.Prelude.{◌≡◌, ℕ, ◌+◌, ◌≤◌, List, length}
+use Rattle.std.specs.Prelude.{◌≡◌, ℕ, ◌+◌, ◌^◌, ◌<◌, ◌≤◌, List, length}
 use Rattle.multi_token.specs.Counted.{Counted}
 use Rattle.sign_font.specs.Sign.{SignData}
 use Rattle.multi_meaning.specs.Codes.{code_of}
 use Rattle.multi_meaning.specs.Verdict.{Accepted, IsCycle, IsVerdict, Refused}
+use Rattle.multi_layout.specs.declared.checked.Told.{Told}
 use Rattle.multi_layout.specs.declared.verdict.Offence.{Offence}
 use Rattle.multi_layout.specs.Limits.{check_limit}
+
+-- these are the pages of an accepted string, and the times of all of them together (own)
+pub record IsToldOf (sign : SignData) (octets : List ℕ) (told : Told) : Type 0 where
+  pub pages : IsVerdict sign octets (Accepted told.pages)
+  pub cycle : IsCycle sign octets told.cycle
+  pub short : length octets < 2 ^ 32
 
 -- the item at an offset is the first one that offends, by this error, and its first octet was read (own)
 pub record IsRefused (sign : SignData) (octets : List ℕ) (offence : Offence) (source : Counted) : Type 0 where

@@ -1,24 +1,13 @@
-use Rattle.std.proofs.Common.{◌≡◌, ℕ, ◌+◌, ◌-◌, ◌*◌, length, List, Err, refl, ap, subst, ◌∙◌, arith}
-use Rattle.multi_token.specs.Counted.{Counted, RisesBetween, charged}
-use Rattle.multi_token.specs.declared.token.Bracketed.{Bracketed}
-use Rattle.multi_token.specs.declared.token.Bracketed.TheVariants as bracketed
+use Rattle.std.proofs.Common.{◌≡◌, ℕ, ◌+◌, List, Err, refl, ap, subst, ◌∙◌, arith}
+use Rattle.multi_token.specs.Counted.{Counted}
 use Rattle.multi_token.specs.declared.token.Kind.TheVariants as kinds
 use Rattle.multi_token.specs.declared.token.Token.{Token}
 use Rattle.multi_token.specs.Tokens.{IsBracketed, body_of, octets_of}
-use Rattle.multi_token.proofs.StepLemmas.{rises_then, rises_more}
 use Rattle.multi_tag.specs.TagOf.{tag_of}
 use Rattle.multi_tag.proofs.TagOfLemmas.{tag_of-read}
 use Rattle.multi_meaning.proofs.ItemAtLemmas.{fault_at}
+use Rattle.multi_layout.proofs.WalkLemmas.{steps_of, steps_then, steps_within}
 use Rattle.multi_layout.proofs.bracket.fault_of.Goals as goal
-
--- the steps of finding a tag's end and of reading its body
-steps_of : (old found read : Counted) (at len : ℕ) (spelled : Bracketed) → spelled ≡ bracketed.Tag len → IsBracketed old.octets at 91 spelled → found ≡ charged old (octets_of spelled - 1) → RisesBetween found read 0 (len + 2 - 1)
-    → RisesBetween old read 0 (2 * (length old.octets - at))
-steps_of old found read at len spelled is stands steps rises =
-    let token = subst (IsBracketed old.octets at 91) is stands in
-    let long : octets_of spelled ≡ len + 2 = ap octets_of is in
-    rises_more old read 0 (octets_of spelled - 1 + (len + 2 - 1)) (2 * (length old.octets - at)) (omega (arith, long, token.within))
-    (rises_then old found read 0 (octets_of spelled - 1) 0 (len + 2 - 1) (octets_of spelled - 1, omega arith, omega arith, steps) rises)
 
 pub returns-in-Err-clause-fault : goal.returns-in-Err-clause-fault
 returns-in-Err-clause-fault c =
@@ -31,4 +20,6 @@ returns-in-Err-clause-fault c =
 
 pub returns-in-Err-clause-steps : goal.returns-in-Err-clause-steps
 returns-in-Err-clause-steps c =
-    steps_of c.args.source.now c.read_bracket.new.source c.read_tag.new.source c.args.at c.in-Ok-Tag.len c.in-Ok-Tag.field-0 c.in-Ok-Tag.field-0-is c.in-Ok-Tag.ensures.spelled c.in-Ok-Tag.ensures.steps c.read_tag.ensures.steps
+    let token = subst (IsBracketed c.args.source.now.octets c.args.at 91) c.in-Ok-Tag.field-0-is c.in-Ok-Tag.ensures.spelled in
+    steps_within c.args.source.now (steps_then c.args.source.now (steps_of c.args.source.now c.in-Ok-Tag.ensures.steps) c.read_tag.ensures.steps)
+    (omega arith) (omega (arith, ap octets_of c.in-Ok-Tag.field-0-is, token.within))

@@ -1,11 +1,12 @@
-use Rattle.std.proofs.Common.{◌≡◌, ℕ, ◌+◌, ◌-◌, ◌*◌, length, List, Some, inl, refl, ap, sym, subst, ◌∙◌, arith}
+use Rattle.std.proofs.Common.{◌≡◌, ℕ, ◌+◌, ◌-◌, length, List, Some, inl, refl, ap, sym, subst, ◌∙◌, arith}
 use Rattle.std.specs.Prelude.{min, slice_get}
 use Rattle.std.proofs.lemmas.Option.{slice_get_within}
 use Rattle.multi_token.specs.Counted.{Counted, charged}
 use Rattle.multi_token.proofs.PlaceLemmas.{none_closing}
-use Rattle.multi_token.proofs.StepLemmas.{charged-charged, rises_then, rises_more}
+use Rattle.multi_token.proofs.StepLemmas.{charged-charged}
 use Rattle.multi_tag.specs.Closed.{IsTagAt}
 use Rattle.multi_meaning.proofs.ItemAtLemmas.{ahead_steps, doubled_at, read_is, read_not, tag_at}
+use Rattle.multi_layout.proofs.WalkLemmas.{same_octets, steps_of, steps_then, steps_within}
 use Rattle.multi_layout.proofs.bracket.read_spelled.Goals as goal
 
 pub returns-then-eq-clause-item : goal.returns-then-eq-clause-item
@@ -33,12 +34,7 @@ returns-in-Some-clause-steps c =
 
 pub returns-in-None-clause-fault_steps : goal.returns-in-None-clause-fault_steps
 returns-in-None-clause-fault_steps c =
-    let within = slice_get_within c.args.source.now.octets c.args.at c.args.bracket c.requires.stands in
-    let same = ap (λ (s : Counted). s.octets) c.read.ensures.step in
-    let same' = ap (λ (s : Counted). s.octets) c.in-None.ensures.steps in
-    let k = min 26 (length c.read.new.self.octets - (c.args.at + 1)) in
-    let left : length c.read.new.self.octets ≡ length c.args.source.now.octets = ap length same in
-    let left' : length c.read_ahead.new.source.octets ≡ length c.args.source.now.octets = ap length (same' ∙ same) in
-    let first = rises_then c.args.source.now c.read.new.self c.read_ahead.new.source 0 1 0 k (1, omega arith, omega arith, c.read.ensures.step) (k, omega arith, omega arith, c.in-None.ensures.steps) in
-    let whole = rises_then c.args.source.now c.read_ahead.new.source c.fault_of.new.source 0 (1 + k) 0 (2 * (length c.read_ahead.new.source.octets - c.args.at)) first c.fault_of.ensures.steps in
-    rises_more c.args.source.now c.fault_of.new.source 0 (1 + k + 2 * (length c.read_ahead.new.source.octets - c.args.at)) (4 * (length c.args.source.now.octets - c.args.at)) (omega (arith, within, left, left')) whole
+    let start = c.args.source.now in
+    let first = same_octets c.read.ensures.step in
+    steps_within start (steps_then start (steps_then start (steps_of start c.read.ensures.step) (steps_of c.read.new.self c.in-None.ensures.steps)) c.fault_of.ensures.steps)
+    (omega arith) (omega (arith, slice_get_within start.octets c.args.at c.args.bracket c.requires.stands, ap length first, ap length (same_octets c.in-None.ensures.steps ∙ first)))

@@ -1,13 +1,12 @@
-use Rattle.std.proofs.Common.{◌≡◌, true, ◌+◌, ◌-◌, ◌*◌, refl, ap, sym, ◌∙◌, arith}
+use Rattle.std.proofs.Common.{◌≡◌, true, refl, ap, sym, ◌∙◌, arith}
 use Rattle.std.proofs.lemmas.Bool.{false≢true}
 use Rattle.std.proofs.lemmas.Option.{slice_get_within}
 use Rattle.multi_token.proofs.ReadingLemmas.{spelling_some}
-use Rattle.multi_token.proofs.StepLemmas.{rises_more, rises_then}
 use Rattle.multi_meaning.specs.Codes.{code_of}
 use Rattle.multi_meaning.specs.Meaning.{Does}
 use Rattle.multi_judge.specs.KnownItem.{is_setting, meant_by}
 use Rattle.multi_layout.proofs.SettingLemmas.{never_refused, setting_fine, setting_is}
-use Rattle.multi_layout.proofs.WalkLemmas.{item_is, no_fault}
+use Rattle.multi_layout.proofs.WalkLemmas.{item_is, next_at, no_fault, steps_then, steps_within}
 use Rattle.multi_layout.proofs.cursor.meet_bracket.Goals as goal
 
 pub unreachable-requires : goal.unreachable-requires
@@ -17,10 +16,10 @@ unreachable-requires c =
     no_fault c.args.sign.now octets before behind c.args.at (code_of c.in_default.field-0) p (slice_get_within octets c.args.at c.args.bracket c.requires.begins.stands) c.in_default.ensures.fault
 
 pub returns-in_default-item-clause-met : goal.returns-in_default-item-clause-met
-returns-in_default-item-clause-met c = (refl, λ before behind p. item_is c.args.sign.now c.args.source.now.octets before behind c.args.at p c.in-Ok.next c.in-Ok.ensures.item)
+returns-in_default-item-clause-met c = (refl, next_at c.args.sign.now c.args.source.now.octets c.args.at c.in-Ok.next c.in-Ok.ensures.item)
 
 pub returns-then-not-is_setting-clause-met : goal.returns-then-not-is_setting-clause-met
-returns-then-not-is_setting-clause-met c = (refl, λ before behind p. item_is c.args.sign.now c.args.source.now.octets before behind c.args.at p c.in-Ok.next c.in-Ok.ensures.item)
+returns-then-not-is_setting-clause-met c = (refl, next_at c.args.sign.now c.args.source.now.octets c.args.at c.in-Ok.next c.in-Ok.ensures.item)
 
 pub unreachable-requires-in_default-judge_tag : goal.unreachable-requires-in_default-judge_tag
 unreachable-requires-in_default-judge_tag c =
@@ -39,20 +38,11 @@ returns-clause-met c =
     let setting : is_setting (Does c.in-Tag.tag) ≡ true = ap is_setting (sym (ap meant_by c.in-Tag.is)) ∙ sym c.is_setting.ensures ∙ c.if-not-is_setting.false in (
       c.in-Tag.tag,
       record { setting = setting; judged = λ items st. c.in-Ok-judge_tag.ensures.judged items st (λ placed. absurd (false≢true (sym (setting_is c.in-Tag.tag setting).2 ∙ placed))); limited = c.in-Ok-judge_tag.ensures.limited },
-      rw (← c.in-Tag.is) (λ before behind p. item_is c.args.sign.now c.args.source.now.octets before behind c.args.at p c.in-Ok.next c.in-Ok.ensures.item),
+      rw (← c.in-Tag.is) (next_at c.args.sign.now c.args.source.now.octets c.args.at c.in-Ok.next c.in-Ok.ensures.item),
     )
-
-pub returns-clause-some : goal.returns-clause-some
-returns-clause-some c =
-    let (before, behind, p) = c.requires.begins.within in
-    let (item, rest, is, read) = item_is c.args.sign.now c.args.source.now.octets before behind c.args.at p c.in-Ok.next c.in-Ok.ensures.item in
-    omega (arith, read.len, spelling_some item)
 
 pub returns-clause-steps : goal.returns-clause-steps
 returns-clause-steps c =
-    let long = c.in-Ok.next.len in
     let (before, behind, p) = c.requires.begins.within in
     let (item, rest, is, read) = item_is c.args.sign.now c.args.source.now.octets before behind c.args.at p c.in-Ok.next c.in-Ok.ensures.item in
-    let reads = c.in-Ok.ensures.steps in
-    rises_more c.args.source.now c.judge_tag.new.source 0 (9 * long - 9 + 1) (9 * long - 8) (omega (arith, read.len, spelling_some item))
-    (rises_then c.args.source.now c.read_spelled.new.source c.judge_tag.new.source 0 (9 * long - 9) 0 1 (reads.0, omega arith, reads.2, reads.3) c.judge_tag.ensures.steps)
+    steps_within c.args.source.now (steps_then c.args.source.now c.in-Ok.ensures.steps c.judge_tag.ensures.steps) (omega arith) (omega (arith, read.len, spelling_some item))

@@ -1,15 +1,12 @@
-use Rattle.std.proofs.Common.{◌-◌, ◌*◌, ◌≤◌, List, length}
+use Rattle.std.proofs.Common.{◌-◌, ◌*◌, ◌≤◌, length}
 use Rattle.multi_token.specs.Counted.{RisesBetween}
-use Rattle.multi_layout.specs.kept.AreaDrawing.{IsFilledBy}
-use Rattle.multi_layout.specs.kept.Cursors.{IsBetween, LaidItem}
-use Rattle.multi_layout.proofs.PageDrawLemmas.{PageSoFar}
+use Rattle.multi_layout.specs.kept.AreaDrawing.{IsFilledBy, IsPageDrawn}
 use Rattle.multi_layout.proofs.draw.draw_page.Given as goal
 
 -- the page's areas so far are drawn
 abbrev pub invariant-loop-read : goal.invariant-loop-read
 invariant-loop-read l = record {
-  so_far : (before behind : List LaidItem) → IsBetween l.sign l.initial.source.octets before behind l.initial.cursor
-      → PageSoFar l.sign l.initial.source.octets before behind l.layer l.cursor l.plane;
+  drawn : IsPageDrawn l.sign l.initial.source.octets l.layer l.initial.cursor.state.pages l.cursor l.plane;
   on : l.initial.cursor.at ≤ l.cursor.at;
   steps : RisesBetween l.initial.source l.source 0 (18 * (l.cursor.at - l.initial.cursor.at));
   filled : IsFilledBy l.sign l.initial.plane l.plane (l.cursor.at - l.initial.cursor.at);

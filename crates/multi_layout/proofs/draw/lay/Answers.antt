@@ -1,4 +1,4 @@
-use Rattle.std.proofs.Common.{rules, ◌∷◌, ◌^◌, ap, arith, subst, sym, ◌∙◌}
+use Rattle.std.proofs.Common.{rules, ◌^◌, ap, arith, subst, sym, ◌∙◌}
 use Rattle.sign_font.specs.Sound.{IsSound}
 use Rattle.multi_judge.specs.KnownItem.{meant_by}
 use Rattle.multi_judge.specs.Placing.{TellsEnd}
@@ -16,8 +16,8 @@ returns-in_default-item-clause-read c = λ octets before rest item b counted rea
 
 pub is_full-requires : goal.is_full-requires
 is_full-requires c =
-    let (octets, before, rest, item, b) = c.requires.stands in
-    record { below = below_more (2 ^ 42) (2 ^ 43) c.args.cursor.now.state.area (omega arith) (low_between c.args.sign.now octets before (item ∷ rest) c.args.cursor.now b) }
+    let (octets, before, behind, b) = c.requires.stands in
+    record { below = below_more (2 ^ 42) (2 ^ 43) c.args.cursor.now.state.area (omega arith) (low_between c.args.sign.now octets before behind c.args.cursor.now b) }
 
 pub returns-then-not-is_full-clause-read : goal.returns-then-not-is_full-clause-read
 returns-then-not-is_full-clause-read c = λ octets before rest item b counted read.

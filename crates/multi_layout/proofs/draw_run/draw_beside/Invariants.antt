@@ -1,17 +1,14 @@
-use Rattle.std.proofs.Common.{◌+◌, ◌-◌, ◌*◌, ◌≤◌, List}
+use Rattle.std.proofs.Common.{ℕ, ◌+◌, ◌-◌, ◌*◌, ◌≤◌}
 use Rattle.multi_token.specs.Counted.{RisesBetween}
 use Rattle.multi_layout.specs.kept.AreaDrawing.{IsFilledBy}
-use Rattle.multi_layout.specs.kept.Cursors.{LaidItem}
-use Rattle.multi_layout.specs.kept.RunDrawing.{IsRunHere, cursor_behind}
-use Rattle.multi_layout.proofs.BesideLemmas.{RunSoFar}
+use Rattle.multi_layout.specs.kept.RunDrawing.{IsRunDrawn, cursor_behind}
 use Rattle.multi_layout.proofs.draw_run.draw_beside.Given as goal
 
 -- the characters so far are drawn, each beside the one before it
 abbrev pub invariant-loop-at : goal.invariant-loop-at
 invariant-loop-at l = record {
-  so_far : (before area rest : List LaidItem) → IsRunHere l.sign l.initial.source.octets before area rest l.read l.place l.cursor
-      → RunSoFar l.sign l.initial.source.octets before area rest l.read.lines l.layer (cursor_behind l.cursor l.place.column l.column l.at)
-      (record { column = l.column; row = l.place.row }) l.initial.plane l.plane;
+  drawn : (page : ℕ) → IsRunDrawn l.sign l.initial.source.octets l.layer page l.read l.place l.cursor l.initial.plane
+      → IsRunDrawn l.sign l.initial.source.octets l.layer page l.read (record { column = l.column; row = l.place.row }) (cursor_behind l.cursor l.place.column l.column l.at) l.plane;
   forward : l.cursor.at ≤ l.at;
   least : l.place.column ≤ l.column;
   most : l.column ≤ l.place.column + 319 * (l.at - l.cursor.at);

@@ -1,29 +1,31 @@
-use Rattle.std.proofs.Common.{arith}
-use Rattle.multi_layout.proofs.LocateLemmas.{skipped_in}
-use Rattle.multi_layout.proofs.PagesLemmas.{page_starts, passes_whole, way_on}
-use Rattle.multi_layout.proofs.WalkLemmas.{same_octets}
+use Rattle.std.proofs.Common.{subst, arith}
+use Rattle.multi_layout.specs.kept.Passing.{IsPageSkipped}
+use Rattle.multi_layout.proofs.LocateLemmas.{accepted_of, at_start, page_follows, page_starts}
+use Rattle.multi_layout.proofs.PagesLemmas.{if_next}
+use Rattle.multi_layout.proofs.WalkLemmas.{no_steps, same_octets, steps_then, steps_within}
 use Rattle.multi_layout.proofs.pages.page_start.Goals as goal
+
+pub loop-cursor-init : goal.loop-cursor-init
+loop-cursor-init c =
+    let (begins, one) = at_start c.requires.known.1 c.new-cursor.ensures.start in
+    record { begins = begins; few = omega (arith, one); steps = no_steps c.args.source.now }
 
 pub loop-cursor-smaller : goal.loop-cursor-smaller
 loop-cursor-smaller c =
-    let i = c.loop-cursor.invariant in
-    let skipped = skipped_in (same_octets i.steps.3) i.way.between c.pass_page.ensures.passed in
-    let (way, further, fits, pages) = way_on c.args.sign.now c.args.source.now.octets c.args.page c.loop-cursor.cursor c.pass_page.new.self i.way c.loop-cursor-test.true c.requires.page skipped in
-    omega (arith, further, fits)
+    let skipped = subst (λ o. IsPageSkipped c.args.sign.now o c.loop-cursor.cursor c.pass_page.new.self) (same_octets c.loop-cursor.invariant.steps.3) c.pass_page.ensures.passed in
+    omega (arith, page_follows skipped (omega (arith, c.loop-cursor-test.true, c.requires.known.2, (accepted_of c.requires.known.1).1)), skipped.within)
 
 pub loop-cursor-preserved : goal.loop-cursor-preserved
 loop-cursor-preserved c =
     let i = c.loop-cursor.invariant in
-    let old = c.loop-cursor.cursor in
-    let new = c.pass_page.new.self in
-    let skipped = skipped_in (same_octets i.steps.3) i.way.between c.pass_page.ensures.passed in
-    let (way, further, fits, pages) = way_on c.args.sign.now c.args.source.now.octets c.args.page old new i.way c.loop-cursor-test.true c.requires.page skipped in
+    let skipped = subst (λ o. IsPageSkipped c.args.sign.now o c.loop-cursor.cursor c.pass_page.new.self) (same_octets i.steps.3) c.pass_page.ensures.passed in
+    let (pages, further, begins) = page_follows skipped (omega (arith, c.loop-cursor-test.true, c.requires.known.2, (accepted_of c.requires.known.1).1)) in
     record {
-      way = way;
-      steps = passes_whole c.args.source.now c.loop-cursor.source c.pass_page.new.source old.at new.at old.state.pages new.state.pages c.pass_page.ensures.on pages i.steps c.pass_page.ensures.steps;
+      begins = begins;
+      few = omega (arith, pages, c.loop-cursor-test.true);
+      steps = steps_within c.args.source.now (steps_then c.args.source.now i.steps c.pass_page.ensures.steps) (omega arith)
+          (omega (arith, further, if_next c.pass_page.new.self.state.pages c.loop-cursor.cursor.state.pages 1 pages));
     }
 
 pub returns-clause-begins : goal.returns-clause-begins
-returns-clause-begins c =
-    let w = c.loop-cursor.invariant.way in
-    page_starts c.args.sign.now c.args.source.now.octets w.before w.behind c.loop-cursor.cursor w.between w.begins c.requires.orderly
+returns-clause-begins c = page_starts c.loop-cursor.invariant.begins (accepted_of c.requires.known.1).2

@@ -1,12 +1,13 @@
-use Rattle.std.proofs.Common.{◌-◌, ◌*◌, length}
+use Rattle.std.proofs.Common.{◌+◌, ◌-◌, ◌*◌, ◌≤◌, length}
 use Rattle.multi_token.specs.Counted.{RisesBetween}
-use Rattle.multi_layout.proofs.PagesLemmas.{IsOnTheWay}
+use Rattle.multi_layout.specs.kept.Passing.{IsAtPage}
 use Rattle.multi_layout.proofs.pages.page_start.Given as goal
 
 -- a page begins at the cursor, none behind the one that is wanted, and each octet before it took at most nine steps
 abbrev pub invariant-loop-cursor : goal.invariant-loop-cursor
 invariant-loop-cursor l = record {
-  way : IsOnTheWay l.sign l.initial.source.octets l.page l.cursor;
+  begins : IsAtPage l.sign l.initial.source.octets l.cursor;
+  few : l.cursor.state.pages ≤ l.page + 1;
   steps : RisesBetween l.initial.source l.source 0 (9 * l.cursor.at);
 }
 

@@ -1,21 +1,18 @@
-use Rattle.std.proofs.Common.{◌==◌, sym, ap, ◌∙◌}
+use Rattle.std.proofs.Common.{◌==◌, true, false, refl, sym, ap, ◌∙◌}
 use Rattle.sign_font.specs.Sign.{cell_in}
 use Rattle.multi_meaning.specs.Picture.{is_lit_at, shown_colour}
 use Rattle.multi_judge.specs.declared.attributes.Attributes.{Attributes}
-use Rattle.multi_layout.proofs.DrawLemmas.{lit_drawn, dark_drawn}
+use Rattle.multi_layout.proofs.DrawLemmas.{character_put}
 use Rattle.multi_layout.proofs.paint.put_character.Goals as goal
 
 pub returns-else-is_lit-clause-drawn : goal.returns-else-is_lit-clause-drawn
-returns-else-is_lit-clause-drawn c = λ before rest state number st same found stands drawn.
-    let found' = ap (λ (a : Attributes). cell_in c.args.sign.now a.font.number number) same ∙ found in
-    dark_drawn c.args.sign.now before state st number c.args.cell.now found' rest c.args.layer c.args.plane.now
-    (ap (λ (a : Attributes). is_lit_at c.args.layer.phase a.flash) same ∙ sym c.is_lit.ensures ∙ c.if-is_lit.false) drawn
+returns-else-is_lit-clause-drawn c = λ before rest state number st same found stands.
+    character_put c.args.sign.now before state st number c.args.cell.now (ap (λ (a : Attributes). cell_in c.args.sign.now a.font.number number) same ∙ found) rest c.args.layer c.args.place stands
+    c.args.plane.now c.args.plane.now _ false (ap (λ (a : Attributes). is_lit_at c.args.layer.phase a.flash) same ∙ sym c.is_lit.ensures ∙ c.if-is_lit.false) refl refl refl (λ x y across down. refl)
 
 pub returns-then-is_lit-clause-drawn : goal.returns-then-is_lit-clause-drawn
-returns-then-is_lit-clause-drawn c = λ before rest state number st same found stands drawn.
-    let sign = c.args.sign.now in
-    let found' = ap (λ (a : Attributes). cell_in sign a.font.number number) same ∙ found in
-    lit_drawn sign before state st number c.args.cell.now found' rest c.args.layer c.args.place stands
-    c.args.plane.now c.put_cell.new.plane c.has-on.result (ap (λ (a : Attributes). is_lit_at c.args.layer.phase a.flash) same ∙ sym c.is_lit.ensures ∙ c.if-is_lit.true)
-    (c.has-on.ensures.colour ∙ ap (λ (a : Attributes). shown_colour sign a.fore == c.args.layer.colour) (sym same))
-    c.put_cell.ensures.width c.put_cell.ensures.height c.put_cell.ensures.pixels drawn
+returns-then-is_lit-clause-drawn c = λ before rest state number st same found stands.
+    let put = c.put_cell.ensures in
+    character_put c.args.sign.now before state st number c.args.cell.now (ap (λ (a : Attributes). cell_in c.args.sign.now a.font.number number) same ∙ found) rest c.args.layer c.args.place stands
+    c.args.plane.now c.put_cell.new.plane c.has-on.result true (ap (λ (a : Attributes). is_lit_at c.args.layer.phase a.flash) same ∙ sym c.is_lit.ensures ∙ c.if-is_lit.true)
+    (c.has-on.ensures.colour ∙ ap (λ (a : Attributes). shown_colour c.args.sign.now a.fore == c.args.layer.colour) (sym same)) put.counted.width put.counted.height put.pixels

@@ -1,4 +1,4 @@
-use Rattle.std.proofs.Common.{◌==◌, not, ◌≡◌, ℕ, ◌≤◌, ◌+◌, ◌-◌, ◌*◌, List, [], map, length, slice_get}
+use Rattle.std.proofs.Common.{◌==◌, not, ◌≡◌, ◌≤◌, ◌+◌, ◌-◌, ◌*◌, List, [], map, length, slice_get}
 use Rattle.std.specs.Prelude.{IfSome}
 use Rattle.multi_token.specs.Counted.{RisesBetween}
 use Rattle.multi_meaning.specs.kept.Present.{present_area}
@@ -15,9 +15,8 @@ invariant-loop-first g l = record {
   forward : l.cursor.at ≤ l.at;
   first : l.first ≡ slice_get l.initial.source.octets l.at;
   item : IfSome l.item (IsNextAt l.sign l.initial.source.octets l.at);
-  taken : ℕ;
-  steps : RisesBetween l.initial.source l.source 0 taken;
-  few : taken + item_steps l.fn.begun.item ≤ 9 * (l.at - l.cursor.at) + item_steps l.item;
+  few : item_steps l.fn.begun.item ≤ 9 * (l.at - l.cursor.at) + item_steps l.item;
+  steps : RisesBetween l.initial.source l.source 0 (9 * (l.at - l.cursor.at) + item_steps l.item - item_steps l.fn.begun.item);
 }
 
 abbrev pub decreases-loop-first : goal.decreases-loop-first

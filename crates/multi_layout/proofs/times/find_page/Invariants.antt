@@ -1,12 +1,13 @@
-use Rattle.std.proofs.Common.{◌-◌, ◌*◌, length}
+use Rattle.std.proofs.Common.{◌-◌, ◌*◌, ◌≤◌, length}
 use Rattle.multi_token.specs.Counted.{RisesBetween}
-use Rattle.multi_layout.proofs.LocateLemmas.{IsSearched}
+use Rattle.multi_layout.specs.kept.Passing.{IsAtPage}
 use Rattle.multi_layout.proofs.times.find_page.Given as goal
 
 -- no page before this one has the time, and each octet before it took at most nine steps
 abbrev pub invariant-loop-shown : goal.invariant-loop-shown
 invariant-loop-shown l = record {
-  searched : IsSearched l.sign l.initial.source.octets l.time l.start;
+  begins : IsAtPage l.sign l.initial.source.octets l.start;
+  began : l.start.state.cycle ≤ l.time;
   steps : RisesBetween l.initial.source l.source 0 (9 * l.start.at);
 }
 

@@ -2,22 +2,20 @@ use Rattle.std.proofs.Common.{ℕ, ◌-◌, ◌*◌, ◌==◌, not, map, sym, ap
 use Rattle.multi_token.specs.Counted.{Counted, RisesBetween, charged}
 use Rattle.multi_token.proofs.ReadingLemmas.{spelling_some}
 use Rattle.multi_token.specs.Tokens.{item_of}
-use Rattle.multi_token.proofs.StepLemmas.{charged-charged, rises_then}
+use Rattle.multi_token.proofs.StepLemmas.{charged-charged}
+use Rattle.multi_layout.proofs.WalkLemmas.{no_bracket, steps_then, steps_within}
 use Rattle.multi_meaning.specs.kept.ItemAt.{IsItemAt}
 use Rattle.multi_meaning.specs.Meaning.{Meaning, meaning}
 use Rattle.multi_judge.specs.KnownItem.{meant_by}
 use Rattle.multi_judge.specs.PassState.{IsPassOf}
 use Rattle.multi_layout.proofs.AtLemmas.{fault_refused, item_behind, item_offends, octet_behind, octet_offends}
-use Rattle.multi_layout.proofs.BesideLemmas.{no_bracket}
 use Rattle.multi_judge.proofs.PassLemmas.{pass_ready_here}
 use Rattle.multi_layout.proofs.verdict.judge_from.Goals as goal
 
 -- the steps of reading an item and of judging it
-steps_of : (old read judged : Counted) (at len : ℕ) (means : Meaning) → IsItemAt old.octets at len means → RisesBetween old read (len - 1) (9 * len - 9) → RisesBetween read judged 0 8 → RisesBetween old judged (len - 1) (9 * len - 1)
-steps_of old read judged at len means (t, at_is, len_is, token, meant) reads judges =
-    let some = spelling_some (item_of old.octets t) in
-    let all = rises_then old read judged (len - 1) (9 * len - 9) 0 8 reads judges in
-    (all.0, omega (arith, all.1), omega (arith, all.2, len_is, token.len, some), all.3)
+steps_of : (old : Counted) {read judged : Counted} {at len : ℕ} {means : Meaning} → IsItemAt old.octets at len means → RisesBetween old read (len - 1) (9 * len - 9) → RisesBetween read judged 0 8 → RisesBetween old judged (len - 1) (9 * len - 1)
+steps_of old (t, at_is, len_is, token, meant) reads judges =
+    steps_within old (steps_then old reads judges) (omega arith) (omega (arith, len_is, token.len, spelling_some (item_of old.octets t)))
 
 pub judge_item-requires : goal.judge_item-requires
 judge_item-requires g c = record {
@@ -36,11 +34,11 @@ returns-in-Ok-judge_item-clause-at g c =
     let words = not (g.row.WORDS == 0) in
     let spelled = c.in-Ok.spelled in
     let (fine, of) = c.in-Ok-judge_item.ensures.judged (map meaning r.items) r.is in
-    (item_behind sign c.args.source.now.octets c.args.at.now c.args.first (IsPassOf words sign c.args.pass.now) c.args.source.now c.requires.at c.requires.short
+    item_behind sign c.args.source.now.octets c.args.at.now c.args.first (IsPassOf words sign c.args.pass.now) c.args.source.now c.requires.at c.requires.short
     spelled.len (meant_by spelled.item) c.in-Ok.ensures.item c.judge_item.new.source
-    (steps_of c.args.source.now c.read_spelled.new.source c.judge_item.new.source c.args.at.now spelled.len (meant_by spelled.item) c.in-Ok.ensures.item c.in-Ok.ensures.steps c.judge_item.ensures.steps)
+    (steps_of c.args.source.now c.in-Ok.ensures.item c.in-Ok.ensures.steps c.judge_item.ensures.steps)
     (IsPassOf words sign c.judge_item.new.self) fine of
-    c.read.result c.read.new.self c.read.ensures.octet c.read.ensures.step).1
+    c.read.result c.read.new.self c.read.ensures.octet c.read.ensures.step
 
 pub returns-in-Err-judge_item-clause-refused : goal.returns-in-Err-judge_item-clause-refused
 returns-in-Err-judge_item-clause-refused g c =
@@ -50,7 +48,7 @@ returns-in-Err-judge_item-clause-refused g c =
     let spelled = c.in-Ok.spelled in
     item_offends sign c.args.source.now.octets c.args.at.now c.args.first (IsPassOf words sign c.args.pass.now) c.args.source.now c.requires.at c.requires.short
     spelled.len (meant_by spelled.item) c.in-Ok.ensures.item c.judge_item.new.source
-    (steps_of c.args.source.now c.read_spelled.new.source c.judge_item.new.source c.args.at.now spelled.len (meant_by spelled.item) c.in-Ok.ensures.item c.in-Ok.ensures.steps c.judge_item.ensures.steps)
+    (steps_of c.args.source.now c.in-Ok.ensures.item c.in-Ok.ensures.steps c.judge_item.ensures.steps)
     c.in-Err-judge_item.error (c.in-Err-judge_item.ensures.judged (map meaning r.items) r.is)
 
 pub judge_octet-requires : goal.judge_octet-requires
@@ -64,7 +62,7 @@ judge_run-behind-requires-clause-behind g c =
     let words = not (g.row.WORDS == 0) in
     let (fine, of) = c.in-Ok-judge_octet.ensures.judged sign (rw (← c.sign.view_is) c.in-Some.ensures.widths) (map meaning r.items) r.is in
     octet_behind sign c.args.source.now.octets c.args.at.now c.args.first (IsPassOf words sign c.args.pass.now) c.args.source.now c.requires.at c.requires.short
-    (no_bracket c.args.first (sym c.is_bracket.ensures ∙ c.if-is_bracket.false)) c.judge_octet.new.source 2 (omega arith) (c.judge_octet.ensures.step ∙ ap (λ (s : Counted). charged s 1) c.cells.ensures.step ∙ charged-charged c.args.source.now 1 1) (IsPassOf words sign c.judge_octet.new.self) fine of
+    (no_bracket c.args.first (sym c.is_bracket.ensures ∙ c.if-is_bracket.false)) c.judge_octet.new.source (c.judge_octet.ensures.step ∙ ap (λ (s : Counted). charged s 1) c.cells.ensures.step ∙ charged-charged c.args.source.now 1 1) (IsPassOf words sign c.judge_octet.new.self) fine of
 
 pub returns-in-Err-judge_octet-clause-refused : goal.returns-in-Err-judge_octet-clause-refused
 returns-in-Err-judge_octet-clause-refused g c =
@@ -73,4 +71,4 @@ returns-in-Err-judge_octet-clause-refused g c =
     let words = not (g.row.WORDS == 0) in
     let offends = c.in-Err-judge_octet.ensures.judged sign (rw (← c.sign.view_is) c.in-Some.ensures.widths) (map meaning r.items) r.is in
     octet_offends sign c.args.source.now.octets c.args.at.now c.args.first (IsPassOf words sign c.args.pass.now) c.args.source.now c.requires.at c.requires.short
-    (no_bracket c.args.first (sym c.is_bracket.ensures ∙ c.if-is_bracket.false)) c.judge_octet.new.source 2 (omega arith) (c.judge_octet.ensures.step ∙ ap (λ (s : Counted). charged s 1) c.cells.ensures.step ∙ charged-charged c.args.source.now 1 1) c.in-Err-judge_octet.error offends
+    (no_bracket c.args.first (sym c.is_bracket.ensures ∙ c.if-is_bracket.false)) c.judge_octet.new.source (c.judge_octet.ensures.step ∙ ap (λ (s : Counted). charged s 1) c.cells.ensures.step ∙ charged-charged c.args.source.now 1 1) c.in-Err-judge_octet.error offends

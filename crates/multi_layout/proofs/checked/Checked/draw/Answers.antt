@@ -1,64 +1,42 @@
-use Rattle.std.proofs.Common.{◌≡◌, ◌*◌, length, ap, arith}
+use Rattle.std.proofs.Common.{◌≡◌, length, ap, arith}
 use Rattle.std.proofs.lemmas.Bool.Decides.{nat_tests}
-use Rattle.multi_token.specs.Counted.{Counted}
-use Rattle.multi_token.proofs.StepLemmas.{rises_more}
-use Rattle.multi_meaning.proofs.AcceptedLemmas.{accepted_orderly, accepted_is}
+use Rattle.multi_layout.proofs.LocateLemmas.{accepted_of}
+use Rattle.multi_layout.proofs.WalkLemmas.{same_octets}
 use Rattle.multi_layout.proofs.PagesLemmas.{drawing_reads}
 use Rattle.multi_layout.proofs.checked.Checked.draw.Goals as goal
 
 pub returns-then-page-self-clause-exists : goal.returns-then-page-self-clause-exists
 returns-then-page-self-clause-exists c =
-    let s = c.self.inside in
-    let count = (accepted_is s.terms s.source.octets s.pages c.self.invariant.0 c.self.invariant.2).1 in
+    let count = (accepted_of c.self.invariant).1 in
     rw (← c.self.view_is) (grind (arith, nat_tests))
 
 pub returns-clause-exists : goal.returns-clause-exists
 returns-clause-exists c =
-    let s = c.self.inside in
-    let count = (accepted_is s.terms s.source.octets s.pages c.self.invariant.0 c.self.invariant.2).1 in
+    let count = (accepted_of c.self.invariant).1 in
     rw (← c.self.view_is) (grind (arith, nat_tests))
 
-pub page_start-cursor-requires-clause-accepted : goal.page_start-cursor-requires-clause-accepted
-page_start-cursor-requires-clause-accepted c =
-    let s = c.self.inside in
-    (accepted_is s.terms s.source.octets s.pages c.self.invariant.0 c.self.invariant.2).0
-
-pub page_start-cursor-requires-clause-orderly : goal.page_start-cursor-requires-clause-orderly
-page_start-cursor-requires-clause-orderly c =
-    let s = c.self.inside in
-    accepted_orderly s.terms s.source.octets (accepted_is s.terms s.source.octets s.pages c.self.invariant.0 c.self.invariant.2).0
-
-pub page_start-cursor-requires-clause-page : goal.page_start-cursor-requires-clause-page
-page_start-cursor-requires-clause-page c =
-    let s = c.self.inside in
-    omega (arith, (accepted_is s.terms s.source.octets s.pages c.self.invariant.0 c.self.invariant.2).1)
+pub page_start-cursor-requires : goal.page_start-cursor-requires
+page_start-cursor-requires c = record { known = (c.self.inside.told, c.self.invariant, omega (arith, c.if-page-self.false)) }
 
 pub draw_next-requires-clause-page : goal.draw_next-requires-clause-page
 draw_next-requires-clause-page c =
     let s = c.self.inside in
     let e = c.page_start-cursor.ensures in
-    let same : c.page_start-cursor.new.source.octets ≡ s.source.octets = ap (λ (x : Counted). x.octets) e.steps.3 in
-    rw same (c.args.page, omega (arith, (accepted_is s.terms s.source.octets s.pages c.self.invariant.0 c.self.invariant.2).1), λ more. (e.begins, e.page))
+    let same : c.page_start-cursor.new.source.octets ≡ s.source.octets = same_octets e.steps.3 in
+    rw same (c.args.page, omega (arith, (accepted_of c.self.invariant).1), λ more. (e.begins, e.page))
 
 pub returns-clause-drawn : goal.returns-clause-drawn
 returns-clause-drawn c =
     let s = c.self.inside in
     let e = c.page_start-cursor.ensures in
-    let same : c.page_start-cursor.new.source.octets ≡ s.source.octets = ap (λ (x : Counted). x.octets) e.steps.3 in
+    let same : c.page_start-cursor.new.source.octets ≡ s.source.octets = same_octets e.steps.3 in
     let shows = rw same at c.draw_next.ensures.drawn in
-    λ _. rw (← c.self.view_is) (shows c.args.page (omega (arith, (accepted_is s.terms s.source.octets s.pages c.self.invariant.0 c.self.invariant.2).1)) (λ more. (e.begins, e.page)))
+    λ _. rw (← c.self.view_is) (shows c.args.page (omega (arith, (accepted_of c.self.invariant).1)) (λ more. (e.begins, e.page)))
 
 pub returns-clause-steps : goal.returns-clause-steps
 returns-clause-steps c =
     let s = c.self.inside in
     let e = c.page_start-cursor.ensures in
-    let same : c.page_start-cursor.new.source.octets ≡ s.source.octets = ap (λ (x : Counted). x.octets) e.steps.3 in
+    let same : c.page_start-cursor.new.source.octets ≡ s.source.octets = same_octets e.steps.3 in
     let on = c.draw_next.ensures.on in
-    let start = c.page_start-cursor.result in
-    let way = rises_more s.source c.page_start-cursor.new.source 0 (9 * start.at) (18 * start.at) (omega arith) e.steps in
-    rw (← c.self.view_is) (drawing_reads s.source c.page_start-cursor.new.source c.draw_next.new.self.source start c.draw_next.new.next.cursor (length s.source.octets) way on.2 on.0 (omega (arith, on.1, ap length same)))
-
-pub returns-clause-plane_steps : goal.returns-clause-plane_steps
-returns-clause-plane_steps c =
-    let same : c.page_start-cursor.new.source.octets ≡ c.self.inside.source.octets = ap (λ (x : Counted). x.octets) c.page_start-cursor.ensures.steps.3 in
-    rw (← c.self.view_is) (rw same at c.draw_next.ensures.plane_steps)
+    rw (← c.self.view_is) (drawing_reads s.source c.page_start-cursor.result c.draw_next.new.next.cursor (length s.source.octets) e.steps (omega arith) on.2 on.0 (omega (arith, on.1, ap length same)))

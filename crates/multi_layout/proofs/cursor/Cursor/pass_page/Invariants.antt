@@ -1,15 +1,12 @@
-use Rattle.std.proofs.Common.{◌-◌, ◌*◌, ◌≤◌, List, length}
+use Rattle.std.proofs.Common.{◌-◌, ◌*◌, ◌≤◌, length}
 use Rattle.multi_token.specs.Counted.{RisesBetween}
-use Rattle.multi_token.specs.Spelling.{Item}
-use Rattle.multi_layout.specs.kept.Passing.{IsPassing}
 use Rattle.multi_layout.proofs.LocateLemmas.{IsInPage}
 use Rattle.multi_layout.proofs.cursor.Cursor.pass_page.Given as goal
 
 -- the page goes on, and each octet passed took at most nine steps
 abbrev pub invariant-loop-first : goal.invariant-loop-first
 invariant-loop-first l = record {
-  way : (before behind : List Item) → IsPassing l.sign l.initial.source.octets before behind l.initial.self
-      → IsInPage l.sign l.initial.source.octets before behind l.initial.self l.self;
+  way : IsInPage l.sign l.initial.source.octets l.initial.self l.self;
   on : l.initial.self.at ≤ l.self.at;
   steps : RisesBetween l.initial.source l.source 0 (9 * (l.self.at - l.initial.self.at));
 }

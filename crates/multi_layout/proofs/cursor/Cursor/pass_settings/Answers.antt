@@ -1,58 +1,48 @@
-use Rattle.std.proofs.Common.{rules, ◌≡◌, ◌+◌, ◌++◌, length, slice_get, sym, ap, subst, ◌∙◌, arith}
-use Rattle.multi_token.proofs.StepLemmas.{charged-zero, rises_more, rises_then}
-use Rattle.multi_layout.specs.declared.cursor.Met.TheVariants.{Setting}
-use Rattle.multi_layout.specs.kept.Settings.{IsMet}
-use Rattle.multi_layout.proofs.SettingLemmas.{none_passed, one_more}
-use Rattle.multi_layout.proofs.WalkLemmas.{ready_between, same_octets, stands_in, within_between}
+use Rattle.std.proofs.Common.{rules, ◌+◌, slice_get, sym, ap, subst, ◌∙◌, arith}
+use Rattle.multi_judge.specs.declared.state.State.{State}
+use Rattle.multi_layout.specs.kept.AreaDrawing.{IsPageDrawn}
+use Rattle.multi_layout.proofs.PageDrawLemmas.{page_in}
+use Rattle.multi_layout.proofs.SettingDrawLemmas.{page_set}
+use Rattle.multi_layout.proofs.WalkLemmas.{ready_between, same_octets, steps_of, steps_then, steps_within, within_between}
 use Rattle.multi_layout.proofs.cursor.Cursor.pass_settings.Goals as goal
-
-pub loop-first-init : goal.loop-first-init
-loop-first-init c = record {
-  way = λ before behind b. none_passed c.args.self.now b;
-  on = omega arith;
-  first = c.read-first.ensures.octet ∙ ap (λ o. slice_get o c.args.self.now.at) (sym (same_octets c.read-first.ensures.step));
-  steps = (0, omega arith, omega arith, sym (charged-zero c.read-first.new.self));
-}
 
 pub meet-requires : goal.meet-requires
 meet-requires c =
-    let (before, behind, b) = c.requires in
-    let s = c.loop-first.invariant.way before behind (stands_in (same_octets c.read-first.ensures.step) b) in
-    let ready = ready_between c.args.sign.now c.read-first.new.self.octets (before ++ s.settings) s.rest c.loop-first.self s.between in
+    let (layer, page, plane, d) = c.requires in
+    let now = c.loop-first.invariant.passed layer page plane (page_in (same_octets c.read-first.ensures.step) d) in
+    let b = now.up_to.between in
+    let ready = ready_between c.args.sign.now c.read-first.new.self.octets now.before now.behind c.loop-first.self b in
     record { within = search rules; ready = ready; behind = search rules; stands = search rules; room = search rules }
 
 pub overflow_add-self : goal.overflow_add-self
 overflow_add-self c =
     let i = c.loop-first.invariant in
-    let (before, behind, b) = c.requires in
-    let s = i.way before behind (stands_in (same_octets c.read-first.ensures.step) b) in
-    let met = subst (λ o. IsMet c.args.sign.now o c.loop-first.self.at c.loop-first.self.state (Setting c.in-Setting.len) c.meet.new.state) (same_octets i.steps.3) c.in-Setting.ensures.met in
-    let t = one_more s c.in-Setting.len c.meet.new.state met in
-    omega (arith, within_between c.args.sign.now c.read-first.new.self.octets (before ++ t.settings) t.rest _ t.between, ap length (same_octets c.read-first.ensures.step), b.placed.accepted.short)
+    let (layer, page, plane, d) = c.requires in
+    let now = page_set c.in-Setting.len c.meet.new.state c.in-Setting.ensures.met (page_in (same_octets i.steps.3) (i.passed layer page plane (page_in (same_octets c.read-first.ensures.step) d))) in
+    omega (arith, within_between c.args.sign.now c.loop-first.source.octets now.before now.behind _ now.up_to.between, now.up_to.between.placed.accepted.short)
 
 pub loop-first-preserved : goal.loop-first-preserved
 loop-first-preserved c =
     let i = c.loop-first.invariant in
-    let octets : c.meet.new.source.octets ≡ c.read-first.new.self.octets = same_octets c.in-Setting.ensures.steps.3 ∙ same_octets i.steps.3 in
-    let met = subst (λ o. IsMet c.args.sign.now o c.loop-first.self.at c.loop-first.self.state (Setting c.in-Setting.len) c.meet.new.state) (same_octets i.steps.3) c.in-Setting.ensures.met in
-    let all = rises_then c.read-first.new.self c.meet.new.source c.read-first-in-Setting.new.self 0 _ 0 1
-    (rises_then c.read-first.new.self c.loop-first.source c.meet.new.source 0 _ 0 _ i.steps c.in-Setting.ensures.steps) (1, omega arith, omega arith, c.read-first-in-Setting.ensures.step) in
+    let start = c.read-first.new.self in
+    let same = same_octets i.steps.3 in
     record {
-      way = λ before behind b. one_more (i.way before behind b) c.in-Setting.len c.meet.new.state met;
+      passed = λ layer page plane d. page_in (sym same) (page_set c.in-Setting.len c.meet.new.state c.in-Setting.ensures.met (page_in same (i.passed layer page plane d)));
       on = omega (arith, i.on);
-      first = c.read-first-in-Setting.ensures.octet ∙ ap (λ o. slice_get o (c.loop-first.self.at + c.in-Setting.len)) octets;
-      steps = rises_more c.read-first.new.self c.read-first-in-Setting.new.self 0 _ _ (omega (arith, i.on, c.in-Setting.ensures.some)) all;
+      first = c.read-first-in-Setting.ensures.octet ∙ ap (λ o. slice_get o (c.loop-first.self.at + c.in-Setting.len)) (same_octets c.in-Setting.ensures.steps.3 ∙ same);
+      steps = steps_within start (steps_then start (steps_then start i.steps c.in-Setting.ensures.steps) (steps_of c.meet.new.source c.read-first-in-Setting.ensures.step)) (omega arith) (omega (arith, i.on, c.in-Setting.ensures.some));
     }
+
+pub returns-in-Item-clause-passed : goal.returns-in-Item-clause-passed
+returns-in-Item-clause-passed c = λ layer page plane d.
+    let same = same_octets c.read-first.ensures.step in
+    subst (λ (s : State). IsPageDrawn c.args.sign.now c.args.source.now.octets layer page (record { at = c.loop-first.self.at; state = s }) plane) (sym c.in-Item.ensures.met.0)
+    (page_in (sym same) (c.loop-first.invariant.passed layer page plane (page_in same d)))
 
 pub returns-in-Item-clause-steps : goal.returns-in-Item-clause-steps
 returns-in-Item-clause-steps c =
-    let i = c.loop-first.invariant in
-    let way = rises_then c.args.source.now c.read-first.new.self c.loop-first.source 0 1 0 _ (1, omega arith, omega arith, c.read-first.ensures.step) i.steps in
-    rises_more c.args.source.now c.meet.new.source 0 _ _ (omega (arith, i.on))
-    (rises_then c.args.source.now c.loop-first.source c.meet.new.source 0 _ 0 _ way c.in-Item.ensures.steps)
+    let start = c.args.source.now in
+    steps_within start (steps_then start (steps_then start (steps_of c.args.source.now c.read-first.ensures.step) c.loop-first.invariant.steps) c.in-Item.ensures.steps) (omega arith) (omega arith)
 
 pub returns-clause-steps : goal.returns-clause-steps
-returns-clause-steps c =
-    let i = c.loop-first.invariant in
-    let way = rises_then c.args.source.now c.read-first.new.self c.loop-first.source 0 1 0 _ (1, omega arith, omega arith, c.read-first.ensures.step) i.steps in
-    rises_more c.args.source.now c.loop-first.source 0 _ _ (omega (arith, i.on)) way
+returns-clause-steps c = steps_within c.args.source.now (steps_then c.args.source.now (steps_of c.args.source.now c.read-first.ensures.step) c.loop-first.invariant.steps) (omega arith) (omega arith)

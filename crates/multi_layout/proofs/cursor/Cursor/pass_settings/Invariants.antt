@@ -1,13 +1,12 @@
-use Rattle.std.proofs.Common.{◌≡◌, ◌-◌, ◌*◌, ◌≤◌, List, length, slice_get}
+use Rattle.std.proofs.Common.{◌≡◌, ◌-◌, ◌*◌, ◌≤◌, length, slice_get}
 use Rattle.multi_token.specs.Counted.{RisesBetween}
-use Rattle.multi_layout.specs.kept.Cursors.{IsBetween, LaidItem}
-use Rattle.multi_layout.specs.kept.Settings.{AreSettingsPassed}
+use Rattle.multi_layout.specs.kept.Settings.{PassesSettings}
 use Rattle.multi_layout.proofs.cursor.Cursor.pass_settings.Given as goal
 
 -- what was passed are settings, and each octet of them took at most nine steps
 abbrev pub invariant-loop-first : goal.invariant-loop-first
 invariant-loop-first l = record {
-  way : (before behind : List LaidItem) → IsBetween l.sign l.initial.source.octets before behind l.initial.self → AreSettingsPassed l.sign l.initial.source.octets before behind l.self;
+  passed : PassesSettings l.sign l.initial.source.octets l.initial.self l.self;
   on : l.initial.self.at ≤ l.self.at;
   first : l.first ≡ slice_get l.initial.source.octets l.self.at;
   steps : RisesBetween l.initial.source l.source 0 (9 * (l.self.at - l.initial.self.at));
