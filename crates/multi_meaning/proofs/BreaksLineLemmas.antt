@@ -29,9 +29,6 @@ use Rattle.multi_meaning.proofs.LaidTagLemmas.{among, other_leaves}
 use Rattle.multi_meaning.proofs.SpotsLemmas.{spots_behind, spots_more, spots_nothing, spots_split, spots_with}
 use Rattle.multi_meaning.proofs.WordLemmas.{All-split, cases_Option, each_after_push, front_ind}
 
-pub space_glyph : (at : Standing) (put : Put) → is_space (record { at = at; put = put }) ≡ true → is_glyph (record { at = at; put = put }) ≡ true
-space_glyph at v1 e = grind arith
-
 -- an item that puts a space shows 32
 pub space_shown : (defaults : Defaults) (here : Standing) (x : Meaning) (put : Put) → put_at defaults here x ≡ Some put → is_space (record { at = here; put = put }) ≡ true → x ≡ Shows 32
 space_shown defaults here x v3 e space = grind (arith, found_cell)
@@ -41,10 +38,6 @@ get_other : (xs ys zs : List Spot) (a b d : Spot) (n : ℕ) → (n ≡ length xs
 get_other xs ys zs a b d n other within =
     ap (λ l. slice_index_or l n d) (sym (set_at xs a (ys ++ zs) b (length xs) refl)) ∙ get_or-set_other (xs ++ a ∷ (ys ++ zs)) (length xs) n b d other
     ∙ ap (λ l. slice_index_or l n d) (sym (append_assoc xs (a ∷ ys) zs)) ∙ get_or_append_left (xs ++ a ∷ ys) zs d n within
-
--- characters end no line
-no_breaks : (line : List Spot) → AllPass is_glyph line → count_by is_break line ≡ 0
-no_breaks line glyphs = sym (length-filter is_break line) ∙ ap length (glyph_none line glyphs)
 
 -- one more item breaks a line: all items are laid out as they were, but one space on the line of the new one
 abbrev pub BreaksLine : LineFill → SignData → List Meaning → Meaning → Type 0
@@ -95,10 +88,6 @@ module _ (sign : SignData) (items : List Meaning) (number : ℕ) (cell : CellDat
 
   module _ (closed : List Spot) (space : Spot) (open' : List Spot) (old : filled (Some width) (own all) ≡ closed ++ space ∷ open')
       (new : filled (Some width) (own (all ++ s ∷ [])) ≡ closed ++ dropped space ∷ (open' ++ s ∷ [])) (is_sp : is_space space ≡ true) (glyphs : AllPass is_glyph (space ∷ open')) where
-    -- a spot of its group is laid as the filled group has it
-    laid_old : (some behind : List Spot) (x : Spot) → all ≡ some ++ x ∷ behind → is_own x ≡ true → laid_spot Words all some x ≡ slice_index_or (closed ++ space ∷ open') (length (own some)) x
-    laid_old some behind x is m = there Words all s.at.area (page_number s.at.page_just) (Some width) same some behind x is m ∙ ap (λ l. slice_index_or l (length (own some)) x) old
-
     laid_new : (some behind : List Spot) (x : Spot) → all ++ s ∷ [] ≡ some ++ x ∷ behind → is_own x ≡ true
         → laid_spot Words (all ++ s ∷ []) some x ≡ slice_index_or (closed ++ dropped space ∷ (open' ++ s ∷ [])) (length (own some)) x
     laid_new some behind x is m = there Words (all ++ s ∷ []) s.at.area (page_number s.at.page_just) (Some width) same_more some behind x is m ∙ ap (λ l. slice_index_or l (length (own some)) x) new
@@ -139,7 +128,7 @@ module _ (sign : SignData) (items : List Meaning) (number : ℕ) (cell : CellDat
             | inl m ↦
                 let n = count_is true m ∙ length_push (own front) t in
                 let within = has_place all s.at.area (page_number s.at.page_just) front rest t split m in
-                let old_at = laid_old front rest t split m in
+                let old_at = there Words all s.at.area (page_number s.at.page_just) (Some width) same front rest t split m ∙ ap (λ l. slice_index_or l (length (own front)) t) old in
                 let new_at = laid_new front (rest ++ s ∷ []) t longer m in
                 elim (cases_eq (length (own front)) (length closed)) [
                   | inr other ↦
@@ -200,12 +189,9 @@ module _ (sign : SignData) (items : List Meaning) (number : ℕ) (cell : CellDat
           ]
         ]
 
-    none_yet : SoFar []
-    unfolding spots
-    none_yet = inl (omega arith, refl)
-
     broken : Broken items
-    broken = elim (front_ind items SoFar none_yet (λ some more x is h. one_more some more x is h) items [] (sym (append-nil items))) [
+    unfolding spots
+    broken = elim (front_ind items SoFar (inl (omega arith, refl)) (λ some more x is h. one_more some more x is h) items [] (sym (append-nil items))) [
       | inl (early, alike) ↦ absurd (omega (arith, early, size, length-append closed (space ∷ open')))
       | inr b ↦ b
     ]
@@ -236,5 +222,5 @@ module _ (sign : SignData) (items : List Meaning) (number : ℕ) (cell : CellDat
           new_all ∙ ap (λ l. l ++ Shows number ∷ []) b.are ∙ append_assoc front (Does (NewLine None) ∷ b.behind) (Shows number ∷ []),
           ap (λ (h : Standing). h.area) here.0 ∙ b.breaks.area,
           ap (λ (h : Standing). h.page_just) here.0 ∙ same_page_just (standing sign b.front).page_just s.at.page_just b.breaks.just,
-          ap (count_by is_break) front_is ∙ omega (arith, sum_by-append (λ x. cond (is_break x) 1 0) closed (space ∷ open'), no_breaks (space ∷ open') glyphs) ∙ ap (count_by is_break) (sym whole_is),
+          ap (count_by is_break) front_is ∙ omega (arith, sum_by-append (λ x. cond (is_break x) 1 0) closed (space ∷ open'), length-filter is_break (space ∷ open'), ap length (glyph_none (space ∷ open') glyphs)) ∙ ap (count_by is_break) (sym whole_is),
         )

@@ -1,5 +1,5 @@
 -- A pixel of a page at one more item, where a page begins and where it ends.
-use Rattle.std.proofs.Common.{◌≡◌, ℕ, ◌+◌, ◌-◌, ◌<◌, Bool, false, cond, ◌&&◌, ◌==◌, List, [], ◌∷◌, ◌++◌, Option, Some, None, refl, ap, ◌∙◌, arith, append-nil, subst, ◌⊎◌, inl, inr, nat_le, nat_lt, IfSome, option_map, unwrap_or}
+use Rattle.std.proofs.Common.{◌≡◌, ℕ, ◌+◌, ◌-◌, ◌<◌, Bool, false, cond, ◌&&◌, ◌==◌, List, [], ◌∷◌, ◌++◌, Option, Some, None, refl, ap, ◌∙◌, arith, append-nil, subst, ◌⊎◌, inl, inr, nat_le, nat_lt, IfSome, option_map, unwrap_or, sym}
 use Rattle.std.specs.List.{filter_map, cons_option, All}
 use Rattle.std.proofs.lemmas.Bool.{cases_Bool, eq-eqb}
 use Rattle.std.proofs.lemmas.List.Elements.{All-cons, All-head, All-tail, filter_map-append}
@@ -50,10 +50,6 @@ module _ (sign : SignData) (phase colour : ℕ) (all : List Spot) (column row : 
   abbrev HasBackground : List Meaning → Type 0
   HasBackground items = has_colour sign (standing sign items).page phase colour all (spots sign items) column row ≡ (shown_colour sign (standing sign items).back == colour)
 
-  begins_first : HasBackground []
-  unfolding has_colour things_among spots standing
-  begins_first = refl
-
   begins_next : (earlier : List Meaning) → HasBackground (earlier ++ Does NewPage ∷ [])
   begins_next earlier =
       let at = standing sign earlier in
@@ -62,7 +58,9 @@ module _ (sign : SignData) (phase colour : ℕ) (all : List Spot) (column row : 
   -- where a page begins, every pixel has it
   pub covered_begins : (before : List Meaning) → BeginsPage before
       → has_colour sign (standing sign before).page phase colour all (spots sign before) column row ≡ (shown_colour sign (standing sign before).back == colour)
-  covered_begins before v1 = grind (arith, begins_first, begins_next)
+  unfolding has_colour things_among spots standing
+  covered_begins before (inl first) = subst HasBackground (sym first) refl
+  covered_begins before (inr (earlier, next)) = subst HasBackground (sym next) (begins_next earlier)
 
   -- a pixel after one more character: its colour if the character covers the pixel, else as before
   pub covered_glyph : (before : List Meaning) (number : ℕ) (cell : CellData) → cell_numbered (standing sign before).font number ≡ Some cell →

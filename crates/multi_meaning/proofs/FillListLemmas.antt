@@ -55,11 +55,7 @@ module _ {X : Type 0} (p : X → Bool) where
   is_cut [] c e = absurd cc
   is_cut (x ∷ xs) c e = grind (arith, is_cut xs)
 
-  -- a list without an item that passes has no cut, nor have its first items
-  none_parts : (x : X) (xs : List X) → cut_at_last p (x ∷ xs) ≡ None → (p x ≡ false) × (cut_at_last p xs ≡ None)
-  none_parts x xs h = grind (arith, h)
-
   pub none_take : (xs : List X) (n : ℕ) → cut_at_last p xs ≡ None → cut_at_last p (take n xs) ≡ None
   none_take xs zero h = refl
   none_take [] (suc n) h = refl
-  none_take (x ∷ xs) (suc n) h = let parts = none_parts x xs h in rw (none_take xs n parts.1, parts.0) refl
+  none_take (x ∷ xs) (suc n) h = grind (arith, h, none_take xs n)

@@ -1,16 +1,16 @@
 -- A tag offends behind some items, where lines are filled, just where it does behind the items as they are laid out.
 use native.Mathlib.Omega.{arith}
-use Rattle.std.proofs.Common.{◌≡◌, ℕ, List, [], ◌∷◌, ◌++◌, Option, Some, refl, sym, ap, append-nil, eq-eqb}
-use Rattle.std.specs.List.{count_by, list_any}
+use Rattle.std.proofs.Common.{◌≡◌, ℕ, List, [], ◌∷◌, ◌++◌, Option, Some, refl, sym, append-nil, eq-eqb}
+use Rattle.std.specs.List.{list_any}
 use Rattle.std.proofs.lemmas.List.Elements.{All-push}
 use Rattle.multi_tag.specs.declared.tag.Tag.{Tag}
 use Rattle.multi_tag.specs.declared.tag.Tag.TheVariants.{NewLine}
 use Rattle.sign_font.specs.declared.parts.LineFill.TheVariants.{Off, Words}
 use Rattle.sign_font.specs.Sign.{SignData}
-use Rattle.multi_meaning.specs.Address.{Break, Put, Spot, Standing, area_of, spots, standing}
+use Rattle.multi_meaning.specs.Address.{Break, Put, Spot, area_of, spots, standing}
 use Rattle.multi_meaning.specs.Laid.{fill_at, laid, too_big}
 use Rattle.multi_meaning.specs.LaidItems.{laid_items}
-use Rattle.multi_meaning.specs.Meaning.{Meaning, Does, is_new_page}
+use Rattle.multi_meaning.specs.Meaning.{Meaning, Does}
 use Rattle.multi_meaning.specs.Offence.{goes_back, offence, offence_by}
 use Rattle.multi_meaning.proofs.CheckLemmas.{group_goes_back}
 use Rattle.multi_meaning.proofs.FilledOnLemmas.{HasWidth, largest_laid, one_more}
@@ -54,13 +54,9 @@ module _ (sign : SignData) (items : List Meaning) where
         let placed = eq-eqb nl.at.area nl.at.area refl in
         grind (arith, too_big_laid Words nl.at.rectangle.width all nl placed (same_width (Break gap)), laid_with, one_more Words nl.at.rectangle.width nl.at.area (laid Words all all) nl, placed)
 
-  same_pages : count_by is_new_page items ≡ count_by is_new_page laid_before
-  unfolding standing
-  same_pages = sym (ap (λ (s : Standing). s.page) here.0)
-
   abbrev OffendsAsLaid : Tag → Type 0
   OffendsAsLaid tag = offence Words sign items (Does tag) ≡ offence Off sign laid_before (Does tag)
 
   pub offends_as_laid : (tag : Tag) → OffendsAsLaid tag
-  unfolding offence_by
-  offends_as_laid tag = grind (arith, goes_back_laid, too_big_laid_break, here, same_pages)
+  unfolding offence_by standing
+  offends_as_laid tag = grind (arith, goes_back_laid, too_big_laid_break, here)

@@ -1,6 +1,6 @@
 -- The laid spots of a group are the group, filled.
-use Rattle.std.proofs.Common.{◌≡◌, inl, inr, ℕ, ◌<◌, Bool, true, cond, ◌&&◌, ◌||◌, ◌==◌, List, [], ◌∷◌, ◌++◌, length, take, Option, refl, sym, ap, subst, ◌∙◌, arith, length-append, append-nil, slice_index_or, All}
-use Rattle.std.proofs.lemmas.Bool.{cases_Bool, eq-eqb}
+use Rattle.std.proofs.Common.{◌≡◌, ℕ, ◌<◌, Bool, true, cond, ◌&&◌, ◌||◌, ◌==◌, List, [], ◌∷◌, ◌++◌, length, take, Option, refl, sym, ap, subst, ◌∙◌, arith, length-append, append-nil, slice_index_or, All}
+use Rattle.std.proofs.lemmas.Bool.{eq-eqb}
 use Rattle.std.proofs.lemmas.List.{get_or_at, take_all, take_more, length_push}
 use Rattle.std.proofs.lemmas.List.Elements.{AllZip-get_or, filter-append, length_all_zip}
 use Rattle.multi_tag.specs.Just.{page_number}
@@ -26,11 +26,8 @@ is_member a j t = in_areas a t && (page_number t.at.page_just == j)
 members-append : (a j : ℕ) (xs ys : List Spot) → members a j (xs ++ ys) ≡ members a j xs ++ members a j ys
 members-append a j xs ys = grind (arith, filter-append)
 
-one_member : (a j : ℕ) (x : Spot) → members a j (x ∷ []) ≡ cond (is_member a j x) (x ∷ []) []
-one_member a j x = elim (cases_Bool (in_areas a x)) [ inl e ↦ rw e refl | inr e ↦ rw e refl ]
-
 pub members_push : (a j : ℕ) (xs : List Spot) (x : Spot) (b : Bool) → is_member a j x ≡ b → members a j (xs ++ x ∷ []) ≡ members a j xs ++ cond b (x ∷ []) []
-members_push a j xs x b e = members-append a j xs (x ∷ []) ∙ ap (λ l. members a j xs ++ l) (one_member a j x ∙ ap (λ b. cond b (x ∷ []) []) e)
+members_push a j xs x b e = members-append a j xs (x ∷ []) ∙ grind (arith, e)
 
 -- the members with one of them in its place
 pub members_with : (a j : ℕ) (xs ys : List Spot) (x : Spot) → is_member a j x ≡ true → members a j (xs ++ x ∷ ys) ≡ members a j xs ++ x ∷ members a j ys

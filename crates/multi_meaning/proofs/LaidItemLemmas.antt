@@ -45,12 +45,9 @@ module _ (setting : LineFill) (sign : SignData) where
         rw e (stays, ap (λ o. laid setting (spots sign all) (spots sign some) ++ cons_option o []) puts ∙ sym (each_after_push (laid_spot setting (spots sign all)) (spots sign some) s))
   ]
 
-  nothing_laid : (all : List Meaning) → spots sign (laid_items setting sign all []) ≡ laid setting (spots sign all) (spots sign [])
-  unfolding spots
-  nothing_laid all = refl
-
   pub are_laid : (all some more : List Meaning) → all ≡ some ++ more → AreLaid all some
-  are_laid all = front_ind all (AreLaid all) (refl, nothing_laid all) (λ some more x is (stands, put).
+  unfolding spots
+  are_laid all = front_ind all (AreLaid all) (refl, refl) (λ some more x is (stands, put).
       let y = laid_item setting sign all some x in
       let (stays, laid_more) = one_laid all some more x is in
       let push = each_after_push (laid_item setting sign all) some x in (

@@ -2,7 +2,7 @@
 use native.Mathlib.Omega.{arith}
 use Rattle.std.proofs.Common.{◌≡◌, ℕ, Bool, true, false, cond, ◌||◌, inl, inr, List, [], ◌∷◌, ◌++◌, map, Some, None, refl, sym, ap, subst, ◌∙◌, append_assoc, append-nil, option_map, arith}
 use Rattle.std.proofs.lemmas.Bool.{or_parts}
-use Rattle.std.specs.List.{after_last, count_by, list_any}
+use Rattle.std.specs.List.{after_last, list_any}
 use Rattle.std.proofs.lemmas.List.{map-append}
 use Rattle.std.proofs.lemmas.List.Folds.{list_any-append}
 use Rattle.multi_token.specs.Spelling.{Item}
@@ -13,7 +13,7 @@ use Rattle.sign_font.specs.Sign.{SignData, cell_numbered}
 use Rattle.multi_meaning.specs.Address.{Break, Glyph, Put, Spot, Standing, area_of, is_break, put_at, spots, standing}
 use Rattle.multi_meaning.specs.Laid.{laid, laid_spot}
 use Rattle.multi_meaning.specs.LaidItems.{laid_item, laid_items, laid_out}
-use Rattle.multi_meaning.specs.Meaning.{Does, Meaning, Shows, has_place, is_new_page, meaning}
+use Rattle.multi_meaning.specs.Meaning.{Does, Meaning, Shows, has_place, meaning}
 use Rattle.multi_meaning.specs.Offence.{clashes, conflicts, goes_back, never_big, offence, offence_by, unsized_offence}
 use Rattle.multi_meaning.specs.Verdict.{offences}
 use Rattle.multi_meaning.specs.kept.Fine.{IsOrderly}
@@ -89,13 +89,9 @@ module _ (setting : LineFill) (sign : SignData) (all : List Meaning) where
         )
 
   -- an item that places nothing offends by its page alone
-  same_offence : (xs ys : List Meaning) → count_by is_new_page xs ≡ count_by is_new_page ys → (x : Meaning) → has_place x ≡ false → unsized_offence sign xs x ≡ unsized_offence sign ys x
-  unfolding offence_by
+  same_offence : (xs ys : List Meaning) → (standing sign xs).page ≡ (standing sign ys).page → (x : Meaning) → has_place x ≡ false → unsized_offence sign xs x ≡ unsized_offence sign ys x
+  unfolding offence_by standing
   same_offence xs ys pages x e = grind arith
-
-  pages_same : (some more : List Meaning) → all ≡ some ++ more → count_by is_new_page (before some) ≡ count_by is_new_page some
-  unfolding standing
-  pages_same some more is = ap (λ (s : Standing). s.page) (are_laid setting sign all some more is).0
 
   laid_fine : (some more : List Meaning) (x : Meaning) → all ≡ some ++ x ∷ more → unsized_offence sign some x ≡ None → Fine some (laid_item setting sign all some x)
   laid_fine some more (Shows number) is fine = elim (cases_Option (cell_numbered (standing sign some).font number)) [
@@ -112,7 +108,7 @@ module _ (setting : LineFill) (sign : SignData) (all : List Meaning) where
   laid_fine some more (Does (NewLine gap)) is fine =
       let stays = apart some more (Does (NewLine gap)) is (Break gap) refl in
       grind (arith, offence-break never_big sign some gap, fine, stays, offence-break never_big sign (before some) gap)
-  laid_fine some more x is fine = ap (unsized_offence sign (before some)) (unplaced_item setting sign all some x refl) ∙ same_offence (before some) some (pages_same some (x ∷ more) is) x refl ∙ fine
+  laid_fine some more x is fine = ap (unsized_offence sign (before some)) (unplaced_item setting sign all some x refl) ∙ same_offence (before some) some (ap (λ (s : Standing). s.page) (are some more x is).0) x refl ∙ fine
 
   orderly_laid : ((some more : List Meaning) (x : Meaning) → all ≡ some ++ x ∷ more → unsized_offence sign some x ≡ None) → (some more : List Meaning) → all ≡ some ++ more → IsOrderly sign (before some)
   orderly_laid fine = front_ind all (λ some. IsOrderly sign (before some)) refl (λ some more x is ih.

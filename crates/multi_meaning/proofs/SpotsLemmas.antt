@@ -68,20 +68,17 @@ spot_page : (here : Standing) (low : ℕ) → low ≤ here.page → (defaults : 
 spot_page here low reached defaults v4 = grind arith
 
 -- pages don't fall along the items, nor do areas
-page_on : (sign : SignData) (before more : List Meaning) → (standing sign before).page ≤ (standing sign (before ++ more)).page
+falls_not : (sign : SignData) (before more : List Meaning)
+    → ((standing sign before).page ≤ (standing sign (before ++ more)).page) × ((standing sign before).area ≤ (standing sign (before ++ more)).area)
 unfolding standing
-page_on sign before more = omega (arith, sum_by-append (λ x. cond (is_new_page x) 1 0) before more)
-
-area_on : (sign : SignData) (before more : List Meaning) → (standing sign before).area ≤ (standing sign (before ++ more)).area
-unfolding standing
-area_on sign before more = omega (arith, sum_by-append (λ x. cond (begins_area x) 1 0) before more)
+falls_not sign before more = (omega (arith, sum_by-append (λ x. cond (is_new_page x) 1 0) before more), omega (arith, sum_by-append (λ x. cond (begins_area x) 1 0) before more))
 
 -- what the items behind some others put is of their page or a later one
 pub pages_behind : (sign : SignData) (before behind : List Meaning) → All (IsFrom (standing sign before).page) (spots_behind sign before behind)
 pages_behind sign before behind =
     let low = (standing sign before).page in
     some_all (λ x. Unit {0}) (IsFrom low) (λ more item. spot_at sign.defaults (standing sign (before ++ more)) item) behind (All-weaker (Contains behind) (λ x. Unit {0}) (λ x _. tt) behind (All-contains_itself behind))
-    (λ more x _. spot_page (standing sign (before ++ more)) low (page_on sign before more) sign.defaults x)
+    (λ more x _. spot_page (standing sign (before ++ more)) low (falls_not sign before more).0 sign.defaults x)
 
 module _ (sign : SignData) (before : List Meaning) where
   -- an item that begins an area, and the items behind it, place nothing in the area that ends
@@ -91,7 +88,7 @@ module _ (sign : SignData) (before : List Meaning) where
       let k = (standing sign before).area in
       let next = before ++ x ∷ [] in
       let later = push_ind (λ rest. in_area k (spots sign (next ++ rest)) ≡ in_area k (spots sign next)) (ap (λ l. in_area k (spots sign l)) (append-nil next)) (λ rest y ih.
-      ap (λ l. in_area k (spots sign l)) (sym (append_assoc next rest (y ∷ []))) ∙ other_area sign (next ++ rest) y k (λ e. grind (arith, e, area_on sign next rest, standing_push sign before x, begins)) ∙ ih) in
+      ap (λ l. in_area k (spots sign l)) (sym (append_assoc next rest (y ∷ []))) ∙ other_area sign (next ++ rest) y k (λ e. grind (arith, e, (falls_not sign next rest).1, standing_push sign before x, begins)) ∙ ih) in
       grind (arith, later rest, spots_push sign before x, in_area-append, append_assoc before (x ∷ []) rest, append-nil)
 
   -- where an area ends, the rest of the string puts nothing into it

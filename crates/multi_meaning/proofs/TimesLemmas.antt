@@ -129,10 +129,7 @@ found_below : (p : ℕ → Bool) (a n k : ℕ) → find p (range_with_len a n) �
 found_below p a zero k is = absurd cc
 found_below p a (suc n) k is = grind (arith, is, found_below p (a + 1) n k)
 
-within_below : (pages : List Times) (time page phase : ℕ) → shown_within pages time ≡ Page page phase → page < length pages
-unfolding shown_within
-within_below pages time page phase is = grind (arith, found_below)
-
 -- a page that is shown is one of the string's
 pub page_below : (sign : SignData) (octets : List ℕ) (clock page phase : ℕ) → shown sign octets clock ≡ Page page phase → page < pages_of (meanings octets)
-page_below sign octets clock page phase is = grind (arith, times_count, shown_always, within_below, shown_modulo)
+unfolding shown_within
+page_below sign octets clock page phase is = grind (arith, times_count, shown_always, found_below, shown_modulo)
