@@ -1,5 +1,5 @@
 -- A pixel of a page at one more item, where a page begins and where it ends.
-use Rattle.std.proofs.Common.{◌≡◌, ℕ, ◌+◌, ◌-◌, ◌<◌, Bool, false, cond, ◌&&◌, ◌==◌, List, [], ◌∷◌, ◌++◌, Option, Some, None, refl, ap, ◌∙◌, arith, append-nil, subst, ◌⊎◌, inl, inr, nat_le, nat_lt, IfSome, option_map, unwrap_or, sym}
+use Rattle.std.proofs.Common.{◌≡◌, ℕ, ◌+◌, ◌-◌, Bool, false, cond, ◌&&◌, ◌==◌, List, [], ◌∷◌, ◌++◌, Option, Some, None, refl, ap, ◌∙◌, arith, append-nil, subst, ◌⊎◌, inl, inr, nat_le, nat_lt, option_map, unwrap_or, sym}
 use Rattle.std.specs.List.{filter_map, cons_option, All}
 use Rattle.std.proofs.lemmas.Bool.{cases_Bool, eq-eqb}
 use Rattle.std.proofs.lemmas.List.Elements.{All-cons, All-head, All-tail, filter_map-append}
@@ -8,14 +8,13 @@ use Rattle.sign_font.specs.declared.parts.Defaults.{Defaults}
 use Rattle.sign_font.specs.Cell as cells
 use Rattle.sign_font.specs.Sign.{SignData, CellData, cell_numbered, sized}
 use Rattle.multi_meaning.specs.Address.{standing, Put, Glyph, Break, Cover, Spot, put_at, spots}
-use Rattle.multi_meaning.specs.declared.place.Place.{Place}
 use Rattle.multi_meaning.specs.Place.{place_of}
 use Rattle.multi_meaning.specs.Picture.{Thing, thing_at, things_among, things, colour_of, shown_colour, is_lit_at, in_plane}
 use Rattle.multi_meaning.specs.Drawn.{has_colour}
 use Rattle.multi_meaning.specs.Meaning.{Meaning, Shows, Does, BeginsPage, EndsPage}
 use Rattle.multi_meaning.specs.Words.{some_after}
 use Rattle.multi_meaning.proofs.WordLemmas.{last_or-append, some_after_push, some_after-append, cases_Option}
-use Rattle.multi_meaning.proofs.SpotsLemmas.{spots_behind, spots_nothing, spots_more, spots_with, next_page_behind, some_all, page_put, IsFrom, pages_behind}
+use Rattle.multi_meaning.proofs.SpotsLemmas.{spots_behind, spots_nothing, spots_more, spots_with, next_page_behind, some_all, IsFrom, pages_behind}
 use Rattle.std.specs.Option.{option_map_or}
 use Rattle.multi_meaning.proofs.StandingLemmas.{standing_push}
 
@@ -102,10 +101,6 @@ IsBeside page t = (t.page == page) ≡ false
 colour_beside : (defaults : Defaults) (some more : List Thing) (page column row : ℕ) → All (IsBeside page) more → colour_of defaults (some ++ more) page column row ≡ colour_of defaults some page column row
 colour_beside defaults some more page column row beside = grind (arith, filter_map-append, maps_none, append-nil)
 
--- what a spot of a later page puts is beside this page
-thing_beside : (page phase : ℕ) (place : Place) (spot : Spot) (put : Put) → page < page_put spot.at put → IfSome (thing_at phase place spot put) (IsBeside page)
-thing_beside page phase place spot v4 h = grind arith
-
 module _ (sign : SignData) (page phase colour : ℕ) (all : List Spot) (column row : ℕ) where
   -- spots of later pages leave every pixel of a page
   covered_later : (some more : List Spot) → All (IsFrom (page + 1)) more
@@ -113,7 +108,7 @@ module _ (sign : SignData) (page phase colour : ℕ) (all : List Spot) (column r
   unfolding has_colour things_among
   covered_later some more later =
       let f = λ (next : List Spot) (spot : Spot). thing_at phase (place_of (some ++ next) all spot) spot spot.put in
-      let beside = some_all (IsFrom (page + 1)) (IsBeside page) f more later (λ next s h. thing_beside page phase (place_of (some ++ next) all s) s s.put (omega arith)) in
+      let beside = some_all (IsFrom (page + 1)) (IsBeside page) f more later (λ next s h. grind (arith, h)) in
       grind (arith, some_after-append (λ before spot. thing_at phase (place_of before all spot) spot spot.put) some more, colour_beside sign.defaults (things_among phase all some) (some_after f more) page column row beside)
 
 -- a pixel of a string is that of all its spots

@@ -1,7 +1,7 @@
 -- The words on lists, at one more item.
-use Rattle.std.proofs.Common.{◌≡◌, ℕ, ◌+◌, ◌≤◌, Bool, inl, inr, zero, suc, true, false, cond, List, [], ◌∷◌, ◌++◌, length, take, Option, Some, None, refl, ap, ◌∙◌, arith, length-append}
-use Rattle.std.specs.Option.{option_map, option_map_or}
-use Rattle.std.proofs.lemmas.Bool.{both_ways, cases_Bool}
+use Rattle.std.proofs.Common.{◌≡◌, ℕ, ◌+◌, ◌≤◌, Bool, zero, suc, true, false, cond, List, [], ◌∷◌, ◌++◌, length, take, Option, Some, None, refl, ap, ◌∙◌, arith, length-append}
+use Rattle.std.specs.Option.{option_map}
+use Rattle.std.proofs.lemmas.Bool.{both_ways}
 use Rattle.std.proofs.lemmas.List.Elements.{filter-append}
 use Rattle.multi_meaning.proofs.WordLemmas.{each_after_push, last_or-append, push_ind}
 use Rattle.multi_meaning.specs.Filling.{CutAt, longest_prefix, cut_at_last, longer}
@@ -31,19 +31,9 @@ abbrev pub cut_more : {X : Type 0} → Bool → List X → X → Option (CutAt X
 cut_more b xs x o = cond b (Some (record { before = xs; item = x; behind = [] })) (option_map (longer (x ∷ [])) o)
 
 module _ {X : Type 0} (p : X → Bool) where
-  abbrev onto : X → CutAt X → Option (CutAt X)
-  onto x c = Some (record c { before = x ∷ c.before })
-
-  abbrev alone : Bool → X → List X → Option (CutAt X)
-  alone b x xs = cond b (Some (record { before = []; item = x; behind = xs })) None
-
-  cut_step : (b d : Bool) (y : X) (xs : List X) (x : X) (o : Option (CutAt X))
-      → option_map_or (onto y) (cut_more b xs x o) (alone d y (xs ++ x ∷ [])) ≡ cut_more b (y ∷ xs) x (option_map_or (onto y) o (alone d y xs))
-  cut_step v0 d y xs x o = grind arith
-
   pub cut_push : (xs : List X) (x : X) → cut_at_last p (xs ++ x ∷ []) ≡ cut_more (p x) xs x (cut_at_last p xs)
-  cut_push [] x = elim (cases_Bool (p x)) [ inl e ↦ rw e refl | inr e ↦ rw e refl ]
-  cut_push (y ∷ xs) x = ap (λ o. option_map_or (onto y) o (alone (p y) y (xs ++ x ∷ []))) (cut_push xs x) ∙ cut_step (p x) (p y) y xs x (cut_at_last p xs)
+  cut_push [] x = grind arith
+  cut_push (y ∷ xs) x = grind (arith, cut_push xs x)
 
   -- a cut gives the list's parts, and none that passes stands behind
   pub record IsCut (xs : List X) (c : CutAt X) : Type 0 where

@@ -1,5 +1,5 @@
 -- The height of a group by a running state: what code keeps of the placing items so far.
-use Rattle.std.proofs.Common.{◌≡◌, true, false, inl, inr, List, [], ◌∷◌, ◌++◌, refl, sym, ap, ◌∙◌, append_assoc, append-nil}
+use Rattle.std.proofs.Common.{◌≡◌, true, false, inl, inr, List, [], ◌∷◌, ◌++◌, refl, sym, ap, ◌∙◌, append_assoc, append-nil, arith}
 use Rattle.std.specs.List.{filter, list_any, All, AllPass}
 use Rattle.std.proofs.lemmas.Bool.{both_ways, cond_both}
 use Rattle.std.proofs.lemmas.List.Elements.{filter-append, All-nil, All-head, All-tail, All-push}
@@ -24,7 +24,7 @@ any_glyph s line h = rw (All-head (λ x. is_glyph x ≡ true) s line h) refl
 pub bearers_ended : (s : Spot) (line : List Spot) (b : Spot) → AllPass is_glyph (s ∷ line) → is_glyph b ≡ false → bearers ((s ∷ line) ++ b ∷ []) ≡ s ∷ line
 bearers_ended s line b h n =
     let rest = filter_all line (All-tail (λ x. is_glyph x ≡ true) s line h) in
-    rw (All-head (λ x. is_glyph x ≡ true) s line h) (ap (λ l. s ∷ l) (filter-append is_glyph line (b ∷ []) ∙ rw (n, rest) (append-nil line)))
+    grind (arith, All-head (λ x. is_glyph x ≡ true) s line h, rest, n, filter-append, append-nil)
 
 pub bearers_empty : (b : Spot) → is_glyph b ≡ false → bearers (b ∷ []) ≡ b ∷ []
 bearers_empty b n = rw n refl

@@ -110,11 +110,6 @@ module _ (setting : LineFill) (sign : SignData) (all : List Meaning) where
       grind (arith, offence-break never_big sign some gap, fine, stays, offence-break never_big sign (before some) gap)
   laid_fine some more x is fine = ap (unsized_offence sign (before some)) (unplaced_item setting sign all some x refl) ∙ same_offence (before some) some (ap (λ (s : Standing). s.page) (are some more x is).0) x refl ∙ fine
 
-  orderly_laid : ((some more : List Meaning) (x : Meaning) → all ≡ some ++ x ∷ more → unsized_offence sign some x ≡ None) → (some more : List Meaning) → all ≡ some ++ more → IsOrderly sign (before some)
-  orderly_laid fine = front_ind all (λ some. IsOrderly sign (before some)) refl (λ some more x is ih.
-      ap (some_after (unsized_offence sign)) (each_after_push (laid_item setting sign all) some x)
-      ∙ none_more (unsized_offence sign) (before some) (laid_item setting sign all some x) ih (laid_fine some more x is (fine some more x is)))
-
 -- A STRING
 
 -- what doesn't offend doesn't by more than its size
@@ -133,6 +128,8 @@ pub orderly_out : (sign : SignData) (items : List Item) → offences sign items 
 orderly_out sign items none =
     let all = map meaning items in
     let f = unsized_offence sign in
-    let fine : (some more : List Meaning) (x : Meaning) → all ≡ some ++ x ∷ more → f some x ≡ None = λ some more x is.
+    let fine = λ (some more : List Meaning) (x : Meaning) (is : all ≡ some ++ x ∷ more).
     none_last sign f some x (none_front sign f (some ++ x ∷ []) more (subst (IsOrderly sign) (is ∙ sym (append_assoc some (x ∷ []) more)) (orderly_items sign items none))) in
-    orderly_laid sign.line_fill sign all fine all [] (sym (append-nil all))
+    front_ind all (λ some. IsOrderly sign (laid_items sign.line_fill sign all some)) refl (λ some more x is ih.
+    ap (some_after f) (each_after_push (laid_item sign.line_fill sign all) some x)
+    ∙ none_more f (laid_items sign.line_fill sign all some) (laid_item sign.line_fill sign all some x) ih (laid_fine sign.line_fill sign all some more x is (fine some more x is))) all [] (sym (append-nil all))

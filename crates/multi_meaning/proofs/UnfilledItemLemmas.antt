@@ -26,10 +26,7 @@ unfilled_item sign all before more (Shows number) is =
 unfilled_item sign all before more (Does (NewLine gap)) is = refl
 unfilled_item sign all before more _ is = refl
 
-pub unfilled_items : (sign : SignData) (all some more : List Meaning) → all ≡ some ++ more → laid_items Off sign all some ≡ some
-unfilled_items sign all = front_ind all (λ some. laid_items Off sign all some ≡ some) refl
-    (λ some more x is ih. each_after_push (laid_item Off sign all) some x ∙ (λ i. ih i ++ unfilled_item sign all some more x is i ∷ []))
-
 -- where lines aren't filled, the items are laid out as they are
 pub laid_plain : (sign : SignData) (items : List Meaning) → laid_items Off sign items items ≡ items
-laid_plain sign items = unfilled_items sign items items [] (sym (append-nil items))
+laid_plain sign items = front_ind items (λ some. laid_items Off sign items some ≡ some) refl
+    (λ some more x is ih. each_after_push (laid_item Off sign items) some x ∙ (λ i. ih i ++ unfilled_item sign items some more x is i ∷ [])) items [] (sym (append-nil items))

@@ -41,22 +41,17 @@ pub item_refused : (sign : SignData) (before : List Item) (item : Item) (code : 
 item_refused sign before item code rest each none offends =
     first_stands sign (before ++ item ∷ []) rest (code, length (spell before)) [] each (offences_push sign before item (Some code) none offends)
 
--- where no item offends, a rest is a broken bracket
-broken_refused : (sign : SignData) (items : List Item) (rest : List ℕ) → rest ≢ [] → offences sign items ≡ [] → verdict_on sign items rest ≡ Refused 3 (length (spell items))
-unfolding verdict_on
-broken_refused sign items v2 some none = grind arith
-
 -- what stays broken has an octet
 broken_some : (bracket more : List ℕ) → StaysBroken bracket → bracket ++ more ≢ []
 broken_some [] more stays e = absurd (stays (65 ∷ []) (Char 65) [] (tt, refl))
 broken_some (octet ∷ bracket) more stays e = cc
 
 pub broken_bracket_stands : BrokenBracketStands
-unfolding verdict
+unfolding verdict verdict_on
 broken_bracket_stands sign before bracket more each none stays =
     let octets = spell before ++ (bracket ++ more) in
     let read : IsReading octets before (bracket ++ more) = record { each = each; spelled = refl; ends = stays more } in
-    grind (arith, one_reading octets (reading octets).items before (reading octets).rest (bracket ++ more) (each_string_has_a_reading octets) read, broken_refused sign before (bracket ++ more) (broken_some bracket more stays) none)
+    grind (arith, one_reading octets (reading octets).items before (reading octets).rest (bracket ++ more) (each_string_has_a_reading octets) read, broken_some bracket more stays, none)
 
 -- a string of these items and this rest is refused
 stands_by : (sign : SignData) (items : List Item) (rest : List ℕ) (faults : List (ℕ × ℕ)) (code at : ℕ) → All IsItem items → HasNoItem rest → offences sign items ≡ faults
