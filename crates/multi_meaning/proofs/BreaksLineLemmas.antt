@@ -31,7 +31,7 @@ use Rattle.multi_meaning.proofs.WordLemmas.{All-split, cases_Option, each_after_
 
 -- an item that puts a space shows 32
 pub space_shown : (defaults : Defaults) (here : Standing) (x : Meaning) (put : Put) → put_at defaults here x ≡ Some put → is_space (record { at = here; put = put }) ≡ true → x ≡ Shows 32
-space_shown defaults here x v3 e space = grind (arith, found_cell)
+space_shown defaults here x put e space = grind (arith, found_cell)
 
 -- a list with another item in one place, and more behind it, is the same in every other place
 get_other : (xs ys zs : List Spot) (a b d : Spot) (n : ℕ) → (n ≡ length xs → ⊥) → n < length (xs ++ a ∷ ys) → slice_index_or (xs ++ b ∷ (ys ++ zs)) n d ≡ slice_index_or (xs ++ a ∷ ys) n d

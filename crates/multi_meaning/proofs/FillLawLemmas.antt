@@ -93,7 +93,7 @@ shown_by Words sign items number fits (Some cell) found =
     filled_shown sign items number cell found (ap (line_fits c.at.rectangle.width) (sym is) ∙ fits refl (page_number c.at.page_just))
 
 kept : (setting : LineFill) (sign : SignData) (items : List Meaning) (x : Meaning) → (setting ≡ Words → OpenLinesFit sign items) → Kept setting sign items x
-kept setting sign items v3 fits = grind (arith, shown_by, laid_tag, laid_nothing)
+kept setting sign items x fits = grind (arith, shown_by, laid_tag, laid_nothing)
 
 pub keeps_breaks : KeepsBreaks
 keeps_breaks sign before item none = kept sign.line_fill sign (map meaning before) (meaning item) (λ words. open_lines_fit sign words before none)

@@ -37,7 +37,7 @@ module _ (width : ℕ) where
   broken_fits cs h = rw h refl
 
   longer_twice : (xs ys : List Spot) (o : Option (CutAt Spot)) → option_map (longer (xs ++ ys)) o ≡ option_map (longer ys) (option_map (longer xs) o)
-  longer_twice xs ys v2 = grind (arith, append_assoc)
+  longer_twice xs ys o = grind (arith, append_assoc)
 
   -- a later one leaves the break
   pub broken_later : (cs : List Spot) (s : Spot) → line_fits width cs ≡ false → soft_break width (cs ++ s ∷ []) ≡ option_map (longer (s ∷ [])) (soft_break width cs)
@@ -55,7 +55,7 @@ module _ (width : ℕ) where
 
   -- characters without a space stay together
   pub fill_still : (n : ℕ) (cs : List Spot) → cut_at_last is_space cs ≡ None → fill n width cs ≡ cs
-  fill_still v0 cs none = grind (arith, none_take)
+  fill_still n cs none = grind (arith, none_take)
 
   -- THE LAST LINE
 

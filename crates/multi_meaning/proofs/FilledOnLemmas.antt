@@ -24,7 +24,7 @@ module _ (setting : LineFill) (width : ℕ) (a : ℕ) where
 
   -- the largest page justification stays, since what is laid stands where it did
   pub same_at : (x y : Spot) → LaidAs x y → (in_areas a y ≡ in_areas a x) × (page_number y.at.page_just ≡ page_number x.at.page_just)
-  same_at x y v2 = grind arith
+  same_at x y as' = grind arith
 
   pub one_more : (xs : List Spot) (x : Spot) → in_area a (xs ++ x ∷ []) ≡ in_area a xs ++ cond (in_areas a x) (x ∷ []) []
   one_more xs x = filter-append (in_areas a) xs (x ∷ [])

@@ -35,7 +35,7 @@ members_with a j xs ys x e = grind (arith, members-append)
 
 -- a laid spot is in the group of its spot
 pub same_member : (a j : ℕ) (x y : Spot) → LaidAs x y → is_member a j y ≡ is_member a j x
-same_member a j x y v4 = grind arith
+same_member a j x y as' = grind arith
 
 -- a spot of a group is of its area and has its page justification
 pub member_at : (a j : ℕ) (x : Spot) → is_member a j x ≡ true → (x.at.area ≡ a) × (page_number x.at.page_just ≡ j)

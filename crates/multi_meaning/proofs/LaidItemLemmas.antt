@@ -25,7 +25,7 @@ module _ (sign : SignData) (here at : Standing) where
   IsLaid item y = (standing_behind sign here (laid_of item (Some y)) ≡ standing_behind sign here item) × (spot_at sign.defaults at (laid_of item (Some y)) ≡ Some y)
 
   is_laid : (item : Meaning) (put : Put) (y : Spot) → put_at sign.defaults at item ≡ Some put → LaidAs (spot_of put) y → IsLaid item y
-  is_laid item put y e v4 = grind arith
+  is_laid item put y e as' = grind arith
 
 module _ (setting : LineFill) (sign : SignData) where
   -- the same is in force behind them, and what they put is laid as it is in the string

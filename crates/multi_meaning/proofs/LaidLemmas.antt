@@ -109,10 +109,10 @@ module _ (width : ℕ) where
 
 -- a group, filled to a width or to none: nothing, and one more `nl`
 pub filled_none : (o : Option ℕ) → filled o [] ≡ []
-filled_none v0 = grind arith
+filled_none o = grind arith
 
 pub filled_behind : (o : Option ℕ) (g : List Spot) (s : Spot) → All IsPlacing g → is_break s ≡ true → filled o (g ++ s ∷ []) ≡ filled o g ++ s ∷ []
-filled_behind v0 g s placing b = grind (arith, filled_break)
+filled_behind o g s placing b = grind (arith, filled_break)
 
 -- a cut list with characters behind it
 cut_glyphs : (ys : List Spot) (c : Cut Spot) → AllPass is_glyph ys → cut_from is_break c ys ≡ record { closed = c.closed; open' = c.open' ++ ys }
@@ -123,7 +123,7 @@ pub cut_with : (ys xs : List Spot) → AllPass is_glyph ys → cut is_break (xs 
 cut_with ys xs h = fold-append (cut_more is_break) (record { closed = []; open' = [] }) xs ys ∙ cut_glyphs ys (cut is_break xs) h
 
 pub ends_open : (width : ℕ) (xs : List Spot) → Ends width xs → (cut is_break xs).open' ≡ []
-ends_open width xs v2 = grind (arith, cut_push)
+ends_open width xs ends = grind (arith, cut_push)
 
 -- the open line of a filled group stands behind its last end of a line
 pub open_line_is : (width : ℕ) (g : List Spot) → All IsPlacing g → after_last is_break (filled (Some width) g) ≡ open_line width g

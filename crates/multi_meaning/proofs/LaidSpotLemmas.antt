@@ -49,4 +49,4 @@ module _ (width : ℕ) where
 
 -- a filled group has each of its items in its place
 pub filled_laid : (o : Option ℕ) (g : List Spot) → All IsPlacing g → LaidAll g (filled o g)
-filled_laid v0 g placing = grind (arith, same_laid, some_laid)
+filled_laid o g placing = grind (arith, same_laid, some_laid)

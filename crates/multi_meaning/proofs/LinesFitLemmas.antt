@@ -36,7 +36,7 @@ line_high line some high = elim (cases_Bool (list_any is_glyph line)) [
 ]
 
 part_high : (line : List Spot) → All High line → All IsHigh (part is_break line)
-part_high v0 high = grind (arith, All-nil, All-cons, line_high)
+part_high line high = grind (arith, All-nil, All-cons, line_high)
 
 -- and so has each line of a group
 lines_high : (g : List Spot) → All High g → All IsHigh (lines_of g)

@@ -65,7 +65,7 @@ abbrev pub IsFrom : ℕ → Spot → Type 0
 IsFrom page s = page ≤ page_put s.at s.put
 
 spot_page : (here : Standing) (low : ℕ) → low ≤ here.page → (defaults : Defaults) (x : Meaning) → IfSome (spot_at defaults here x) (IsFrom low)
-spot_page here low reached defaults v4 = grind arith
+spot_page here low reached defaults x = grind arith
 
 -- pages don't fall along the items, nor do areas
 falls_not : (sign : SignData) (before more : List Meaning)
@@ -94,7 +94,7 @@ module _ (sign : SignData) (before : List Meaning) where
   -- where an area ends, the rest of the string puts nothing into it
   pub area_ends : (behind : List Meaning) → EndsArea behind
       → in_area (standing sign before).area (spots sign (before ++ behind)) ≡ in_area (standing sign before).area (spots sign before)
-  area_ends behind v1 = grind (arith, append-nil, ends_next)
+  area_ends behind ends = grind (arith, append-nil, ends_next)
 
   -- a character joins its area, and the items behind it come after it
   pub area_with_glyph : (number : ℕ) (cell : CellData) (rest : List Meaning) → cell_numbered (standing sign before).font number ≡ Some cell →

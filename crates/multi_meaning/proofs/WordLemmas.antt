@@ -106,7 +106,7 @@ right_nil (x ∷ xs) ys e = cc
 
 -- nothing is put before a list of nothing
 pub none_of : {X : Type 0} (o : Option X) (more : List X) → cons_option o more ≡ [] → o ≡ None
-none_of v0 more e = grind arith
+none_of o more e = grind arith
 
 pub none_mapped : {X Y : Type 0} (f : X → Y) (o : Option X) → option_map f o ≡ None → o ≡ None
-none_mapped f v1 e = grind arith
+none_mapped f o e = grind arith
