@@ -12,7 +12,6 @@ use Rattle.multi_meaning.specs.Place.{place_of}
 use Rattle.multi_meaning.specs.Picture.{Thing, thing_at, things_among, things, colour_of, shown_colour, is_lit_at, in_plane}
 use Rattle.multi_meaning.specs.Drawn.{has_colour}
 use Rattle.multi_meaning.specs.Meaning.{Meaning, Shows, Does, BeginsPage, EndsPage}
-use Rattle.multi_meaning.specs.Words.{some_after}
 use Rattle.multi_meaning.proofs.WordLemmas.{last_or-append, some_after_push, some_after-append, cases_Option}
 use Rattle.multi_meaning.proofs.SpotsLemmas.{spots_behind, spots_nothing, spots_more, spots_with, next_page_behind, some_all, IsFrom, pages_behind}
 use Rattle.std.specs.Option.{option_map_or}
@@ -109,7 +108,7 @@ module _ (sign : SignData) (page phase colour : ℕ) (all : List Spot) (column r
   covered_later some more later =
       let f = λ (next : List Spot) (spot : Spot). thing_at phase (place_of (some ++ next) all spot) spot spot.put in
       let beside = some_all (IsFrom (page + 1)) (IsBeside page) f more later (λ next s h. grind (arith, h)) in
-      grind (arith, some_after-append (λ before spot. thing_at phase (place_of before all spot) spot spot.put) some more, colour_beside sign.defaults (things_among phase all some) (some_after f more) page column row beside)
+      grind (arith, some_after-append, colour_beside)
 
 -- a pixel of a string is that of all its spots
 plane_is : (sign : SignData) (items : List Meaning) (page phase colour column row : ℕ)

@@ -18,7 +18,7 @@ longest_all p = push_ind (λ xs. p xs ≡ true → longest_prefix p xs ≡ xs) (
 
 -- it is no longer than the list
 longest_most : {X : Type 0} (p : List X → Bool) (xs : List X) → length (longest_prefix p xs) ≤ length xs
-longest_most p = push_ind (λ xs. length (longest_prefix p xs) ≤ length xs) (grind arith) (λ xs x ih. grind (arith, longest_push p xs x, length-append xs (x ∷ []), ih))
+longest_most p = push_ind (λ xs. length (longest_prefix p xs) ≤ length xs) (grind arith) (λ xs x ih. grind (arith, longest_push, length-append, ih))
 
 -- it is shorter than a list that doesn't pass
 pub longest_short : {X : Type 0} (p : List X → Bool) (xs : List X) → p [] ≡ true → p xs ≡ false → length (longest_prefix p xs) + 1 ≤ length xs

@@ -16,16 +16,10 @@ use Rattle.multi_meaning.proofs.SpotsLemmas.{spots_with}
 use Rattle.multi_meaning.proofs.StandingLemmas.{standing_push}
 use Rattle.multi_meaning.proofs.WordLemmas.{cases_Option, each_after_push, front_ind}
 
-module _ (sign : SignData) (here at : Standing) where
-  abbrev spot_of : Put → Spot
-  spot_of put = record { at = at; put = put }
-
-  -- an item that is laid as this spot puts it, and the same stays in force behind it
-  abbrev IsLaid : Meaning → Spot → Type 0
-  IsLaid item y = (standing_behind sign here (laid_of item (Some y)) ≡ standing_behind sign here item) × (spot_at sign.defaults at (laid_of item (Some y)) ≡ Some y)
-
-  is_laid : (item : Meaning) (put : Put) (y : Spot) → put_at sign.defaults at item ≡ Some put → LaidAs (spot_of put) y → IsLaid item y
-  is_laid item put y e as' = grind arith
+-- an item that is laid as this spot puts it, and the same stays in force behind it
+is_laid : (sign : SignData) (here at : Standing) (item : Meaning) (put : Put) (y : Spot) → put_at sign.defaults at item ≡ Some put → LaidAs (record { at = at; put = put }) y
+    → (standing_behind sign here (laid_of item (Some y)) ≡ standing_behind sign here item) × (spot_at sign.defaults at (laid_of item (Some y)) ≡ Some y)
+is_laid sign here at item put y e as' = grind arith
 
 module _ (setting : LineFill) (sign : SignData) where
   -- the same is in force behind them, and what they put is laid as it is in the string

@@ -60,7 +60,7 @@ module _ (setting : LineFill) (fill : Rectangle → Option ℕ) (is : (at : Stan
             let behind = filled_behind (fill_at setting s.at) (in_group group area) s (placing_group group area (area_placing (spots sign before) s)) ends in
             grind (arith, own_group group area s refl, behind, after_last_push is_break whole s, ends, nothing_fits s.at.rectangle.width)
       ] in
-      elim (cases_eq group just) [ inl own ↦ grind (arith, own, is s.at, joined) | inr other ↦ grind (arith, in_group_other just area s other, old just) ]
+      elim (cases_eq group just) [ inl own ↦ grind (arith, own, is, joined) | inr other ↦ grind (arith, in_group_other, old) ]
 
 -- behind the items of an accepted string the present line of each group fits the rectangle in force
 pub lines_fit_always : (sign : SignData) (items : List Meaning) → IsFine sign items → LinesFit (standing sign items).rectangle.width (present_area sign items)
@@ -96,7 +96,7 @@ module _ (sign : SignData) (sound : IsSound sign) (items : List Meaning) (fits :
       let P = λ (s : Spot). is_glyph s ≡ true → 1 ≤ glyph_width s in
       let wide : All P line = All-drop P _ (in_group just (present_area sign items)) (All-filter (λ t. page_number t.at.page_just == just) P (present_area sign items) (area_wide sign sound sound.font items)) in
       let many = sum_least glyph_width (segment 5 line) (wide_segment 5 line wide) in
-      record { width = each_just (λ just. width_of (segment just line) ≤ 1024) (grind (arith, nat_tests, fits just, across, sound.width.1)) (grind (arith, nat_tests, fits just, across, sound.width.1)) (grind (arith, nat_tests, fits just, across, sound.width.1)) (grind (arith, nat_tests, fits just, across, sound.width.1)); characters = grind (arith, nat_tests, many, fits just, across, sound.width.1) }
+      record { width = each_just (λ just. width_of (segment just line) ≤ 1024) (grind (arith, nat_tests, fits, across, sound.width.1)) (grind (arith, nat_tests, fits, across, sound.width.1)) (grind (arith, nat_tests, fits, across, sound.width.1)) (grind (arith, nat_tests, fits, across, sound.width.1)); characters = grind (arith, nat_tests, many, fits, across, sound.width.1) }
 
   -- and no group is higher than a sign
   height : (just : ℕ) → 2 ≤ just → just ≤ 4 → height_of (lines_of (in_group just (present_area sign items))) ≤ 1024

@@ -1,20 +1,19 @@
 -- The items of a string as they are laid out offend by nothing but their size, where those of the string don't.
 use native.Mathlib.Omega.{arith}
-use Rattle.std.proofs.Common.{◌≡◌, ℕ, Bool, true, false, cond, ◌||◌, inl, inr, List, [], ◌∷◌, ◌++◌, map, Some, None, refl, sym, ap, subst, ◌∙◌, append_assoc, append-nil, option_map, arith}
+use Rattle.std.proofs.Common.{◌≡◌, ℕ, Bool, false, cond, ◌||◌, inl, inr, List, [], ◌∷◌, ◌++◌, map, Some, None, refl, sym, ap, subst, ◌∙◌, append_assoc, append-nil, option_map, arith}
 use Rattle.std.proofs.lemmas.Bool.{or_parts}
 use Rattle.std.specs.List.{after_last, list_any}
 use Rattle.std.proofs.lemmas.List.{map-append}
 use Rattle.std.proofs.lemmas.List.Folds.{list_any-append}
 use Rattle.multi_token.specs.Spelling.{Item}
 use Rattle.multi_tag.specs.declared.tag.Tag.TheVariants.{NewLine}
-use Rattle.multi_tag.specs.Just.{page_number}
 use Rattle.sign_font.specs.declared.parts.LineFill.{LineFill}
 use Rattle.sign_font.specs.Sign.{SignData, cell_numbered}
 use Rattle.multi_meaning.specs.Address.{Break, Glyph, Put, Spot, Standing, area_of, is_break, put_at, spots, standing}
 use Rattle.multi_meaning.specs.Laid.{laid, laid_spot}
 use Rattle.multi_meaning.specs.LaidItems.{laid_item, laid_items, laid_out}
 use Rattle.multi_meaning.specs.Meaning.{Does, Meaning, Shows, has_place, meaning}
-use Rattle.multi_meaning.specs.Offence.{clashes, conflicts, goes_back, never_big, offence, offence_by, unsized_offence}
+use Rattle.multi_meaning.specs.Offence.{conflicts, goes_back, never_big, offence, offence_by, unsized_offence}
 use Rattle.multi_meaning.specs.Verdict.{offences}
 use Rattle.multi_meaning.specs.kept.Fine.{IsOrderly}
 use Rattle.multi_meaning.specs.Words.{some_after}
@@ -39,18 +38,16 @@ module _ (setting : LineFill) (all : List Spot) (a j : ℕ) (p : Spot → Bool) 
   abbrev None_of : List Spot → Type 0
   None_of spots = list_any p (line spots) ≡ false → list_any p (line (laid setting all spots)) ≡ false
 
-  any_more : (xs : List Spot) (x : Spot) → is_member a j x ≡ true → list_any p (line (xs ++ x ∷ [])) ≡ cond (is_break x) false (list_any p (line xs) || (p x || false))
-  any_more xs x e = grind (arith, members_push a j xs x true e, after_last_push, list_any-append)
-
-  any_other : (xs : List Spot) (x : Spot) → is_member a j x ≡ false → list_any p (line (xs ++ x ∷ [])) ≡ list_any p (line xs)
-  any_other xs x e = ap (λ l. list_any p (after_last is_break l)) (members_push a j xs x false e ∙ append-nil (members a j xs))
+  any_push : (xs : List Spot) (x : Spot) → list_any p (line (xs ++ x ∷ []))
+      ≡ cond (is_member a j x) (cond (is_break x) false (list_any p (line xs) || (p x || false))) (list_any p (line xs))
+  any_push xs x = grind (arith, members_push a j xs x (is_member a j x) refl, after_last_push, list_any-append, append-nil)
 
   none_laid : (some more : List Spot) → all ≡ some ++ more → None_of some
   none_laid = front_ind all None_of (λ none. none) (λ some more x is ih none.
       let y = laid_spot setting all some x in
       let as' = laid_as setting all some more x is in
       ap (λ l. list_any p (line l)) (each_after_push (laid_spot setting all) some x)
-      ∙ grind (arith, as', same_member a j x y as', any_more (laid setting all some) y, any_other (laid setting all some) y, any_more some x, any_other some x, ih, none))
+      ∙ grind (arith, as', same_member a j x y as', any_push (laid setting all some) y, any_push some x, ih, none))
 
 -- A PLACING ITEM
 
@@ -61,7 +58,7 @@ module _ (setting : LineFill) (all some more : List Spot) (is : all ≡ some ++ 
 
   -- and neither does its segment
   pub stays_apart : conflicts (laid setting all some) s ≡ false
-  stays_apart = grind (arith, goes_on s refl, none_laid setting all s.at.area (page_number s.at.page_just) (clashes s) some more is, or_parts)
+  stays_apart = grind (arith, goes_on, none_laid, or_parts)
 
 -- THE ITEMS
 

@@ -88,7 +88,7 @@ module _ (sign : SignData) (before : List Meaning) where
       let k = (standing sign before).area in
       let next = before ++ x ∷ [] in
       let later = push_ind (λ rest. in_area k (spots sign (next ++ rest)) ≡ in_area k (spots sign next)) (ap (λ l. in_area k (spots sign l)) (append-nil next)) (λ rest y ih.
-      ap (λ l. in_area k (spots sign l)) (sym (append_assoc next rest (y ∷ []))) ∙ other_area sign (next ++ rest) y k (λ e. grind (arith, e, (falls_not sign next rest).1, standing_push sign before x, begins)) ∙ ih) in
+      ap (λ l. in_area k (spots sign l)) (sym (append_assoc next rest (y ∷ []))) ∙ other_area sign (next ++ rest) y k (λ e. grind (arith, e, (falls_not sign next rest).1, standing_push, begins)) ∙ ih) in
       grind (arith, later rest, spots_push sign before x, in_area-append, append_assoc before (x ∷ []) rest, append-nil)
 
   -- where an area ends, the rest of the string puts nothing into it

@@ -107,7 +107,7 @@ unfolding page_times
 times_are sign before rest =
     let ends : List Meaning → Meaning → Option Times = λ ms m. cond (is_new_page m) (Some (times_at (standing sign ms))) None in
     let behind : List Times = some_after (λ ms. ends (before ++ Does NewPage ∷ ms)) rest in
-    (behind ++ times_at (standing sign (before ++ Does NewPage ∷ rest)) ∷ [], grind (arith, some_after-append ends before (Does NewPage ∷ rest), append_assoc, append-nil))
+    (behind ++ times_at (standing sign (before ++ Does NewPage ∷ rest)) ∷ [], grind (arith, some_after-append, append_assoc, append-nil))
 
 -- there is one item for each that passes a test
 count_some : {X Y : Type 0} (p : X → Bool) (of : List X → Y) (xs : List X) → length (some_after (λ before x. cond (p x) (Some (of before)) None) xs) ≡ count_by p xs

@@ -32,7 +32,7 @@ first_stands : (sign : SignData) (items : List Item) (more : List ℕ) (fault : 
 unfolding verdict verdict_on
 first_stands sign items more fault faults each first =
     let all = each_string_has_a_reading (spell items ++ more) in
-    grind (arith, reading_begins items (reading (spell items ++ more)).items more (reading (spell items ++ more)).rest each all.each all.ends all.spelled, some_after-append (fault_at sign), first)
+    grind (arith, reading_begins, some_after-append, first)
 
 -- a refusal for an item stands for every string with the same octets up to the end of that item
 pub item_refused : (sign : SignData) (before : List Item) (item : Item) (code : ℕ) (rest : List ℕ)
@@ -57,7 +57,7 @@ broken_bracket_stands sign before bracket more each none stays =
 stands_by : (sign : SignData) (items : List Item) (rest : List ℕ) (faults : List (ℕ × ℕ)) (code at : ℕ) → All IsItem items → HasNoItem rest → offences sign items ≡ faults
     → of_first (pages_of (map meaning items)) (faults ++ broken items rest) ≡ Refused code at → ¬ (IsOpen (drop at (spell items ++ rest)))
     → (more : List ℕ) → verdict sign ((spell items ++ rest) ++ more) ≡ Refused code at
-stands_by sign items rest (fault ∷ faults) code at each ends first e closed more = grind (arith, first_stands sign items (rest ++ more) fault faults each first, append_assoc)
+stands_by sign items rest (fault ∷ faults) code at each ends first e closed more = grind (arith, first_stands, append_assoc)
 stands_by sign items [] [] code at each ends none e closed more = absurd cc
 stands_by sign items (octet ∷ rest) [] code at each ends none e closed more =
     let cases = open_or_broken (octet ∷ rest) (λ e. cc) ends in
