@@ -25,11 +25,13 @@ colour_push : (defaults : Defaults) (things : List Thing) (t : Thing) (page colu
 colour_push defaults things t page column row = grind (arith, filter_map-append, last_or-append)
 
 -- a pixel after one more item that puts something: the colour of the thing, if it is one that covers the pixel, else as before
-covered_put : (sign : SignData) (page phase colour : ℕ) (all : List Spot) (column row : ℕ) (before : List Meaning) (x : Meaning) (put : Put) → put_at sign.defaults (standing sign before) x ≡ Some put →
+covered_put : (sign : SignData) (page phase colour : ℕ) (all : List Spot) (column row : ℕ) (before : List Meaning) (x : Meaning) (put : Put)
+    → put_at sign.defaults (standing sign before) x ≡ Some put →
     let old = has_colour sign page phase colour all (spots sign before) column row in
     let s : Spot = record { at = standing sign before; put = put } in
     has_colour sign page phase colour all (spots sign (before ++ x ∷ [])) column row
-    ≡ option_map_or (λ (t : Thing). cond (covers_at t page column row) (shown_colour sign t.colour == colour) old) (thing_at phase (place_of (spots sign before) all s) s put) old
+    ≡ option_map_or (λ (t : Thing). cond (covers_at t page column row) (shown_colour sign t.colour == colour) old)
+    (thing_at phase (place_of (spots sign before) all s) s put) old
 unfolding has_colour things_among
 covered_put sign page phase colour all column row before x put puts =
     let s : Spot = record { at = standing sign before; put = put } in
@@ -51,7 +53,8 @@ module _ (sign : SignData) (phase colour : ℕ) (all : List Spot) (column row : 
   begins_next : (earlier : List Meaning) → HasBackground (earlier ++ Does NewPage ∷ [])
   begins_next earlier =
       let at = standing sign earlier in
-      grind (arith, standing_push sign earlier (Does NewPage), covered_put sign (at.page + 1) phase colour all column row earlier (Does NewPage) (Cover (at.page + 1) at.back) refl, eq-eqb)
+      grind (arith, standing_push sign earlier (Does NewPage), covered_put sign (at.page + 1) phase colour all column row earlier (Does NewPage)
+      (Cover (at.page + 1) at.back) refl, eq-eqb)
 
   -- where a page begins, every pixel has it
   pub covered_begins : (before : List Meaning) → BeginsPage before
@@ -71,14 +74,16 @@ module _ (sign : SignData) (phase colour : ℕ) (all : List Spot) (column row : 
       (has_colour sign at.page phase colour all (spots sign before) column row)
   covered_glyph before number cell found =
       let at = standing sign before in
-      grind (arith, covered_put sign at.page phase colour all column row before (Shows number) (Glyph cell) (ap (option_map Glyph) found), eq-eqb at.page at.page refl)
+      grind (arith, covered_put sign at.page phase colour all column row before (Shows number) (Glyph cell) (ap (option_map Glyph) found),
+      eq-eqb at.page at.page refl)
 
   -- after a background every pixel of its page has it
   pub covered_cover : (before : List Meaning) (given : Option ℕ)
       → has_colour sign (standing sign before).page phase colour all (spots sign (before ++ Does (Back given) ∷ [])) column row ≡ (shown_colour sign (unwrap_or given sign.defaults.back) == colour)
   covered_cover before given =
       let at = standing sign before in
-      grind (arith, covered_put sign at.page phase colour all column row before (Does (Back given)) (Cover at.page (unwrap_or given sign.defaults.back)) refl, eq-eqb at.page at.page refl)
+      grind (arith, covered_put sign at.page phase colour all column row before (Does (Back given))
+      (Cover at.page (unwrap_or given sign.defaults.back)) refl, eq-eqb at.page at.page refl)
 
   -- an item that puts nothing, or ends a line, leaves every pixel of every page
   pub covered_same : (before : List Meaning) (x : Meaning) (page : ℕ)

@@ -57,7 +57,8 @@ module _ (sign : SignData) (items : List Meaning) (number : ℕ) (cell : CellDat
   dropped_itself space new =
       let here = (are_laid Words sign items items [] (sym (append-nil items))).0 in
       let is : number ≡ 32 = eqb-true number 32 (sym (spaces_is sign items number cell found) ∙ space) in
-      inr (laid_items Words sign items items, [], ap (λ n. laid_items Words sign items items ++ Shows n ∷ []) is, new, ap (λ (h : Standing). h.area) here, ap (λ (h : Standing). h.page_just) here, refl)
+      inr (laid_items Words sign items items, [], ap (λ n. laid_items Words sign items items ++ Shows n ∷ []) is, new,
+      ap (λ (h : Standing). h.area) here, ap (λ (h : Standing). h.page_just) here, refl)
 
   -- the line is broken at its last space
   broken : line_fits w (open_line w g) ≡ true → (k : CutAt Spot) → line_fits w (open_line w g ++ c ∷ []) ≡ false → is_space c ≡ false → cut_at_last is_space (open_line w g) ≡ Some k → Kept Words sign items (Shows number)
@@ -89,7 +90,8 @@ shown_by setting sign items number fits None found = inl (laid_nothing setting s
 shown_by Off sign items number fits (Some cell) found = inl (grown sign items number cell found Off (record { at = standing sign items; put = Glyph cell }) refl)
 shown_by Words sign items number fits (Some cell) found =
     let c : Spot = record { at = standing sign items; put = Glyph cell } in
-    let is = open_line_is c.at.rectangle.width (group_of c (spots sign items)) (members_placing c.at.area (page_number c.at.page_just) (spots sign items)) in
+    let is = open_line_is c.at.rectangle.width (group_of c (spots sign items)) (members_placing c.at.area (page_number c.at.page_just)
+    (spots sign items)) in
     filled_shown sign items number cell found (ap (line_fits c.at.rectangle.width) (sym is) ∙ fits refl (page_number c.at.page_just))
 
 kept : (setting : LineFill) (sign : SignData) (items : List Meaning) (x : Meaning) → (setting ≡ Words → OpenLinesFit sign items) → Kept setting sign items x

@@ -64,8 +64,10 @@ module _ (all : List Spot) (a j : ℕ) (some more : List Spot) (x : Spot) (is : 
   in_place : (fill : Option ℕ) → LaidAs x (slice_index_or (filled fill (members a j all)) (length (members a j some)) x)
   in_place fill =
       let n = length (members a j some) in
-      subst (λ y. LaidAs y (slice_index_or (filled fill (members a j all)) n x)) (ap (λ l. slice_index_or l n x) split ∙ get_or_at (members a j some) x (members a j more) x n refl)
-      (AllZip-get_or LaidAs (members a j all) (filled fill (members a j all)) n x x (filled_laid fill (members a j all) (members_placing a j all)) has_place)
+      subst (λ y. LaidAs y (slice_index_or (filled fill (members a j all)) n x)) (ap (λ l. slice_index_or l n x) split
+      ∙ get_or_at (members a j some) x (members a j more) x n refl)
+      (AllZip-get_or LaidAs (members a j all) (filled fill (members a j all)) n x x
+      (filled_laid fill (members a j all) (members_placing a j all)) has_place)
 
 module _ (setting : LineFill) (all : List Spot) where
   -- a spot of the string is laid as itself or as a dropped space
@@ -78,7 +80,8 @@ module _ (setting : LineFill) (all : List Spot) where
     whole = filled fill (members a j all)
 
     -- a spot of the group is laid as the item in its place in the filled group
-    pub there : (some more : List Spot) (x : Spot) → all ≡ some ++ x ∷ more → is_member a j x ≡ true → laid_spot setting all some x ≡ slice_index_or (filled fill (members a j all)) (length (members a j some)) x
+    pub there : (some more : List Spot) (x : Spot) → all ≡ some ++ x ∷ more → is_member a j x ≡ true → laid_spot setting all some x
+        ≡ slice_index_or (filled fill (members a j all)) (length (members a j some)) x
     there some more x is member = grind (arith, All-around, in_place)
 
     -- it has as many items
@@ -86,11 +89,14 @@ module _ (setting : LineFill) (all : List Spot) where
     whole_length = length_all_zip LaidAs (members a j all) whole (filled_laid fill (members a j all) (members_placing a j all))
 
     -- the laid spots of a group, as far as some spots go, are as many of the group as it is filled
-    pub group_laid : (some more : List Spot) → all ≡ some ++ more → members a j (laid setting all some) ≡ take (length (members a j some)) (filled fill (members a j all))
+    pub group_laid : (some more : List Spot) → all ≡ some ++ more → members a j (laid setting all some)
+        ≡ take (length (members a j some)) (filled fill (members a j all))
     group_laid = front_ind all (λ some. members a j (laid setting all some) ≡ take (length (members a j some)) whole) refl (λ some more x is ih.
         let y = laid_spot setting all some x in
         let push = members_push a j (laid setting all some) y (is_member a j y) refl in
-        ap (members a j) (each_after_push (laid_spot setting all) some x) ∙ grind (arith, push, same_member a j x y (laid_as some more x is), ih, there some more x is, take_more whole (length (members a j some)) x, has_place all a j some more x is, whole_length, length_push (members a j some) x, members_push a j some x (is_member a j x) refl, append-nil))
+        ap (members a j) (each_after_push (laid_spot setting all) some x) ∙ grind (arith, push, same_member a j x y (laid_as some more x is), ih,
+        there some more x is, take_more whole (length (members a j some)) x, has_place all a j some more x is, whole_length,
+        length_push (members a j some) x, members_push a j some x (is_member a j x) refl, append-nil))
 
     -- all of them are the group, filled
     pub group_whole : members a j (laid setting all all) ≡ filled fill (members a j all)

@@ -17,8 +17,10 @@ use Rattle.multi_meaning.proofs.StandingLemmas.{standing_push}
 use Rattle.multi_meaning.proofs.WordLemmas.{cases_Option, each_after_push, front_ind}
 
 -- an item that is laid as this spot puts it, and the same stays in force behind it
-is_laid : (sign : SignData) (here at : Standing) (item : Meaning) (put : Put) (y : Spot) → put_at sign.defaults at item ≡ Some put → LaidAs (record { at = at; put = put }) y
-    → (standing_behind sign here (laid_of item (Some y)) ≡ standing_behind sign here item) × (spot_at sign.defaults at (laid_of item (Some y)) ≡ Some y)
+is_laid : (sign : SignData) (here at : Standing) (item : Meaning) (put : Put) (y : Spot) → put_at sign.defaults at item ≡ Some put
+    → LaidAs (record { at = at; put = put }) y
+    → (standing_behind sign here (laid_of item (Some y)) ≡ standing_behind sign here item)
+    × (spot_at sign.defaults at (laid_of item (Some y)) ≡ Some y)
 is_laid sign here at item put y e as' = grind arith
 
 module _ (setting : LineFill) (sign : SignData) where

@@ -102,9 +102,11 @@ module _ (width : ℕ) where
   ended_ends g placing =
       let lines = lines_ind (λ before lines. Ends (flat_map (filled_line width) lines)) (inl refl) (λ before lines line s glyphs e h.
       let one : Ends (filled_line width (line ++ s ∷ [])) = rw (break_behind line s glyphs e) (one_ends (fill (length (filter is_glyph (line ++ s ∷ []))) width (filter is_glyph (line ++ s ∷ []))) s e) in
-      rw (flat_map_push (filled_line width) lines (line ++ s ∷ [])) (ends_behind (flat_map (filled_line width) lines) (filled_line width (line ++ s ∷ [])) h one)) g placing in
+      rw (flat_map_push (filled_line width) lines (line ++ s ∷ []))
+      (ends_behind (flat_map (filled_line width) lines) (filled_line width (line ++ s ∷ [])) h one)) g placing in
       ends_behind (front g) (last_parts g).closed lines.holds (fill_ind width (λ cs f. Ends f.closed) (λ cs. inl refl) (λ cs c f is ends.
-      subst Ends (append_assoc c.before (dropped c.item ∷ []) f.closed) (ends_behind (c.before ++ dropped c.item ∷ []) f.closed (one_ends c.before (dropped c.item) refl) ends))
+      subst Ends (append_assoc c.before (dropped c.item ∷ []) f.closed) (ends_behind (c.before ++ dropped c.item ∷ []) f.closed
+      (one_ends c.before (dropped c.item) refl) ends))
       (length (cut is_break g).open') (cut is_break g).open')
 
 -- a group, filled to a width or to none: nothing, and one more `nl`
@@ -128,4 +130,5 @@ ends_open width xs ends = grind (arith, cut_push)
 -- the open line of a filled group stands behind its last end of a line
 pub open_line_is : (width : ℕ) (g : List Spot) → All IsPlacing g → after_last is_break (filled (Some width) g) ≡ open_line width g
 open_line_is width g placing =
-    grind (arith, after_last_is, filled_is width g placing, cut_with (open_line width g) (ended width g) (open_line_glyphs width g placing), ends_open width (ended width g) (ended_ends width g placing))
+    grind (arith, after_last_is, filled_is width g placing, cut_with (open_line width g) (ended width g) (open_line_glyphs width g placing),
+    ends_open width (ended width g) (ended_ends width g placing))

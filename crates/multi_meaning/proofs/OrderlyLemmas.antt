@@ -74,7 +74,8 @@ module _ (setting : LineFill) (sign : SignData) (all : List Meaning) where
     are = are_laid setting sign all some (x ∷ more) is
 
     -- a placing item that conflicts with nothing conflicts with nothing that is laid out, and nor does the end of a line in its place
-    apart : (put : Put) → put_at sign.defaults (standing sign some) x ≡ Some put → conflicts (spots sign some) (record { at = standing sign some; put = put }) ≡ false
+    apart : (put : Put) → put_at sign.defaults (standing sign some) x ≡ Some put
+        → conflicts (spots sign some) (record { at = standing sign some; put = put }) ≡ false
         → (conflicts (spots sign (before some)) (record { at = standing sign (before some); put = put }) ≡ false)
         × (conflicts (spots sign (before some)) (record { at = standing sign (before some); put = Break None }) ≡ false)
     apart put puts none =
@@ -86,7 +87,8 @@ module _ (setting : LineFill) (sign : SignData) (all : List Meaning) where
         )
 
   -- an item that places nothing offends by its page alone
-  same_offence : (xs ys : List Meaning) → (standing sign xs).page ≡ (standing sign ys).page → (x : Meaning) → has_place x ≡ false → unsized_offence sign xs x ≡ unsized_offence sign ys x
+  same_offence : (xs ys : List Meaning) → (standing sign xs).page ≡ (standing sign ys).page → (x : Meaning) → has_place x ≡ false
+      → unsized_offence sign xs x ≡ unsized_offence sign ys x
   unfolding offence_by standing
   same_offence xs ys pages x e = grind arith
 
@@ -98,14 +100,17 @@ module _ (setting : LineFill) (sign : SignData) (all : List Meaning) where
         let s : Spot = record { at = standing sign some; put = Glyph cell } in
         let none = no_conflict (conflicts (spots sign some) s) false (sym (offence-character never_big sign some number cell found) ∙ fine) in
         let (stays, ends) = apart some more (Shows number) is (Glyph cell) puts none in
-        let as' = laid_as setting (spots sign all) (spots sign some) _ s (ap (spots sign) is ∙ spots_with sign some (Shows number) more (Glyph cell) puts) in
+        let as' = laid_as setting (spots sign all) (spots sign some) _ s (ap (spots sign) is
+        ∙ spots_with sign some (Shows number) more (Glyph cell) puts) in
         let found' = ap (λ (s : Standing). cell_numbered s.font number) (are some more (Shows number) is).0 ∙ found in
-        grind (arith, found, as', stays, ends, offence-character never_big sign (before some) number cell found', offence-break never_big sign (before some) None)
+        grind (arith, found, as', stays, ends, offence-character never_big sign (before some) number cell found',
+        offence-break never_big sign (before some) None)
   ]
   laid_fine some more (Does (NewLine gap)) is fine =
       let stays = apart some more (Does (NewLine gap)) is (Break gap) refl in
       grind (arith, offence-break never_big sign some gap, fine, stays, offence-break never_big sign (before some) gap)
-  laid_fine some more x is fine = ap (unsized_offence sign (before some)) (unplaced_item setting sign all some x refl) ∙ same_offence (before some) some (ap (λ (s : Standing). s.page) (are some more x is).0) x refl ∙ fine
+  laid_fine some more x is fine = ap (unsized_offence sign (before some)) (unplaced_item setting sign all some x refl)
+      ∙ same_offence (before some) some (ap (λ (s : Standing). s.page) (are some more x is).0) x refl ∙ fine
 
 -- A STRING
 
@@ -129,4 +134,5 @@ orderly_out sign items none =
     none_last sign f some x (none_front sign f (some ++ x ∷ []) more (subst (IsOrderly sign) (is ∙ sym (append_assoc some (x ∷ []) more)) (orderly_items sign items none))) in
     front_ind all (λ some. IsOrderly sign (laid_items sign.line_fill sign all some)) refl (λ some more x is ih.
     ap (some_after f) (each_after_push (laid_item sign.line_fill sign all) some x)
-    ∙ none_more f (laid_items sign.line_fill sign all some) (laid_item sign.line_fill sign all some x) ih (laid_fine sign.line_fill sign all some more x is (fine some more x is))) all [] (sym (append-nil all))
+    ∙ none_more f (laid_items sign.line_fill sign all some) (laid_item sign.line_fill sign all some x) ih
+    (laid_fine sign.line_fill sign all some more x is (fine some more x is))) all [] (sym (append-nil all))

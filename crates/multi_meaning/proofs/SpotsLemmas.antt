@@ -20,7 +20,8 @@ abbrev pub spots_behind : SignData → List Meaning → List Meaning → List Sp
 spots_behind sign before behind = some_after (λ more item. spot_at sign.defaults (standing sign (before ++ more)) item) behind
 
 -- all items are some and those behind them
-pub spots_split : (sign : SignData) (before behind : List Meaning) → spots sign (before ++ behind) ≡ spots sign before ++ spots_behind sign before behind
+pub spots_split : (sign : SignData) (before behind : List Meaning) → spots sign (before ++ behind)
+    ≡ spots sign before ++ spots_behind sign before behind
 unfolding spots
 spots_split sign before behind = some_after-append (λ before item. spot_at sign.defaults (standing sign before) item) before behind
 
@@ -71,7 +72,8 @@ spot_page here low reached defaults x = grind arith
 falls_not : (sign : SignData) (before more : List Meaning)
     → ((standing sign before).page ≤ (standing sign (before ++ more)).page) × ((standing sign before).area ≤ (standing sign (before ++ more)).area)
 unfolding standing
-falls_not sign before more = (omega (arith, sum_by-append (λ x. cond (is_new_page x) 1 0) before more), omega (arith, sum_by-append (λ x. cond (begins_area x) 1 0) before more))
+falls_not sign before more = (omega (arith, sum_by-append (λ x. cond (is_new_page x) 1 0) before more),
+    omega (arith, sum_by-append (λ x. cond (begins_area x) 1 0) before more))
 
 -- what the items behind some others put is of their page or a later one
 pub pages_behind : (sign : SignData) (before behind : List Meaning) → All (IsFrom (standing sign before).page) (spots_behind sign before behind)
@@ -88,7 +90,8 @@ module _ (sign : SignData) (before : List Meaning) where
       let k = (standing sign before).area in
       let next = before ++ x ∷ [] in
       let later = push_ind (λ rest. in_area k (spots sign (next ++ rest)) ≡ in_area k (spots sign next)) (ap (λ l. in_area k (spots sign l)) (append-nil next)) (λ rest y ih.
-      ap (λ l. in_area k (spots sign l)) (sym (append_assoc next rest (y ∷ []))) ∙ other_area sign (next ++ rest) y k (λ e. grind (arith, e, (falls_not sign next rest).1, standing_push, begins)) ∙ ih) in
+      ap (λ l. in_area k (spots sign l)) (sym (append_assoc next rest (y ∷ [])))
+      ∙ other_area sign (next ++ rest) y k (λ e. grind (arith, e, (falls_not sign next rest).1, standing_push, begins)) ∙ ih) in
       grind (arith, later rest, spots_push sign before x, in_area-append, append_assoc before (x ∷ []) rest, append-nil)
 
   -- where an area ends, the rest of the string puts nothing into it
@@ -103,4 +106,5 @@ module _ (sign : SignData) (before : List Meaning) where
       (more : List Spot) × (in_area at.area (spots sign (before ++ Shows number ∷ rest)) ≡ in_area at.area (spots sign before) ++ spot ∷ more)
   area_with_glyph number cell rest found =
       let at = standing sign before in
-      (in_area at.area (spots_behind sign (before ++ Shows number ∷ []) rest), grind (arith, spots_with sign before (Shows number) rest (Glyph cell), found, in_area-append, eq-eqb at.area at.area refl))
+      (in_area at.area (spots_behind sign (before ++ Shows number ∷ []) rest), grind (arith, spots_with sign before (Shows number) rest (Glyph cell),
+      found, in_area-append, eq-eqb at.area at.area refl))

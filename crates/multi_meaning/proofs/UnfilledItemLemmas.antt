@@ -19,7 +19,8 @@ unfilled_glyph all some more x glyph is = grind (arith, nat_tests, append_assoc,
 
 pub unfilled_item : (sign : SignData) (all before more : List Meaning) (x : Meaning) → all ≡ before ++ x ∷ more → laid_item Off sign all before x ≡ x
 unfilled_item sign all before more (Shows number) is =
-    let split = λ (cell : CellData) (found : cell_numbered (standing sign before).font number ≡ Some cell). ap (spots sign) is ∙ spots_with sign before (Shows number) more (Glyph cell) (ap (option_map Glyph) found) in
+    let split = λ (cell : CellData) (found : cell_numbered (standing sign before).font number ≡ Some cell). ap (spots sign) is
+    ∙ spots_with sign before (Shows number) more (Glyph cell) (ap (option_map Glyph) found) in
     let same = λ (cell : CellData) (found : cell_numbered (standing sign before).font number ≡ Some cell).
     unfilled_glyph (spots sign all) (spots sign before) _ (record { at = standing sign before; put = Glyph cell }) refl (split cell found) in
     grind (arith, cases_Option (cell_numbered (standing sign before).font number), same)
@@ -29,4 +30,5 @@ unfilled_item sign all before more _ is = refl
 -- where lines aren't filled, the items are laid out as they are
 pub laid_plain : (sign : SignData) (items : List Meaning) → laid_items Off sign items items ≡ items
 laid_plain sign items = front_ind items (λ some. laid_items Off sign items some ≡ some) refl
-    (λ some more x is ih. each_after_push (laid_item Off sign items) some x ∙ (λ i. ih i ++ unfilled_item sign items some more x is i ∷ [])) items [] (sym (append-nil items))
+    (λ some more x is ih. each_after_push (laid_item Off sign items) some x ∙ (λ i. ih i ++ unfilled_item sign items some more x is i ∷ [])) items []
+    (sym (append-nil items))
