@@ -18,16 +18,10 @@ module _ {X : Type 0} (p : X → Bool) where
   pub after_last_is : (xs : List X) → after_last p xs ≡ (cut p xs).open'
   after_last_is = cut_ind p (λ xs c. after_last p xs ≡ c.open') refl (λ xs c x e ih. after_last_push xs x ∙ rw e refl) (λ xs c x e ih. after_last_push xs x ∙ rw (e, ih) refl)
 
-  -- the closed parts have an item that passes, the open one has none
-  record Ends (c : Cut X) : Type 0 where
-    closed : filter (list_any p) c.closed ≡ c.closed
-    open' : list_any p c.open' ≡ false
-
-  ends : (xs : List X) → Ends (cut p xs)
-  ends = cut_ind p (λ xs c. Ends c) (record { closed = refl; open' = refl })
-      (λ xs c x e h. record { closed = grind (arith, filter-append, list_any-append, h.closed, h.open', e); open' = refl })
-      (λ xs c x e h. record { closed = h.closed; open' = grind (arith, list_any-append p c.open' (x ∷ []), h.open', e) })
-
   -- the parts that an item ends are the closed ones
   pub ended_is : (xs : List X) → filter (list_any p) (cut_behind p xs) ≡ (cut p xs).closed
-  ended_is xs = grind (arith, ends, cut_behind_is, filter-append, append-nil)
+  ended_is xs =
+      let (closed, none) = cut_ind p (λ xs c. (filter (list_any p) c.closed ≡ c.closed) × (list_any p c.open' ≡ false)) (refl, refl)
+      (λ xs c x e (closed, none). (grind (arith, filter-append, list_any-append, closed, none, e), refl))
+      (λ xs c x e (closed, none). (closed, grind (arith, list_any-append p c.open' (x ∷ []), none, e))) xs in
+      grind (arith, closed, none, cut_behind_is, filter-append, append-nil)

@@ -29,22 +29,15 @@ use Rattle.multi_meaning.proofs.LaidTagLemmas.{among, other_leaves}
 use Rattle.multi_meaning.proofs.SpotsLemmas.{spots_behind, spots_more, spots_nothing, spots_split, spots_with}
 use Rattle.multi_meaning.proofs.WordLemmas.{All-split, cases_Option, each_after_push, front_ind}
 
-pub space_glyph : (at : Standing) (put : Put) → is_space (record { at = at; put = put }) ≡ true → is_glyph (record { at = at; put = put }) ≡ true
-space_glyph at v1 e = grind arith
-
 -- an item that puts a space shows 32
 pub space_shown : (defaults : Defaults) (here : Standing) (x : Meaning) (put : Put) → put_at defaults here x ≡ Some put → is_space (record { at = here; put = put }) ≡ true → x ≡ Shows 32
-space_shown defaults here x v3 e space = grind (arith, found_cell)
+space_shown defaults here x put e space = grind (arith, found_cell)
 
 -- a list with another item in one place, and more behind it, is the same in every other place
 get_other : (xs ys zs : List Spot) (a b d : Spot) (n : ℕ) → (n ≡ length xs → ⊥) → n < length (xs ++ a ∷ ys) → slice_index_or (xs ++ b ∷ (ys ++ zs)) n d ≡ slice_index_or (xs ++ a ∷ ys) n d
 get_other xs ys zs a b d n other within =
     ap (λ l. slice_index_or l n d) (sym (set_at xs a (ys ++ zs) b (length xs) refl)) ∙ get_or-set_other (xs ++ a ∷ (ys ++ zs)) (length xs) n b d other
     ∙ ap (λ l. slice_index_or l n d) (sym (append_assoc xs (a ∷ ys) zs)) ∙ get_or_append_left (xs ++ a ∷ ys) zs d n within
-
--- characters end no line
-no_breaks : (line : List Spot) → AllPass is_glyph line → count_by is_break line ≡ 0
-no_breaks line glyphs = sym (length-filter is_break line) ∙ ap length (glyph_none line glyphs)
 
 -- one more item breaks a line: all items are laid out as they were, but one space on the line of the new one
 abbrev pub BreaksLine : LineFill → SignData → List Meaning → Meaning → Type 0
@@ -95,13 +88,10 @@ module _ (sign : SignData) (items : List Meaning) (number : ℕ) (cell : CellDat
 
   module _ (closed : List Spot) (space : Spot) (open' : List Spot) (old : filled (Some width) (own all) ≡ closed ++ space ∷ open')
       (new : filled (Some width) (own (all ++ s ∷ [])) ≡ closed ++ dropped space ∷ (open' ++ s ∷ [])) (is_sp : is_space space ≡ true) (glyphs : AllPass is_glyph (space ∷ open')) where
-    -- a spot of its group is laid as the filled group has it
-    laid_old : (some behind : List Spot) (x : Spot) → all ≡ some ++ x ∷ behind → is_own x ≡ true → laid_spot Words all some x ≡ slice_index_or (closed ++ space ∷ open') (length (own some)) x
-    laid_old some behind x is m = there Words all s.at.area (page_number s.at.page_just) (Some width) same some behind x is m ∙ ap (λ l. slice_index_or l (length (own some)) x) old
-
     laid_new : (some behind : List Spot) (x : Spot) → all ++ s ∷ [] ≡ some ++ x ∷ behind → is_own x ≡ true
         → laid_spot Words (all ++ s ∷ []) some x ≡ slice_index_or (closed ++ dropped space ∷ (open' ++ s ∷ [])) (length (own some)) x
-    laid_new some behind x is m = there Words (all ++ s ∷ []) s.at.area (page_number s.at.page_just) (Some width) same_more some behind x is m ∙ ap (λ l. slice_index_or l (length (own some)) x) new
+    laid_new some behind x is m = there Words (all ++ s ∷ []) s.at.area (page_number s.at.page_just) (Some width) same_more some behind x is m
+        ∙ ap (λ l. slice_index_or l (length (own some)) x) new
 
     size : length (own all) ≡ length (closed ++ space ∷ open')
     size = whole_length Words all s.at.area (page_number s.at.page_just) (Some width) same ∙ ap length old
@@ -123,7 +113,8 @@ module _ (sign : SignData) (items : List Meaning) (number : ℕ) (cell : CellDat
 
     one_item : (some behind : List Meaning) (x : Meaning) → items ≡ some ++ x ∷ behind → Stays some x ⊎ Breaks some x
     one_item some behind x is = elim (cases_Option (put_at sign.defaults (standing sign some) x)) [
-      | inl none ↦ let n = ap (λ l. length (own l)) (spots_nothing sign some x none) in inl (record { same' = rw none refl; least = omega (arith, n); most = λ h. omega (arith, h, n) })
+      | inl none ↦ let n = ap (λ l. length (own l)) (spots_nothing sign some x none) in
+          inl (record { same' = rw none refl; least = omega (arith, n); most = λ h. omega (arith, h, n) })
       | inr (put, puts) ↦
           let t : Spot = record { at = standing sign some; put = put } in
           let front = spots sign some in
@@ -131,19 +122,23 @@ module _ (sign : SignData) (items : List Meaning) (number : ℕ) (cell : CellDat
           let split : all ≡ front ++ t ∷ rest = ap (spots sign) is ∙ spots_with sign some x behind put puts in
           let longer = ap (λ l. l ++ s ∷ []) split ∙ append_assoc front (t ∷ rest) (s ∷ []) in
           let shown = λ (y z : Spot) (e : y ≡ z). ap (λ y. laid_of x (Some y)) e in
-          let count_is = λ (b : Bool) (e : is_own t ≡ b). ap (λ l. length (own l)) (spots_more sign some x put puts) ∙ ap length (members_push s.at.area (page_number s.at.page_just) front t b e) in
+          let count_is = λ (b : Bool) (e : is_own t ≡ b). ap (λ l. length (own l)) (spots_more sign some x put puts)
+          ∙ ap length (members_push s.at.area (page_number s.at.page_just) front t b e) in
           elim (cases_Bool (is_own t)) [
             | inr apart ↦
                 let n = count_is false apart ∙ ap length (append-nil (own front)) in
-                inl (record { same' = rw puts (shown _ _ (other_leaves Words all s front t apart)); least = omega (arith, n); most = λ h. omega (arith, h, n) })
+                inl (record { same' = rw puts (shown _ _ (other_leaves Words all s front t apart)); least = omega (arith, n);
+                    most = λ h. omega (arith, h, n) })
             | inl m ↦
                 let n = count_is true m ∙ length_push (own front) t in
                 let within = has_place all s.at.area (page_number s.at.page_just) front rest t split m in
-                let old_at = laid_old front rest t split m in
+                let old_at = there Words all s.at.area (page_number s.at.page_just) (Some width) same front rest t split m
+                ∙ ap (λ l. slice_index_or l (length (own front)) t) old in
                 let new_at = laid_new front (rest ++ s ∷ []) t longer m in
                 elim (cases_eq (length (own front)) (length closed)) [
                   | inr other ↦
-                      let stays = new_at ∙ get_other closed open' (s ∷ []) space (dropped space) t (length (own front)) other (omega (arith, within, size)) ∙ sym old_at in
+                      let stays = new_at ∙ get_other closed open' (s ∷ []) space (dropped space) t (length (own front)) other
+                      (omega (arith, within, size)) ∙ sym old_at in
                       inl (record { same' = rw puts (shown _ _ stays); least = omega (arith, n); most = λ h. omega (arith, h, n, other) })
                   | inl e ↦
                       let old_is = old_at ∙ get_or_at closed space open' t (length (own front)) (sym e) in
@@ -151,7 +146,8 @@ module _ (sign : SignData) (items : List Meaning) (number : ℕ) (cell : CellDat
                       let is_t : is_space t ≡ true = grind (arith, laid_as Words all front rest t split, old_is, is_sp) in
                       let (area, just) = member_at s.at.area (page_number s.at.page_just) t m in
                           let next : length closed < count (some ++ x ∷ []) = omega (arith, n, e) in
-                  let was = shown _ _ old_is ∙ rw (glyph_put space.at space.put (All-head (λ x. is_glyph x ≡ true) space open' glyphs)).0 (space_shown sign.defaults (standing sign some) x put puts is_t) in
+                  let was = shown _ _ old_is ∙ rw (glyph_put space.at space.put (All-head (λ x. is_glyph x ≡ true) space open' glyphs)).0
+                  (space_shown sign.defaults (standing sign some) x put puts is_t) in
                   inr (record { place = e; next = next; area = area; just = just; was = rw puts was; ends = rw puts (shown _ _ new_is) })
                 ]
           ]
@@ -187,25 +183,26 @@ module _ (sign : SignData) (items : List Meaning) (number : ℕ) (cell : CellDat
               behind = b.behind ++ before' some x ∷ [];
               is = ap (λ l. l ++ x ∷ []) b.is ∙ append_assoc b.front (b.item ∷ b.more) (x ∷ []);
               breaks = b.breaks;
-              was_all = before ∙ ap (λ l. l ++ before' some x ∷ []) b.was_all ∙ append_assoc (each_after before' b.front) (Shows 32 ∷ b.behind) (before' some x ∷ []);
-              are = after ∙ (λ i. b.are i ++ stays.same' i ∷ []) ∙ append_assoc (each_after before' b.front) (Does (NewLine None) ∷ b.behind) (before' some x ∷ []);
+              was_all = before ∙ ap (λ l. l ++ before' some x ∷ []) b.was_all
+                  ∙ append_assoc (each_after before' b.front) (Shows 32 ∷ b.behind) (before' some x ∷ []);
+              are = after ∙ (λ i. b.are i ++ stays.same' i ∷ []) ∙ append_assoc (each_after before' b.front) (Does (NewLine None) ∷ b.behind)
+                  (before' some x ∷ []);
             })
           ]
           | inr breaks ↦ elim so_far [
             | inl (early, alike) ↦
                 let was = before ∙ ap (λ y. each_after before' some ++ y ∷ []) breaks.was in
                 let are = after ∙ (λ i. alike i ++ breaks.ends i ∷ []) in
-                inr (record { late = breaks.next; front = some; item = x; more = []; behind = []; is = refl; breaks = breaks; was_all = was; are = are })
+                inr (record { late = breaks.next; front = some; item = x; more = []; behind = []; is = refl; breaks = breaks; was_all = was;
+                    are = are })
             | inr b ↦ absurd (omega (arith, b.late, breaks.place))
           ]
         ]
 
-    none_yet : SoFar []
-    unfolding spots
-    none_yet = inl (omega arith, refl)
-
     broken : Broken items
-    broken = elim (front_ind items SoFar none_yet (λ some more x is h. one_more some more x is h) items [] (sym (append-nil items))) [
+    unfolding spots
+    broken = elim (front_ind items SoFar (inl (omega arith, refl)) (λ some more x is h. one_more some more x is h) items []
+        (sym (append-nil items))) [
       | inl (early, alike) ↦ absurd (omega (arith, early, size, length-append closed (space ∷ open')))
       | inr b ↦ b
     ]
@@ -214,7 +211,8 @@ module _ (sign : SignData) (items : List Meaning) (number : ℕ) (cell : CellDat
     last_stands : after' items (Shows number) ≡ Shows number
     last_stands =
         let size' = length-append closed (space ∷ open') in
-        grind (arith, found, laid_new all [] s refl (own_member s refl), get_or_at (closed ++ dropped space ∷ open') s [] s (length (own all)), size, size', length-append closed (dropped space ∷ open'), append_assoc)
+        grind (arith, found, laid_new all [] s refl (own_member s refl), get_or_at (closed ++ dropped space ∷ open') s [] s (length (own all)), size,
+        size', length-append closed (dropped space ∷ open'), append_assoc)
 
     pub breaks_line : BreaksLine Words sign items (Shows number)
     breaks_line =
@@ -223,12 +221,15 @@ module _ (sign : SignData) (items : List Meaning) (number : ℕ) (cell : CellDat
         let old_items = laid_items Words sign items items in
         let here = are_laid Words sign items b.front (b.item ∷ b.more) b.is in
         let front_is : own (spots sign front) ≡ closed =
-        ap own here.1 ∙ group_laid Words all s.at.area (page_number s.at.page_just) (Some width) same (spots sign b.front) (spots_behind sign b.front (b.item ∷ b.more)) (ap (spots sign) b.is ∙ spots_split sign b.front (b.item ∷ b.more))
+        ap own here.1 ∙ group_laid Words all s.at.area (page_number s.at.page_just) (Some width) same (spots sign b.front)
+        (spots_behind sign b.front (b.item ∷ b.more)) (ap (spots sign) b.is ∙ spots_split sign b.front (b.item ∷ b.more))
         ∙ (λ i. take (b.breaks.place i) (old i)) ∙ take-append_seam closed (space ∷ open') in
         let whole_is : own (spots sign old_items) ≡ closed ++ space ∷ open' =
-        ap own (are_laid Words sign items items [] (sym (append-nil items))).1 ∙ group_whole Words all s.at.area (page_number s.at.page_just) (Some width) same ∙ old in
+        ap own (are_laid Words sign items items [] (sym (append-nil items))).1
+        ∙ group_whole Words all s.at.area (page_number s.at.page_just) (Some width) same ∙ old in
         let new_all : laid_items Words sign (items ++ Shows number ∷ []) (items ++ Shows number ∷ []) ≡ each_after after' items ++ Shows number ∷ [] =
-        ap (λ l. each_after (among Words sign l) (items ++ Shows number ∷ [])) (spots_more sign items (Shows number) (Glyph cell) (ap (option_map Glyph) found))
+        ap (λ l. each_after (among Words sign l) (items ++ Shows number ∷ []))
+        (spots_more sign items (Shows number) (Glyph cell) (ap (option_map Glyph) found))
         ∙ each_after_push after' items (Shows number) ∙ ap (λ y. each_after after' items ++ y ∷ []) last_stands in (
           front,
           b.behind ++ Shows number ∷ [],
@@ -236,5 +237,6 @@ module _ (sign : SignData) (items : List Meaning) (number : ℕ) (cell : CellDat
           new_all ∙ ap (λ l. l ++ Shows number ∷ []) b.are ∙ append_assoc front (Does (NewLine None) ∷ b.behind) (Shows number ∷ []),
           ap (λ (h : Standing). h.area) here.0 ∙ b.breaks.area,
           ap (λ (h : Standing). h.page_just) here.0 ∙ same_page_just (standing sign b.front).page_just s.at.page_just b.breaks.just,
-          ap (count_by is_break) front_is ∙ omega (arith, sum_by-append (λ x. cond (is_break x) 1 0) closed (space ∷ open'), no_breaks (space ∷ open') glyphs) ∙ ap (count_by is_break) (sym whole_is),
+          ap (count_by is_break) front_is ∙ omega (arith, sum_by-append (λ x. cond (is_break x) 1 0) closed (space ∷ open'),
+          length-filter is_break (space ∷ open'), ap length (glyph_none (space ∷ open') glyphs)) ∙ ap (count_by is_break) (sym whole_is),
         )

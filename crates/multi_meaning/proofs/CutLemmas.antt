@@ -72,17 +72,20 @@ module _ {X : Type 0} (p : X → Bool) where
   cut_behind_is xs = sym (cut_parts xs (record { closed = []; open' = [] }))
 
   -- the part of an item: it, and some items, none where it ends the part
-  first_of : (b : Bool) (x : X) (parts : List (List X)) → (rest : List X) × (others : List (List X)) × (cond b ((x ∷ []) ∷ parts) (onto_first x parts) ≡ (x ∷ rest) ∷ others) × (b ≡ true → rest ≡ [])
+  first_of : (b : Bool) (x : X) (parts : List (List X)) → (rest : List X) × (others : List (List X))
+      × (cond b ((x ∷ []) ∷ parts) (onto_first x parts) ≡ (x ∷ rest) ∷ others) × (b ≡ true → rest ≡ [])
   first_of true x parts = ([], parts, refl, λ e. refl)
   first_of false x [] = ([], [], refl, λ e. refl)
   first_of false x (part ∷ parts) = (part, parts, refl, λ e. absurd (false≢true e))
 
   -- a list, an item, and more: the open part has the item, and the closed ones stay
   pub cut_with_item : (xs : List X) (x : X) (ys : List X)
-      → (rest : List X) × (others : List (List X)) × (cut_behind p (xs ++ x ∷ ys) ≡ (cut xs).closed ++ ((cut xs).open' ++ x ∷ rest) ∷ others) × (p x ≡ true → rest ≡ [])
+      → (rest : List X) × (others : List (List X)) × (cut_behind p (xs ++ x ∷ ys) ≡ (cut xs).closed ++ ((cut xs).open' ++ x ∷ rest) ∷ others)
+      × (p x ≡ true → rest ≡ [])
   cut_with_item xs x ys =
       let (rest, others, is, ends) = first_of (p x) x (cut_behind p ys) in
-      (rest, others, cut_append xs (x ∷ ys) ∙ ap (λ l. (cut xs).closed ++ onto (cut xs).open' l) is ∙ ap (λ l. (cut xs).closed ++ l) (onto-cons (cut xs).open' (x ∷ rest) others), ends)
+      (rest, others, cut_append xs (x ∷ ys) ∙ ap (λ l. (cut xs).closed ++ onto (cut xs).open' l) is
+      ∙ ap (λ l. (cut xs).closed ++ l) (onto-cons (cut xs).open' (x ∷ rest) others), ends)
 
   pub cut_push : (xs : List X) (x : X) → cut (xs ++ x ∷ []) ≡ cut_more (cut xs) x
   cut_push xs x = fold_push cut_more (record { closed = []; open' = [] }) xs x

@@ -1,5 +1,5 @@
 -- A pixel of a page at one more item, where a page begins and where it ends.
-use Rattle.std.proofs.Common.{◌≡◌, ℕ, ◌+◌, ◌-◌, ◌<◌, Bool, false, cond, ◌&&◌, ◌==◌, List, [], ◌∷◌, ◌++◌, Option, Some, None, refl, ap, ◌∙◌, arith, append-nil, subst, ◌⊎◌, inl, inr, nat_le, nat_lt, IfSome, option_map, unwrap_or}
+use Rattle.std.proofs.Common.{◌≡◌, ℕ, ◌+◌, ◌-◌, Bool, false, cond, ◌&&◌, ◌==◌, List, [], ◌∷◌, ◌++◌, Option, Some, None, refl, ap, ◌∙◌, arith, append-nil, subst, ◌⊎◌, inl, inr, nat_le, nat_lt, option_map, unwrap_or, sym}
 use Rattle.std.specs.List.{filter_map, cons_option, All}
 use Rattle.std.proofs.lemmas.Bool.{cases_Bool, eq-eqb}
 use Rattle.std.proofs.lemmas.List.Elements.{All-cons, All-head, All-tail, filter_map-append}
@@ -8,14 +8,12 @@ use Rattle.sign_font.specs.declared.parts.Defaults.{Defaults}
 use Rattle.sign_font.specs.Cell as cells
 use Rattle.sign_font.specs.Sign.{SignData, CellData, cell_numbered, sized}
 use Rattle.multi_meaning.specs.Address.{standing, Put, Glyph, Break, Cover, Spot, put_at, spots}
-use Rattle.multi_meaning.specs.declared.place.Place.{Place}
 use Rattle.multi_meaning.specs.Place.{place_of}
 use Rattle.multi_meaning.specs.Picture.{Thing, thing_at, things_among, things, colour_of, shown_colour, is_lit_at, in_plane}
 use Rattle.multi_meaning.specs.Drawn.{has_colour}
 use Rattle.multi_meaning.specs.Meaning.{Meaning, Shows, Does, BeginsPage, EndsPage}
-use Rattle.multi_meaning.specs.Words.{some_after}
 use Rattle.multi_meaning.proofs.WordLemmas.{last_or-append, some_after_push, some_after-append, cases_Option}
-use Rattle.multi_meaning.proofs.SpotsLemmas.{spots_behind, spots_nothing, spots_more, spots_with, next_page_behind, some_all, page_put, IsFrom, pages_behind}
+use Rattle.multi_meaning.proofs.SpotsLemmas.{spots_behind, spots_nothing, spots_more, spots_with, next_page_behind, some_all, IsFrom, pages_behind}
 use Rattle.std.specs.Option.{option_map_or}
 use Rattle.multi_meaning.proofs.StandingLemmas.{standing_push}
 
@@ -27,11 +25,13 @@ colour_push : (defaults : Defaults) (things : List Thing) (t : Thing) (page colu
 colour_push defaults things t page column row = grind (arith, filter_map-append, last_or-append)
 
 -- a pixel after one more item that puts something: the colour of the thing, if it is one that covers the pixel, else as before
-covered_put : (sign : SignData) (page phase colour : ℕ) (all : List Spot) (column row : ℕ) (before : List Meaning) (x : Meaning) (put : Put) → put_at sign.defaults (standing sign before) x ≡ Some put →
+covered_put : (sign : SignData) (page phase colour : ℕ) (all : List Spot) (column row : ℕ) (before : List Meaning) (x : Meaning) (put : Put)
+    → put_at sign.defaults (standing sign before) x ≡ Some put →
     let old = has_colour sign page phase colour all (spots sign before) column row in
     let s : Spot = record { at = standing sign before; put = put } in
     has_colour sign page phase colour all (spots sign (before ++ x ∷ [])) column row
-    ≡ option_map_or (λ (t : Thing). cond (covers_at t page column row) (shown_colour sign t.colour == colour) old) (thing_at phase (place_of (spots sign before) all s) s put) old
+    ≡ option_map_or (λ (t : Thing). cond (covers_at t page column row) (shown_colour sign t.colour == colour) old)
+    (thing_at phase (place_of (spots sign before) all s) s put) old
 unfolding has_colour things_among
 covered_put sign page phase colour all column row before x put puts =
     let s : Spot = record { at = standing sign before; put = put } in
@@ -50,19 +50,18 @@ module _ (sign : SignData) (phase colour : ℕ) (all : List Spot) (column row : 
   abbrev HasBackground : List Meaning → Type 0
   HasBackground items = has_colour sign (standing sign items).page phase colour all (spots sign items) column row ≡ (shown_colour sign (standing sign items).back == colour)
 
-  begins_first : HasBackground []
-  unfolding has_colour things_among spots standing
-  begins_first = refl
-
   begins_next : (earlier : List Meaning) → HasBackground (earlier ++ Does NewPage ∷ [])
   begins_next earlier =
       let at = standing sign earlier in
-      grind (arith, standing_push sign earlier (Does NewPage), covered_put sign (at.page + 1) phase colour all column row earlier (Does NewPage) (Cover (at.page + 1) at.back) refl, eq-eqb)
+      grind (arith, standing_push sign earlier (Does NewPage), covered_put sign (at.page + 1) phase colour all column row earlier (Does NewPage)
+      (Cover (at.page + 1) at.back) refl, eq-eqb)
 
   -- where a page begins, every pixel has it
   pub covered_begins : (before : List Meaning) → BeginsPage before
       → has_colour sign (standing sign before).page phase colour all (spots sign before) column row ≡ (shown_colour sign (standing sign before).back == colour)
-  covered_begins before v1 = grind (arith, begins_first, begins_next)
+  unfolding has_colour things_among spots standing
+  covered_begins before (inl first) = subst HasBackground (sym first) refl
+  covered_begins before (inr (earlier, next)) = subst HasBackground (sym next) (begins_next earlier)
 
   -- a pixel after one more character: its colour if the character covers the pixel, else as before
   pub covered_glyph : (before : List Meaning) (number : ℕ) (cell : CellData) → cell_numbered (standing sign before).font number ≡ Some cell →
@@ -75,14 +74,16 @@ module _ (sign : SignData) (phase colour : ℕ) (all : List Spot) (column row : 
       (has_colour sign at.page phase colour all (spots sign before) column row)
   covered_glyph before number cell found =
       let at = standing sign before in
-      grind (arith, covered_put sign at.page phase colour all column row before (Shows number) (Glyph cell) (ap (option_map Glyph) found), eq-eqb at.page at.page refl)
+      grind (arith, covered_put sign at.page phase colour all column row before (Shows number) (Glyph cell) (ap (option_map Glyph) found),
+      eq-eqb at.page at.page refl)
 
   -- after a background every pixel of its page has it
   pub covered_cover : (before : List Meaning) (given : Option ℕ)
       → has_colour sign (standing sign before).page phase colour all (spots sign (before ++ Does (Back given) ∷ [])) column row ≡ (shown_colour sign (unwrap_or given sign.defaults.back) == colour)
   covered_cover before given =
       let at = standing sign before in
-      grind (arith, covered_put sign at.page phase colour all column row before (Does (Back given)) (Cover at.page (unwrap_or given sign.defaults.back)) refl, eq-eqb at.page at.page refl)
+      grind (arith, covered_put sign at.page phase colour all column row before (Does (Back given))
+      (Cover at.page (unwrap_or given sign.defaults.back)) refl, eq-eqb at.page at.page refl)
 
   -- an item that puts nothing, or ends a line, leaves every pixel of every page
   pub covered_same : (before : List Meaning) (x : Meaning) (page : ℕ)
@@ -104,10 +105,6 @@ IsBeside page t = (t.page == page) ≡ false
 colour_beside : (defaults : Defaults) (some more : List Thing) (page column row : ℕ) → All (IsBeside page) more → colour_of defaults (some ++ more) page column row ≡ colour_of defaults some page column row
 colour_beside defaults some more page column row beside = grind (arith, filter_map-append, maps_none, append-nil)
 
--- what a spot of a later page puts is beside this page
-thing_beside : (page phase : ℕ) (place : Place) (spot : Spot) (put : Put) → page < page_put spot.at put → IfSome (thing_at phase place spot put) (IsBeside page)
-thing_beside page phase place spot v4 h = grind arith
-
 module _ (sign : SignData) (page phase colour : ℕ) (all : List Spot) (column row : ℕ) where
   -- spots of later pages leave every pixel of a page
   covered_later : (some more : List Spot) → All (IsFrom (page + 1)) more
@@ -115,8 +112,8 @@ module _ (sign : SignData) (page phase colour : ℕ) (all : List Spot) (column r
   unfolding has_colour things_among
   covered_later some more later =
       let f = λ (next : List Spot) (spot : Spot). thing_at phase (place_of (some ++ next) all spot) spot spot.put in
-      let beside = some_all (IsFrom (page + 1)) (IsBeside page) f more later (λ next s h. thing_beside page phase (place_of (some ++ next) all s) s s.put (omega arith)) in
-      grind (arith, some_after-append (λ before spot. thing_at phase (place_of before all spot) spot spot.put) some more, colour_beside sign.defaults (things_among phase all some) (some_after f more) page column row beside)
+      let beside = some_all (IsFrom (page + 1)) (IsBeside page) f more later (λ next s h. grind (arith, h)) in
+      grind (arith, some_after-append, colour_beside)
 
 -- a pixel of a string is that of all its spots
 plane_is : (sign : SignData) (items : List Meaning) (page phase colour column row : ℕ)

@@ -1,6 +1,6 @@
 -- One more item keeps every break of filling, and adds at most one, on its line.
 use native.Mathlib.Omega.{arith}
-use Rattle.std.proofs.Common.{◌≡◌, ◌⊎◌, inl, inr, ℕ, true, false, map, List, [], ◌∷◌, ◌++◌, Option, Some, None, refl, sym, ap, subst, ◌∙◌, append_assoc, append-nil, option_map}
+use Rattle.std.proofs.Common.{◌≡◌, ◌⊎◌, inl, inr, ℕ, true, false, map, List, [], ◌∷◌, ◌++◌, Option, Some, None, refl, sym, ap, subst, ◌∙◌, append_assoc, append-nil, option_map, arith}
 use Rattle.std.specs.List.{All, AllPass}
 use Rattle.std.proofs.lemmas.Bool.{cases_Bool, eqb-true}
 use Rattle.std.proofs.lemmas.List.Elements.{All-cons}
@@ -24,7 +24,7 @@ use Rattle.multi_meaning.proofs.GroupLaidLemmas.{members_placing, members_push, 
 use Rattle.multi_meaning.proofs.LaidItemLemmas.{are_laid}
 use Rattle.multi_meaning.proofs.LaidLemmas.{ended, filled_is, open_line, open_line_glyphs, open_line_is}
 use Rattle.multi_meaning.proofs.LaidTagLemmas.{laid_nothing, laid_placing, laid_tag}
-use Rattle.multi_meaning.proofs.BreaksLineLemmas.{BreaksLine, breaks_line, space_glyph}
+use Rattle.multi_meaning.proofs.BreaksLineLemmas.{BreaksLine, breaks_line}
 use Rattle.multi_meaning.proofs.NarrowLemmas.{OpenLinesFit, open_lines_fit}
 use Rattle.multi_meaning.proofs.FoundLemmas.{spaces_is}
 use Rattle.multi_meaning.proofs.WordLemmas.{cases_Option}
@@ -57,7 +57,8 @@ module _ (sign : SignData) (items : List Meaning) (number : ℕ) (cell : CellDat
   dropped_itself space new =
       let here = (are_laid Words sign items items [] (sym (append-nil items))).0 in
       let is : number ≡ 32 = eqb-true number 32 (sym (spaces_is sign items number cell found) ∙ space) in
-      inr (laid_items Words sign items items, [], ap (λ n. laid_items Words sign items items ++ Shows n ∷ []) is, new, ap (λ (h : Standing). h.area) here, ap (λ (h : Standing). h.page_just) here, refl)
+      inr (laid_items Words sign items items, [], ap (λ n. laid_items Words sign items items ++ Shows n ∷ []) is, new,
+      ap (λ (h : Standing). h.area) here, ap (λ (h : Standing). h.page_just) here, refl)
 
   -- the line is broken at its last space
   broken : line_fits w (open_line w g) ≡ true → (k : CutAt Spot) → line_fits w (open_line w g ++ c ∷ []) ≡ false → is_space c ≡ false → cut_at_last is_space (open_line w g) ≡ Some k → Kept Words sign items (Shows number)
@@ -68,7 +69,7 @@ module _ (sign : SignData) (items : List Meaning) (number : ℕ) (cell : CellDat
       let own = members_push c.at.area (page_number c.at.page_just) (spots sign items) c true (own_member c refl) in
       let new = ap (filled (Some w)) own ∙ breaks w g c placing refl fits k wide word cut ∙ append_assoc closed (dropped k.item ∷ []) (k.behind ++ c ∷ []) in
       let around = glyphs_around k.before k.item k.behind (subst (AllPass is_glyph) at.parts (open_line_glyphs w g placing)) in
-      let glyphs = All-cons (λ x. is_glyph x ≡ true) k.item k.behind (space_glyph k.item.at k.item.put at.passes) around.1 in
+      let glyphs = All-cons (λ x. is_glyph x ≡ true) k.item k.behind (grind (arith, at.passes)) around.1 in
       inr (breaks_line sign items number cell found closed k.item k.behind old new at.passes glyphs)
 
   filled_shown : line_fits w (open_line w g) ≡ true → Kept Words sign items (Shows number)
@@ -89,11 +90,12 @@ shown_by setting sign items number fits None found = inl (laid_nothing setting s
 shown_by Off sign items number fits (Some cell) found = inl (grown sign items number cell found Off (record { at = standing sign items; put = Glyph cell }) refl)
 shown_by Words sign items number fits (Some cell) found =
     let c : Spot = record { at = standing sign items; put = Glyph cell } in
-    let is = open_line_is c.at.rectangle.width (group_of c (spots sign items)) (members_placing c.at.area (page_number c.at.page_just) (spots sign items)) in
+    let is = open_line_is c.at.rectangle.width (group_of c (spots sign items)) (members_placing c.at.area (page_number c.at.page_just)
+    (spots sign items)) in
     filled_shown sign items number cell found (ap (line_fits c.at.rectangle.width) (sym is) ∙ fits refl (page_number c.at.page_just))
 
 kept : (setting : LineFill) (sign : SignData) (items : List Meaning) (x : Meaning) → (setting ≡ Words → OpenLinesFit sign items) → Kept setting sign items x
-kept setting sign items v3 fits = grind (arith, shown_by, laid_tag, laid_nothing)
+kept setting sign items x fits = grind (arith, shown_by, laid_tag, laid_nothing)
 
 pub keeps_breaks : KeepsBreaks
 keeps_breaks sign before item none = kept sign.line_fill sign (map meaning before) (meaning item) (λ words. open_lines_fit sign words before none)

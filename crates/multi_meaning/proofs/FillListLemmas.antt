@@ -1,7 +1,7 @@
 -- The words on lists, at one more item.
-use Rattle.std.proofs.Common.{◌≡◌, ℕ, ◌+◌, ◌≤◌, Bool, inl, inr, zero, suc, true, false, cond, List, [], ◌∷◌, ◌++◌, length, take, Option, Some, None, refl, ap, ◌∙◌, arith, length-append}
-use Rattle.std.specs.Option.{option_map, option_map_or}
-use Rattle.std.proofs.lemmas.Bool.{both_ways, cases_Bool}
+use Rattle.std.proofs.Common.{◌≡◌, ℕ, ◌+◌, ◌≤◌, Bool, zero, suc, true, false, cond, List, [], ◌∷◌, ◌++◌, length, take, Option, Some, None, refl, ap, ◌∙◌, arith, length-append}
+use Rattle.std.specs.Option.{option_map}
+use Rattle.std.proofs.lemmas.Bool.{both_ways}
 use Rattle.std.proofs.lemmas.List.Elements.{filter-append}
 use Rattle.multi_meaning.proofs.WordLemmas.{each_after_push, last_or-append, push_ind}
 use Rattle.multi_meaning.specs.Filling.{CutAt, longest_prefix, cut_at_last, longer}
@@ -18,7 +18,7 @@ longest_all p = push_ind (λ xs. p xs ≡ true → longest_prefix p xs ≡ xs) (
 
 -- it is no longer than the list
 longest_most : {X : Type 0} (p : List X → Bool) (xs : List X) → length (longest_prefix p xs) ≤ length xs
-longest_most p = push_ind (λ xs. length (longest_prefix p xs) ≤ length xs) (grind arith) (λ xs x ih. grind (arith, longest_push p xs x, length-append xs (x ∷ []), ih))
+longest_most p = push_ind (λ xs. length (longest_prefix p xs) ≤ length xs) (grind arith) (λ xs x ih. grind (arith, longest_push, length-append, ih))
 
 -- it is shorter than a list that doesn't pass
 pub longest_short : {X : Type 0} (p : List X → Bool) (xs : List X) → p [] ≡ true → p xs ≡ false → length (longest_prefix p xs) + 1 ≤ length xs
@@ -31,19 +31,9 @@ abbrev pub cut_more : {X : Type 0} → Bool → List X → X → Option (CutAt X
 cut_more b xs x o = cond b (Some (record { before = xs; item = x; behind = [] })) (option_map (longer (x ∷ [])) o)
 
 module _ {X : Type 0} (p : X → Bool) where
-  abbrev onto : X → CutAt X → Option (CutAt X)
-  onto x c = Some (record c { before = x ∷ c.before })
-
-  abbrev alone : Bool → X → List X → Option (CutAt X)
-  alone b x xs = cond b (Some (record { before = []; item = x; behind = xs })) None
-
-  cut_step : (b d : Bool) (y : X) (xs : List X) (x : X) (o : Option (CutAt X))
-      → option_map_or (onto y) (cut_more b xs x o) (alone d y (xs ++ x ∷ [])) ≡ cut_more b (y ∷ xs) x (option_map_or (onto y) o (alone d y xs))
-  cut_step v0 d y xs x o = grind arith
-
   pub cut_push : (xs : List X) (x : X) → cut_at_last p (xs ++ x ∷ []) ≡ cut_more (p x) xs x (cut_at_last p xs)
-  cut_push [] x = elim (cases_Bool (p x)) [ inl e ↦ rw e refl | inr e ↦ rw e refl ]
-  cut_push (y ∷ xs) x = ap (λ o. option_map_or (onto y) o (alone (p y) y (xs ++ x ∷ []))) (cut_push xs x) ∙ cut_step (p x) (p y) y xs x (cut_at_last p xs)
+  cut_push [] x = grind arith
+  cut_push (y ∷ xs) x = grind (arith, cut_push xs x)
 
   -- a cut gives the list's parts, and none that passes stands behind
   pub record IsCut (xs : List X) (c : CutAt X) : Type 0 where
@@ -55,11 +45,7 @@ module _ {X : Type 0} (p : X → Bool) where
   is_cut [] c e = absurd cc
   is_cut (x ∷ xs) c e = grind (arith, is_cut xs)
 
-  -- a list without an item that passes has no cut, nor have its first items
-  none_parts : (x : X) (xs : List X) → cut_at_last p (x ∷ xs) ≡ None → (p x ≡ false) × (cut_at_last p xs ≡ None)
-  none_parts x xs h = grind (arith, h)
-
   pub none_take : (xs : List X) (n : ℕ) → cut_at_last p xs ≡ None → cut_at_last p (take n xs) ≡ None
   none_take xs zero h = refl
   none_take [] (suc n) h = refl
-  none_take (x ∷ xs) (suc n) h = let parts = none_parts x xs h in rw (none_take xs n parts.1, parts.0) refl
+  none_take (x ∷ xs) (suc n) h = grind (arith, h, none_take xs n)

@@ -24,7 +24,7 @@ module _ (setting : LineFill) (width : ℕ) (a : ℕ) where
 
   -- the largest page justification stays, since what is laid stands where it did
   pub same_at : (x y : Spot) → LaidAs x y → (in_areas a y ≡ in_areas a x) × (page_number y.at.page_just ≡ page_number x.at.page_just)
-  same_at x y v2 = grind arith
+  same_at x y as' = grind arith
 
   pub one_more : (xs : List Spot) (x : Spot) → in_area a (xs ++ x ∷ []) ≡ in_area a xs ++ cond (in_areas a x) (x ∷ []) []
   one_more xs x = filter-append (in_areas a) xs (x ∷ [])
@@ -34,7 +34,8 @@ module _ (setting : LineFill) (width : ℕ) (a : ℕ) where
       let f = largest (λ (t : Spot). page_number t.at.page_just) in
       front_ind all (λ some. f (in_area a (laid setting all some)) ≡ f (in_area a some)) refl (λ some more x is ih.
       let (member, just) = same_at x (laid_spot setting all some x) (laid_as setting all some more x is) in
-      ap (λ l. f (in_area a l)) (each_after_push (laid_spot setting all) some x) ∙ grind (arith, one_more, largest_push, append-nil, member, just, ih))
+      ap (λ l. f (in_area a l)) (each_after_push (laid_spot setting all) some x)
+      ∙ grind (arith, one_more, largest_push, append-nil, member, just, ih))
 
 -- one more character: its group grows, and the others stay
 module _ (setting : LineFill) (width : ℕ) (all : List Spot) (s : Spot) (glyph : is_glyph s ≡ true) (same : HasWidth setting width s.at.area (all ++ s ∷ []))

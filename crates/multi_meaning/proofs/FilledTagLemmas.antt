@@ -1,16 +1,16 @@
 -- A tag offends behind some items, where lines are filled, just where it does behind the items as they are laid out.
 use native.Mathlib.Omega.{arith}
-use Rattle.std.proofs.Common.{◌≡◌, ℕ, List, [], ◌∷◌, ◌++◌, Option, Some, refl, sym, ap, append-nil, eq-eqb}
-use Rattle.std.specs.List.{count_by, list_any}
+use Rattle.std.proofs.Common.{◌≡◌, ℕ, List, [], ◌∷◌, ◌++◌, Option, Some, refl, sym, append-nil, eq-eqb}
+use Rattle.std.specs.List.{list_any}
 use Rattle.std.proofs.lemmas.List.Elements.{All-push}
 use Rattle.multi_tag.specs.declared.tag.Tag.{Tag}
 use Rattle.multi_tag.specs.declared.tag.Tag.TheVariants.{NewLine}
 use Rattle.sign_font.specs.declared.parts.LineFill.TheVariants.{Off, Words}
 use Rattle.sign_font.specs.Sign.{SignData}
-use Rattle.multi_meaning.specs.Address.{Break, Put, Spot, Standing, area_of, spots, standing}
+use Rattle.multi_meaning.specs.Address.{Break, Put, Spot, area_of, spots, standing}
 use Rattle.multi_meaning.specs.Laid.{fill_at, laid, too_big}
 use Rattle.multi_meaning.specs.LaidItems.{laid_items}
-use Rattle.multi_meaning.specs.Meaning.{Meaning, Does, is_new_page}
+use Rattle.multi_meaning.specs.Meaning.{Meaning, Does}
 use Rattle.multi_meaning.specs.Offence.{goes_back, offence, offence_by}
 use Rattle.multi_meaning.proofs.CheckLemmas.{group_goes_back}
 use Rattle.multi_meaning.proofs.FilledOnLemmas.{HasWidth, largest_laid, one_more}
@@ -47,20 +47,18 @@ module _ (sign : SignData) (items : List Meaning) where
     laid_with : laid Words (all ++ nl ∷ []) (all ++ nl ∷ []) ≡ laid Words all all ++ nl ∷ []
     laid_with =
         let more = items ++ Does (NewLine gap) ∷ [] in
-        grind (arith, spots_more sign items (Does (NewLine gap)) (Break gap) refl, are_laid Words sign more more [] (sym (append-nil more)), laid_tag Words sign items (NewLine gap), spots_more sign laid_before (Does (NewLine gap)) (Break gap) refl, here)
+        grind (arith, spots_more sign items (Does (NewLine gap)) (Break gap) refl, are_laid Words sign more more [] (sym (append-nil more)),
+        laid_tag Words sign items (NewLine gap), spots_more sign laid_before (Does (NewLine gap)) (Break gap) refl, here)
 
     too_big_laid_break : too_big Words all nl ≡ too_big Off (laid Words all all) nl
     too_big_laid_break =
         let placed = eq-eqb nl.at.area nl.at.area refl in
-        grind (arith, too_big_laid Words nl.at.rectangle.width all nl placed (same_width (Break gap)), laid_with, one_more Words nl.at.rectangle.width nl.at.area (laid Words all all) nl, placed)
-
-  same_pages : count_by is_new_page items ≡ count_by is_new_page laid_before
-  unfolding standing
-  same_pages = sym (ap (λ (s : Standing). s.page) here.0)
+        grind (arith, too_big_laid Words nl.at.rectangle.width all nl placed (same_width (Break gap)), laid_with,
+        one_more Words nl.at.rectangle.width nl.at.area (laid Words all all) nl, placed)
 
   abbrev OffendsAsLaid : Tag → Type 0
   OffendsAsLaid tag = offence Words sign items (Does tag) ≡ offence Off sign laid_before (Does tag)
 
   pub offends_as_laid : (tag : Tag) → OffendsAsLaid tag
-  unfolding offence_by
-  offends_as_laid tag = grind (arith, goes_back_laid, too_big_laid_break, here, same_pages)
+  unfolding offence_by standing
+  offends_as_laid tag = grind (arith, goes_back_laid, too_big_laid_break, here)

@@ -87,7 +87,8 @@ abbrev area : ℕ → PageJust → List Spot
 area rows just = record { at = record first { page_just = just; font = record small_font { height = rows } }; put = character 65 3 } ∷ []
 
 -- all 7 rows fit, and an 8th is too many
-rows : map (λ rows. map (λ just. area_fits 7 (area rows just)) (Top ∷ Middle ∷ Bottom ∷ [])) (7 ∷ 8 ∷ []) ≡ (true ∷ true ∷ true ∷ []) ∷ (false ∷ false ∷ false ∷ []) ∷ []
+rows : map (λ rows. map (λ just. area_fits 7 (area rows just)) (Top ∷ Middle ∷ Bottom ∷ [])) (7 ∷ 8 ∷ [])
+    ≡ (true ∷ true ∷ true ∷ []) ∷ (false ∷ false ∷ false ∷ []) ∷ []
 rows = refl
 
 rows_as_laid_out : map (λ rows. map (λ just. laid_fits None 7 (area rows just)) (Top ∷ Middle ∷ Bottom ∷ [])) (7 ∷ 8 ∷ [])

@@ -1,6 +1,6 @@
 -- The laid spots of a group are the group, filled.
-use Rattle.std.proofs.Common.{◌≡◌, inl, inr, ℕ, ◌<◌, Bool, true, cond, ◌&&◌, ◌||◌, ◌==◌, List, [], ◌∷◌, ◌++◌, length, take, Option, refl, sym, ap, subst, ◌∙◌, arith, length-append, append-nil, slice_index_or, All}
-use Rattle.std.proofs.lemmas.Bool.{cases_Bool, eq-eqb}
+use Rattle.std.proofs.Common.{◌≡◌, ℕ, ◌<◌, Bool, true, cond, ◌&&◌, ◌||◌, ◌==◌, List, [], ◌∷◌, ◌++◌, length, take, Option, refl, sym, ap, subst, ◌∙◌, arith, length-append, append-nil, slice_index_or, All}
+use Rattle.std.proofs.lemmas.Bool.{eq-eqb}
 use Rattle.std.proofs.lemmas.List.{get_or_at, take_all, take_more, length_push}
 use Rattle.std.proofs.lemmas.List.Elements.{AllZip-get_or, filter-append, length_all_zip}
 use Rattle.multi_tag.specs.Just.{page_number}
@@ -26,11 +26,8 @@ is_member a j t = in_areas a t && (page_number t.at.page_just == j)
 members-append : (a j : ℕ) (xs ys : List Spot) → members a j (xs ++ ys) ≡ members a j xs ++ members a j ys
 members-append a j xs ys = grind (arith, filter-append)
 
-one_member : (a j : ℕ) (x : Spot) → members a j (x ∷ []) ≡ cond (is_member a j x) (x ∷ []) []
-one_member a j x = elim (cases_Bool (in_areas a x)) [ inl e ↦ rw e refl | inr e ↦ rw e refl ]
-
 pub members_push : (a j : ℕ) (xs : List Spot) (x : Spot) (b : Bool) → is_member a j x ≡ b → members a j (xs ++ x ∷ []) ≡ members a j xs ++ cond b (x ∷ []) []
-members_push a j xs x b e = members-append a j xs (x ∷ []) ∙ ap (λ l. members a j xs ++ l) (one_member a j x ∙ ap (λ b. cond b (x ∷ []) []) e)
+members_push a j xs x b e = members-append a j xs (x ∷ []) ∙ grind (arith, e)
 
 -- the members with one of them in its place
 pub members_with : (a j : ℕ) (xs ys : List Spot) (x : Spot) → is_member a j x ≡ true → members a j (xs ++ x ∷ ys) ≡ members a j xs ++ x ∷ members a j ys
@@ -38,7 +35,7 @@ members_with a j xs ys x e = grind (arith, members-append)
 
 -- a laid spot is in the group of its spot
 pub same_member : (a j : ℕ) (x y : Spot) → LaidAs x y → is_member a j y ≡ is_member a j x
-same_member a j x y v4 = grind arith
+same_member a j x y as' = grind arith
 
 -- a spot of a group is of its area and has its page justification
 pub member_at : (a j : ℕ) (x : Spot) → is_member a j x ≡ true → (x.at.area ≡ a) × (page_number x.at.page_just ≡ j)
@@ -67,8 +64,10 @@ module _ (all : List Spot) (a j : ℕ) (some more : List Spot) (x : Spot) (is : 
   in_place : (fill : Option ℕ) → LaidAs x (slice_index_or (filled fill (members a j all)) (length (members a j some)) x)
   in_place fill =
       let n = length (members a j some) in
-      subst (λ y. LaidAs y (slice_index_or (filled fill (members a j all)) n x)) (ap (λ l. slice_index_or l n x) split ∙ get_or_at (members a j some) x (members a j more) x n refl)
-      (AllZip-get_or LaidAs (members a j all) (filled fill (members a j all)) n x x (filled_laid fill (members a j all) (members_placing a j all)) has_place)
+      subst (λ y. LaidAs y (slice_index_or (filled fill (members a j all)) n x)) (ap (λ l. slice_index_or l n x) split
+      ∙ get_or_at (members a j some) x (members a j more) x n refl)
+      (AllZip-get_or LaidAs (members a j all) (filled fill (members a j all)) n x x
+      (filled_laid fill (members a j all) (members_placing a j all)) has_place)
 
 module _ (setting : LineFill) (all : List Spot) where
   -- a spot of the string is laid as itself or as a dropped space
@@ -81,7 +80,8 @@ module _ (setting : LineFill) (all : List Spot) where
     whole = filled fill (members a j all)
 
     -- a spot of the group is laid as the item in its place in the filled group
-    pub there : (some more : List Spot) (x : Spot) → all ≡ some ++ x ∷ more → is_member a j x ≡ true → laid_spot setting all some x ≡ slice_index_or (filled fill (members a j all)) (length (members a j some)) x
+    pub there : (some more : List Spot) (x : Spot) → all ≡ some ++ x ∷ more → is_member a j x ≡ true → laid_spot setting all some x
+        ≡ slice_index_or (filled fill (members a j all)) (length (members a j some)) x
     there some more x is member = grind (arith, All-around, in_place)
 
     -- it has as many items
@@ -89,12 +89,14 @@ module _ (setting : LineFill) (all : List Spot) where
     whole_length = length_all_zip LaidAs (members a j all) whole (filled_laid fill (members a j all) (members_placing a j all))
 
     -- the laid spots of a group, as far as some spots go, are as many of the group as it is filled
-    pub group_laid : (some more : List Spot) → all ≡ some ++ more → members a j (laid setting all some) ≡ take (length (members a j some)) (filled fill (members a j all))
+    pub group_laid : (some more : List Spot) → all ≡ some ++ more → members a j (laid setting all some)
+        ≡ take (length (members a j some)) (filled fill (members a j all))
     group_laid = front_ind all (λ some. members a j (laid setting all some) ≡ take (length (members a j some)) whole) refl (λ some more x is ih.
         let y = laid_spot setting all some x in
         let push = members_push a j (laid setting all some) y (is_member a j y) refl in
-        ap (members a j) (each_after_push (laid_spot setting all) some x) ∙ grind (arith, push, same_member a j x y (laid_as some more x is), ih, there some more x is, take_more whole (length (members a j some)) x,
-        has_place all a j some more x is, whole_length, length_push (members a j some) x, members_push a j some x (is_member a j x) refl, append-nil))
+        ap (members a j) (each_after_push (laid_spot setting all) some x) ∙ grind (arith, push, same_member a j x y (laid_as some more x is), ih,
+        there some more x is, take_more whole (length (members a j some)) x, has_place all a j some more x is, whole_length,
+        length_push (members a j some) x, members_push a j some x (is_member a j x) refl, append-nil))
 
     -- all of them are the group, filled
     pub group_whole : members a j (laid setting all all) ≡ filled fill (members a j all)

@@ -17,10 +17,10 @@ pub filter_yes : {X : Type 0} (p : X → Bool) (xs : List X) (x : X) → p x ≡
 filter_yes p xs x h = filter-append p xs (x ∷ []) ∙ rw h refl
 
 pub glyph_put : (at : Standing) (p : Put) → is_glyph (record { at = at; put = p }) ≡ true → (is_break (record { at = at; put = p }) ≡ false) × (given_gap (record { at = at; put = p }) ≡ None)
-glyph_put at v1 e = grind arith
+glyph_put at put e = grind arith
 
 pub break_put : (at : Standing) (p : Put) → is_break (record { at = at; put = p }) ≡ true → is_glyph (record { at = at; put = p }) ≡ false
-break_put at v1 e = grind arith
+break_put at put e = grind arith
 
 pub placing_group : (just : ℕ) (area : List Spot) → All IsPlacing area → All IsPlacing (in_group just area)
 placing_group just area h = All-filter (λ t. page_number t.at.page_just == just) IsPlacing area h

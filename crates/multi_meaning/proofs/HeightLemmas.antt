@@ -1,5 +1,5 @@
 -- The height of a group by a running state: what code keeps of the placing items so far.
-use Rattle.std.proofs.Common.{◌≡◌, true, false, inl, inr, List, [], ◌∷◌, ◌++◌, refl, sym, ap, ◌∙◌, append_assoc, append-nil}
+use Rattle.std.proofs.Common.{◌≡◌, true, false, inl, inr, List, [], ◌∷◌, ◌++◌, refl, sym, ap, ◌∙◌, append_assoc, append-nil, arith}
 use Rattle.std.specs.List.{filter, list_any, All, AllPass}
 use Rattle.std.proofs.lemmas.Bool.{both_ways, cond_both}
 use Rattle.std.proofs.lemmas.List.Elements.{filter-append, All-nil, All-head, All-tail, All-push}
@@ -24,7 +24,7 @@ any_glyph s line h = rw (All-head (λ x. is_glyph x ≡ true) s line h) refl
 pub bearers_ended : (s : Spot) (line : List Spot) (b : Spot) → AllPass is_glyph (s ∷ line) → is_glyph b ≡ false → bearers ((s ∷ line) ++ b ∷ []) ≡ s ∷ line
 bearers_ended s line b h n =
     let rest = filter_all line (All-tail (λ x. is_glyph x ≡ true) s line h) in
-    rw (All-head (λ x. is_glyph x ≡ true) s line h) (ap (λ l. s ∷ l) (filter-append is_glyph line (b ∷ []) ∙ rw (n, rest) (append-nil line)))
+    grind (arith, All-head (λ x. is_glyph x ≡ true) s line h, rest, n, filter-append, append-nil)
 
 pub bearers_empty : (b : Spot) → is_glyph b ≡ false → bearers (b ∷ []) ≡ b ∷ []
 bearers_empty b n = rw n refl
@@ -32,7 +32,8 @@ bearers_empty b n = rw n refl
 -- what holds of nothing, and stays with a line of characters and its end, holds of the lines of placing items that an `nl` ended and
 -- of what they are cut from; what stands open behind them is characters
 module _ (P : List Spot → List (List Spot) → Type 0) (none : P [] [])
-    (more : (before : List Spot) (lines : List (List Spot)) (line : List Spot) (s : Spot) → AllPass is_glyph line → is_break s ≡ true → P before lines → P (before ++ (line ++ s ∷ [])) (lines ++ (line ++ s ∷ []) ∷ [])) where
+    (more : (before : List Spot) (lines : List (List Spot)) (line : List Spot) (s : Spot) → AllPass is_glyph line → is_break s ≡ true
+    → P before lines → P (before ++ (line ++ s ∷ [])) (lines ++ (line ++ s ∷ []) ∷ [])) where
   pub record Lines (group : List Spot) (c : Cut Spot) : Type 0 where
     pub before : List Spot
     pub is : group ≡ before ++ c.open'
@@ -46,12 +47,14 @@ module _ (P : List Spot → List (List Spot) → Type 0) (none : P [] [])
       let h = ih (All-split IsPlacing group s all).0 in
       let line = c.open' ++ s ∷ [] in
       let is = ap (λ l. l ++ s ∷ []) h.is ∙ append_assoc h.before c.open' (s ∷ []) ∙ sym (append-nil (h.before ++ line)) in
-      record { before = h.before ++ line; is = is; glyphs = All-nil (λ x. is_glyph x ≡ true); holds = more h.before c.closed c.open' s h.glyphs e h.holds })
+      record { before = h.before ++ line; is = is; glyphs = All-nil (λ x. is_glyph x ≡ true);
+          holds = more h.before c.closed c.open' s h.glyphs e h.holds })
       (λ group c s e ih all.
       let (earlier, placing) = All-split IsPlacing group s all in
       let h = ih earlier in
       let glyph : is_glyph s ≡ true = elim placing [ inl glyph ↦ glyph | inr breaks ↦ absurd (both_ways (is_break s) e breaks) ] in
-      record { before = h.before; is = ap (λ l. l ++ s ∷ []) h.is ∙ append_assoc h.before c.open' (s ∷ []); glyphs = All-push (λ x. is_glyph x ≡ true) c.open' s h.glyphs glyph; holds = h.holds })
+      record { before = h.before; is = ap (λ l. l ++ s ∷ []) h.is ∙ append_assoc h.before c.open' (s ∷ []);
+          glyphs = All-push (λ x. is_glyph x ≡ true) c.open' s h.glyphs glyph; holds = h.holds })
 
 pub open_glyphs : (group : List Spot) → All IsPlacing group → AllPass is_glyph (cut is_break group).open'
 open_glyphs group all = (lines_ind (λ before lines. Unit {0}) tt (λ before lines line s glyphs e h. tt) group all).glyphs

@@ -44,16 +44,14 @@ abbrev pub IsInSign : SignData → Rectangle → Type 0
 IsInSign sign r = (r.left + r.width ≤ sign.width) × (r.top + r.height ≤ sign.height)
 
 module _ (sign : SignData) (big : List Spot → Spot → Bool) where
-  first_in_sign : IsInSign sign (standing sign []).rectangle
-  unfolding standing
-  first_in_sign = (omega arith, omega arith)
-
   next_in_sign : (before : List Meaning) (x : Meaning) → offence_by big sign before x ≡ None → IsInSign sign (standing sign before).rectangle → IsInSign sign (standing sign (before ++ x ∷ [])).rectangle
   next_in_sign before x none old = grind (arith, nat_tests, standing_push sign before x, offence-rectangle)
 
   -- behind the items of an accepted string the rectangle in force is inside the sign
   pub rectangle_inside : (items : List Meaning) → some_after (offence_by big sign) items ≡ [] → IsInSign sign (standing sign items).rectangle
-  rectangle_inside = each_ind sign (offence_by big sign) (λ before. IsInSign sign (standing sign before).rectangle) first_in_sign next_in_sign
+  unfolding standing
+  rectangle_inside = each_ind sign (offence_by big sign) (λ before. IsInSign sign (standing sign before).rectangle) (omega arith,
+      omega arith) next_in_sign
 
   -- and so the rectangle in force is no higher than the sign
   pub rectangle_within : (items : List Meaning) → some_after (offence_by big sign) items ≡ [] → (standing sign items).rectangle.height ≤ sign.height

@@ -18,10 +18,10 @@ use Rattle.multi_meaning.proofs.MeaningLemmas.{meaning-tag}
 
 -- an octet that was read, by a comparison
 pub read_is : (found : Option ℕ) (octet : ℕ) → true ≡ option_eq nat_eq found (Some octet) → found ≡ Some octet
-read_is v0 octet e = grind arith
+read_is found octet e = grind arith
 
 pub read_not : (found : Option ℕ) (octet : ℕ) → false ≡ option_eq nat_eq found (Some octet) → found ≡ Some octet → ⊥
-read_not v0 octet e is = grind arith
+read_not found octet e is = grind arith
 
 module _ (octets : List ℕ) (at : ℕ) where
   -- a doubled bracket

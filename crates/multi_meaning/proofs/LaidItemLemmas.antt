@@ -16,16 +16,12 @@ use Rattle.multi_meaning.proofs.SpotsLemmas.{spots_with}
 use Rattle.multi_meaning.proofs.StandingLemmas.{standing_push}
 use Rattle.multi_meaning.proofs.WordLemmas.{cases_Option, each_after_push, front_ind}
 
-module _ (sign : SignData) (here at : Standing) where
-  abbrev spot_of : Put → Spot
-  spot_of put = record { at = at; put = put }
-
-  -- an item that is laid as this spot puts it, and the same stays in force behind it
-  abbrev IsLaid : Meaning → Spot → Type 0
-  IsLaid item y = (standing_behind sign here (laid_of item (Some y)) ≡ standing_behind sign here item) × (spot_at sign.defaults at (laid_of item (Some y)) ≡ Some y)
-
-  is_laid : (item : Meaning) (put : Put) (y : Spot) → put_at sign.defaults at item ≡ Some put → LaidAs (spot_of put) y → IsLaid item y
-  is_laid item put y e v4 = grind arith
+-- an item that is laid as this spot puts it, and the same stays in force behind it
+is_laid : (sign : SignData) (here at : Standing) (item : Meaning) (put : Put) (y : Spot) → put_at sign.defaults at item ≡ Some put
+    → LaidAs (record { at = at; put = put }) y
+    → (standing_behind sign here (laid_of item (Some y)) ≡ standing_behind sign here item)
+    × (spot_at sign.defaults at (laid_of item (Some y)) ≡ Some y)
+is_laid sign here at item put y e as' = grind arith
 
 module _ (setting : LineFill) (sign : SignData) where
   -- the same is in force behind them, and what they put is laid as it is in the string
@@ -45,12 +41,9 @@ module _ (setting : LineFill) (sign : SignData) where
         rw e (stays, ap (λ o. laid setting (spots sign all) (spots sign some) ++ cons_option o []) puts ∙ sym (each_after_push (laid_spot setting (spots sign all)) (spots sign some) s))
   ]
 
-  nothing_laid : (all : List Meaning) → spots sign (laid_items setting sign all []) ≡ laid setting (spots sign all) (spots sign [])
-  unfolding spots
-  nothing_laid all = refl
-
   pub are_laid : (all some more : List Meaning) → all ≡ some ++ more → AreLaid all some
-  are_laid all = front_ind all (AreLaid all) (refl, nothing_laid all) (λ some more x is (stands, put).
+  unfolding spots
+  are_laid all = front_ind all (AreLaid all) (refl, refl) (λ some more x is (stands, put).
       let y = laid_item setting sign all some x in
       let (stays, laid_more) = one_laid all some more x is in
       let push = each_after_push (laid_item setting sign all) some x in (

@@ -92,33 +92,29 @@ module _ (width : ℕ) where
   one_ends : (xs : List Spot) (b : Spot) → is_break b ≡ true → Ends (xs ++ b ∷ [])
   one_ends xs b is = inr (xs, b, is, refl)
 
-  closed_ends : (n : ℕ) (cs : List Spot) → Ends (parts width n cs).closed
-  closed_ends = fill_ind width (λ cs f. Ends f.closed) (λ cs. inl refl) (λ cs c f is ends.
-      subst Ends (append_assoc c.before (dropped c.item ∷ []) f.closed) (ends_behind (c.before ++ dropped c.item ∷ []) f.closed (one_ends c.before (dropped c.item) refl) ends))
-
-  -- the open line is characters
-  parts_glyphs : (n : ℕ) (cs : List Spot) → AllPass is_glyph cs → AllPass is_glyph (parts width n cs).open'
-  parts_glyphs = fill_ind width (λ cs f. AllPass is_glyph cs → AllPass is_glyph f.open') (λ cs h. h)
-      (λ cs c f is ih h. ih (All-around (λ x. is_glyph x ≡ true) c.before c.item c.behind (subst (AllPass is_glyph) is h)).2)
-
   pub open_line_glyphs : (g : List Spot) → All IsPlacing g → AllPass is_glyph (open_line g)
-  open_line_glyphs g placing = parts_glyphs (length (cut is_break g).open') (cut is_break g).open' (open_glyphs g placing)
-
-  -- what an `nl` ended ends
-  front_ends : (g : List Spot) → All IsPlacing g → Ends (front g)
-  front_ends g placing = (lines_ind (λ before lines. Ends (flat_map (filled_line width) lines)) (inl refl) (λ before lines line s glyphs e h.
-      let one : Ends (filled_line width (line ++ s ∷ [])) = rw (break_behind line s glyphs e) (one_ends (fill (length (filter is_glyph (line ++ s ∷ []))) width (filter is_glyph (line ++ s ∷ []))) s e) in
-      rw (flat_map_push (filled_line width) lines (line ++ s ∷ [])) (ends_behind (flat_map (filled_line width) lines) (filled_line width (line ++ s ∷ [])) h one)) g placing).holds
+  open_line_glyphs g placing =
+      fill_ind width (λ cs f. AllPass is_glyph cs → AllPass is_glyph f.open') (λ cs h. h)
+      (λ cs c f is ih h. ih (All-around (λ x. is_glyph x ≡ true) c.before c.item c.behind (subst (AllPass is_glyph) is h)).2)
+      (length (cut is_break g).open') (cut is_break g).open' (open_glyphs g placing)
 
   pub ended_ends : (g : List Spot) → All IsPlacing g → Ends (ended g)
-  ended_ends g placing = ends_behind (front g) (last_parts g).closed (front_ends g placing) (closed_ends (length (cut is_break g).open') (cut is_break g).open')
+  ended_ends g placing =
+      let lines = lines_ind (λ before lines. Ends (flat_map (filled_line width) lines)) (inl refl) (λ before lines line s glyphs e h.
+      let one : Ends (filled_line width (line ++ s ∷ [])) = rw (break_behind line s glyphs e) (one_ends (fill (length (filter is_glyph (line ++ s ∷ []))) width (filter is_glyph (line ++ s ∷ []))) s e) in
+      rw (flat_map_push (filled_line width) lines (line ++ s ∷ []))
+      (ends_behind (flat_map (filled_line width) lines) (filled_line width (line ++ s ∷ [])) h one)) g placing in
+      ends_behind (front g) (last_parts g).closed lines.holds (fill_ind width (λ cs f. Ends f.closed) (λ cs. inl refl) (λ cs c f is ends.
+      subst Ends (append_assoc c.before (dropped c.item ∷ []) f.closed) (ends_behind (c.before ++ dropped c.item ∷ []) f.closed
+      (one_ends c.before (dropped c.item) refl) ends))
+      (length (cut is_break g).open') (cut is_break g).open')
 
 -- a group, filled to a width or to none: nothing, and one more `nl`
 pub filled_none : (o : Option ℕ) → filled o [] ≡ []
-filled_none v0 = grind arith
+filled_none o = grind arith
 
 pub filled_behind : (o : Option ℕ) (g : List Spot) (s : Spot) → All IsPlacing g → is_break s ≡ true → filled o (g ++ s ∷ []) ≡ filled o g ++ s ∷ []
-filled_behind v0 g s placing b = grind (arith, filled_break)
+filled_behind o g s placing b = grind (arith, filled_break)
 
 -- a cut list with characters behind it
 cut_glyphs : (ys : List Spot) (c : Cut Spot) → AllPass is_glyph ys → cut_from is_break c ys ≡ record { closed = c.closed; open' = c.open' ++ ys }
@@ -129,9 +125,10 @@ pub cut_with : (ys xs : List Spot) → AllPass is_glyph ys → cut is_break (xs 
 cut_with ys xs h = fold-append (cut_more is_break) (record { closed = []; open' = [] }) xs ys ∙ cut_glyphs ys (cut is_break xs) h
 
 pub ends_open : (width : ℕ) (xs : List Spot) → Ends width xs → (cut is_break xs).open' ≡ []
-ends_open width xs v2 = grind (arith, cut_push)
+ends_open width xs ends = grind (arith, cut_push)
 
 -- the open line of a filled group stands behind its last end of a line
 pub open_line_is : (width : ℕ) (g : List Spot) → All IsPlacing g → after_last is_break (filled (Some width) g) ≡ open_line width g
 open_line_is width g placing =
-    grind (arith, after_last_is, filled_is width g placing, cut_with (open_line width g) (ended width g) (open_line_glyphs width g placing), ends_open width (ended width g) (ended_ends width g placing))
+    grind (arith, after_last_is, filled_is width g placing, cut_with (open_line width g) (ended width g) (open_line_glyphs width g placing),
+    ends_open width (ended width g) (ended_ends width g placing))

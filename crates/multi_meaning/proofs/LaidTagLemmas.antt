@@ -86,7 +86,8 @@ module _ (setting : LineFill) (sign : SignData) where
       → laid_items setting sign (items ++ x ∷ []) (items ++ x ∷ []) ≡ laid_items setting sign items items ++ laid_of x (Some y) ∷ []
   laid_behind items x put y puts leaves last =
       let all = spots sign items ++ record { at = standing sign items; put = put } ∷ [] in
-      let stay = each_same (among all) (among (spots sign items)) items (λ some more z is. elim (cases_Option (put_at sign.defaults (standing sign some) z)) [
+      let stay = each_same (among all) (among (spots sign items)) items
+      (λ some more z is. elim (cases_Option (put_at sign.defaults (standing sign some) z)) [
         | inl none ↦ rw none refl
         | inr (p, e) ↦ rw e (ap (λ y. laid_of z (Some y)) (leaves (spots sign some) _ (record { at = standing sign some; put = p }) (ap (spots sign) is ∙ spots_with sign some z more p e)))
       ]) in
@@ -122,7 +123,9 @@ module _ (setting : LineFill) (sign : SignData) (items : List Meaning) where
       let here = standing sign items in
       let group = group_of (spot_of (Break gap)) (spots sign items) in
       let member : is_member here.area (page_number here.page_just) (spot_of (Break gap)) ≡ true = grind (arith, eq-eqb) in
-      laid_placing (Does (NewLine gap)) (Break gap) (spot_of (Break gap)) refl member (filled_behind (fill_at setting here) group (spot_of (Break gap)) (members_placing here.area (page_number here.page_just) (spots sign items)) refl)
+      laid_placing (Does (NewLine gap)) (Break gap) (spot_of (Break gap)) refl member
+      (filled_behind (fill_at setting here) group (spot_of (Break gap)) (members_placing here.area (page_number here.page_just)
+      (spots sign items)) refl)
   laid_tag NewPage = laid_behind setting sign items (Does NewPage) _ _ refl (unplaced_leaves setting (spots sign items) _ refl refl) refl
   laid_tag (Back colour) = laid_behind setting sign items (Does (Back colour)) _ _ refl (unplaced_leaves setting (spots sign items) _ refl refl) refl
   laid_tag tag = laid_nothing setting sign items (Does tag) refl

@@ -36,23 +36,22 @@ line_high line some high = elim (cases_Bool (list_any is_glyph line)) [
 ]
 
 part_high : (line : List Spot) → All High line → All IsHigh (part is_break line)
-part_high v0 high = grind (arith, All-nil, All-cons, line_high)
+part_high line high = grind (arith, All-nil, All-cons, line_high)
 
 -- and so has each line of a group
 lines_high : (g : List Spot) → All High g → All IsHigh (lines_of g)
 lines_high g all =
     let (closed, last) = cut_ind_all is_break High (λ c. All IsHigh c.closed × All High c.open') (All-nil IsHigh, All-nil High)
-    (λ c s h e (lines, line). (All-push IsHigh c.closed (c.open' ++ s ∷ []) lines (line_high (c.open' ++ s ∷ []) (omega (arith, length_push c.open' s)) (All-push High c.open' s line h)), All-nil High))
+    (λ c s h e (lines, line).
+    (All-push IsHigh c.closed (c.open' ++ s ∷ []) lines (line_high (c.open' ++ s ∷ []) (omega (arith, length_push c.open' s))
+    (All-push High c.open' s line h)), All-nil High))
     (λ c s h e (lines, line). (lines, All-push High c.open' s line h)) g all in
-    subst (All IsHigh) (sym (cut_behind_is is_break g)) (All-append IsHigh (cut is_break g).closed (part is_break (cut is_break g).open') closed (part_high (cut is_break g).open' last))
+    subst (All IsHigh) (sym (cut_behind_is is_break g)) (All-append IsHigh (cut is_break g).closed (part is_break (cut is_break g).open') closed
+    (part_high (cut is_break g).open' last))
 
 pub sum_least : {X : Type 0} (f : X → ℕ) (xs : List X) → All (λ x. 1 ≤ f x) xs → length xs ≤ sum_by f xs
 sum_least f [] all = omega arith
 sum_least f (x ∷ xs) all = omega (arith, sum_by-cons f x xs, All-head (λ x. 1 ≤ f x) x xs all, sum_least f xs (All-tail (λ x. 1 ≤ f x) x xs all))
-
--- a group has no more lines than pixels
-pub lines_most : (g : List Spot) → All (λ (s : Spot). 1 ≤ s.at.font.height) g → length (lines_of g) ≤ height_of (lines_of g)
-lines_most g all = omega (arith, sum_least line_height (lines_of g) (lines_high g all))
 
 pub fit_each : (a b c height : ℕ) → fit a b c height ≡ true → a + b + c ≤ height
 fit_each a b c height h = grind arith
@@ -66,5 +65,8 @@ pub lines_within : (height : ℕ) (area : List Spot) → area_fits height area �
     → length (lines_of (in_group 2 area)) + length (lines_of (in_group 3 area)) + length (lines_of (in_group 4 area)) ≤ height
 lines_within height area fits all =
     let tall = λ (just : ℕ). height_of (lines_of (in_group just area)) in
-    let most : (just : ℕ) → length (lines_of (in_group just area)) ≤ tall just = λ just. lines_most (in_group just area) (All-filter (λ t. page_number t.at.page_just == just) High area all) in
+    let most : (just : ℕ) → length (lines_of (in_group just area)) ≤ tall just = λ just.
+    omega (arith,
+    sum_least line_height (lines_of (in_group just area))
+    (lines_high (in_group just area) (All-filter (λ t. page_number t.at.page_just == just) High area all))) in
     omega (arith, most 2, most 3, most 4, fit_each (tall 2) (tall 3) (tall 4) height fits)

@@ -53,14 +53,16 @@ module _ (setting : LineFill) (fill : Rectangle → Option ℕ) (is : (at : Stan
       let group = page_number s.at.page_just in
       let area = present_area sign before in
       let whole = filled (fill_at setting s.at) (in_group group area) in
-      let joined : line_fits s.at.rectangle.width (after_last is_break (filled (fill_at setting s.at) (in_group group (area ++ s ∷ [])))) ≡ true = elim (cases_Bool (is_glyph s)) [
+      let joined : line_fits s.at.rectangle.width (after_last is_break (filled (fill_at setting s.at) (in_group group (area ++ s ∷ [])))) ≡ true =
+      elim (cases_Bool (is_glyph s)) [
         | inl glyph ↦ not-false _ (or_parts _ _ (rw glyph at small)).0
         | inr other ↦
             let ends : is_break s ≡ true = rw other at placing in
-            let behind = filled_behind (fill_at setting s.at) (in_group group area) s (placing_group group area (area_placing (spots sign before) s)) ends in
+            let behind =
+            filled_behind (fill_at setting s.at) (in_group group area) s (placing_group group area (area_placing (spots sign before) s)) ends in
             grind (arith, own_group group area s refl, behind, after_last_push is_break whole s, ends, nothing_fits s.at.rectangle.width)
       ] in
-      elim (cases_eq group just) [ inl own ↦ grind (arith, own, is s.at, joined) | inr other ↦ grind (arith, in_group_other just area s other, old just) ]
+      elim (cases_eq group just) [ inl own ↦ grind (arith, own, is, joined) | inr other ↦ grind (arith, in_group_other, old) ]
 
 -- behind the items of an accepted string the present line of each group fits the rectangle in force
 pub lines_fit_always : (sign : SignData) (items : List Meaning) → IsFine sign items → LinesFit (standing sign items).rectangle.width (present_area sign items)
@@ -85,7 +87,8 @@ module _ (sign : SignData) where
 -- the characters of a segment are at least one column wide
 wide_segment : (just : ℕ) (line : List Spot) → All (λ (s : Spot). is_glyph s ≡ true → 1 ≤ glyph_width s) line → All (λ (s : Spot). 1 ≤ glyph_width s) (segment just line)
 wide_segment just [] all = All-nil (λ (s : Spot). 1 ≤ glyph_width s)
-wide_segment just (s ∷ line) all = grind (arith, All-head, wide_segment just line (All-tail (λ (s : Spot). is_glyph s ≡ true → 1 ≤ glyph_width s) s line all))
+wide_segment just (s ∷ line) all =
+    grind (arith, All-head, wide_segment just line (All-tail (λ (s : Spot). is_glyph s ≡ true → 1 ≤ glyph_width s) s line all))
 
 module _ (sign : SignData) (sound : IsSound sign) (items : List Meaning) (fits : LinesFit (standing sign items).rectangle.width (present_area sign items))
     (high : area_fits (standing sign items).rectangle.height (present_area sign items) ≡ true) (across : (standing sign items).rectangle.width ≤ sign.width) (down : (standing sign items).rectangle.height ≤ sign.height) where
@@ -96,7 +99,9 @@ module _ (sign : SignData) (sound : IsSound sign) (items : List Meaning) (fits :
       let P = λ (s : Spot). is_glyph s ≡ true → 1 ≤ glyph_width s in
       let wide : All P line = All-drop P _ (in_group just (present_area sign items)) (All-filter (λ t. page_number t.at.page_just == just) P (present_area sign items) (area_wide sign sound sound.font items)) in
       let many = sum_least glyph_width (segment 5 line) (wide_segment 5 line wide) in
-      record { width = each_just (λ just. width_of (segment just line) ≤ 1024) (grind (arith, nat_tests, fits just, across, sound.width.1)) (grind (arith, nat_tests, fits just, across, sound.width.1)) (grind (arith, nat_tests, fits just, across, sound.width.1)) (grind (arith, nat_tests, fits just, across, sound.width.1)); characters = grind (arith, nat_tests, many, fits just, across, sound.width.1) }
+      record { width = each_just (λ just. width_of (segment just line) ≤ 1024) (grind (arith, nat_tests, fits, across, sound.width.1))
+          (grind (arith, nat_tests, fits, across, sound.width.1)) (grind (arith, nat_tests, fits, across, sound.width.1))
+          (grind (arith, nat_tests, fits, across, sound.width.1)); characters = grind (arith, nat_tests, many, fits, across, sound.width.1) }
 
   -- and no group is higher than a sign
   height : (just : ℕ) → 2 ≤ just → just ≤ 4 → height_of (lines_of (in_group just (present_area sign items))) ≤ 1024

@@ -1,20 +1,19 @@
 -- The items of a string as they are laid out offend by nothing but their size, where those of the string don't.
 use native.Mathlib.Omega.{arith}
-use Rattle.std.proofs.Common.{◌≡◌, ℕ, Bool, true, false, cond, ◌||◌, inl, inr, List, [], ◌∷◌, ◌++◌, map, Some, None, refl, sym, ap, subst, ◌∙◌, append_assoc, append-nil, option_map, arith}
+use Rattle.std.proofs.Common.{◌≡◌, ℕ, Bool, false, cond, ◌||◌, inl, inr, List, [], ◌∷◌, ◌++◌, map, Some, None, refl, sym, ap, subst, ◌∙◌, append_assoc, append-nil, option_map, arith}
 use Rattle.std.proofs.lemmas.Bool.{or_parts}
-use Rattle.std.specs.List.{after_last, count_by, list_any}
+use Rattle.std.specs.List.{after_last, list_any}
 use Rattle.std.proofs.lemmas.List.{map-append}
 use Rattle.std.proofs.lemmas.List.Folds.{list_any-append}
 use Rattle.multi_token.specs.Spelling.{Item}
 use Rattle.multi_tag.specs.declared.tag.Tag.TheVariants.{NewLine}
-use Rattle.multi_tag.specs.Just.{page_number}
 use Rattle.sign_font.specs.declared.parts.LineFill.{LineFill}
 use Rattle.sign_font.specs.Sign.{SignData, cell_numbered}
 use Rattle.multi_meaning.specs.Address.{Break, Glyph, Put, Spot, Standing, area_of, is_break, put_at, spots, standing}
 use Rattle.multi_meaning.specs.Laid.{laid, laid_spot}
 use Rattle.multi_meaning.specs.LaidItems.{laid_item, laid_items, laid_out}
-use Rattle.multi_meaning.specs.Meaning.{Does, Meaning, Shows, has_place, is_new_page, meaning}
-use Rattle.multi_meaning.specs.Offence.{clashes, conflicts, goes_back, never_big, offence, offence_by, unsized_offence}
+use Rattle.multi_meaning.specs.Meaning.{Does, Meaning, Shows, has_place, meaning}
+use Rattle.multi_meaning.specs.Offence.{conflicts, goes_back, never_big, offence, offence_by, unsized_offence}
 use Rattle.multi_meaning.specs.Verdict.{offences}
 use Rattle.multi_meaning.specs.kept.Fine.{IsOrderly}
 use Rattle.multi_meaning.specs.Words.{some_after}
@@ -39,18 +38,16 @@ module _ (setting : LineFill) (all : List Spot) (a j : ℕ) (p : Spot → Bool) 
   abbrev None_of : List Spot → Type 0
   None_of spots = list_any p (line spots) ≡ false → list_any p (line (laid setting all spots)) ≡ false
 
-  any_more : (xs : List Spot) (x : Spot) → is_member a j x ≡ true → list_any p (line (xs ++ x ∷ [])) ≡ cond (is_break x) false (list_any p (line xs) || (p x || false))
-  any_more xs x e = grind (arith, members_push a j xs x true e, after_last_push, list_any-append)
-
-  any_other : (xs : List Spot) (x : Spot) → is_member a j x ≡ false → list_any p (line (xs ++ x ∷ [])) ≡ list_any p (line xs)
-  any_other xs x e = ap (λ l. list_any p (after_last is_break l)) (members_push a j xs x false e ∙ append-nil (members a j xs))
+  any_push : (xs : List Spot) (x : Spot) → list_any p (line (xs ++ x ∷ []))
+      ≡ cond (is_member a j x) (cond (is_break x) false (list_any p (line xs) || (p x || false))) (list_any p (line xs))
+  any_push xs x = grind (arith, members_push a j xs x (is_member a j x) refl, after_last_push, list_any-append, append-nil)
 
   none_laid : (some more : List Spot) → all ≡ some ++ more → None_of some
   none_laid = front_ind all None_of (λ none. none) (λ some more x is ih none.
       let y = laid_spot setting all some x in
       let as' = laid_as setting all some more x is in
       ap (λ l. list_any p (line l)) (each_after_push (laid_spot setting all) some x)
-      ∙ grind (arith, as', same_member a j x y as', any_more (laid setting all some) y, any_other (laid setting all some) y, any_more some x, any_other some x, ih, none))
+      ∙ grind (arith, as', same_member a j x y as', any_push (laid setting all some) y, any_push some x, ih, none))
 
 -- A PLACING ITEM
 
@@ -61,7 +58,7 @@ module _ (setting : LineFill) (all some more : List Spot) (is : all ≡ some ++ 
 
   -- and neither does its segment
   pub stays_apart : conflicts (laid setting all some) s ≡ false
-  stays_apart = grind (arith, goes_on s refl, none_laid setting all s.at.area (page_number s.at.page_just) (clashes s) some more is, or_parts)
+  stays_apart = grind (arith, goes_on, none_laid, or_parts)
 
 -- THE ITEMS
 
@@ -77,7 +74,8 @@ module _ (setting : LineFill) (sign : SignData) (all : List Meaning) where
     are = are_laid setting sign all some (x ∷ more) is
 
     -- a placing item that conflicts with nothing conflicts with nothing that is laid out, and nor does the end of a line in its place
-    apart : (put : Put) → put_at sign.defaults (standing sign some) x ≡ Some put → conflicts (spots sign some) (record { at = standing sign some; put = put }) ≡ false
+    apart : (put : Put) → put_at sign.defaults (standing sign some) x ≡ Some put
+        → conflicts (spots sign some) (record { at = standing sign some; put = put }) ≡ false
         → (conflicts (spots sign (before some)) (record { at = standing sign (before some); put = put }) ≡ false)
         × (conflicts (spots sign (before some)) (record { at = standing sign (before some); put = Break None }) ≡ false)
     apart put puts none =
@@ -89,13 +87,10 @@ module _ (setting : LineFill) (sign : SignData) (all : List Meaning) where
         )
 
   -- an item that places nothing offends by its page alone
-  same_offence : (xs ys : List Meaning) → count_by is_new_page xs ≡ count_by is_new_page ys → (x : Meaning) → has_place x ≡ false → unsized_offence sign xs x ≡ unsized_offence sign ys x
-  unfolding offence_by
+  same_offence : (xs ys : List Meaning) → (standing sign xs).page ≡ (standing sign ys).page → (x : Meaning) → has_place x ≡ false
+      → unsized_offence sign xs x ≡ unsized_offence sign ys x
+  unfolding offence_by standing
   same_offence xs ys pages x e = grind arith
-
-  pages_same : (some more : List Meaning) → all ≡ some ++ more → count_by is_new_page (before some) ≡ count_by is_new_page some
-  unfolding standing
-  pages_same some more is = ap (λ (s : Standing). s.page) (are_laid setting sign all some more is).0
 
   laid_fine : (some more : List Meaning) (x : Meaning) → all ≡ some ++ x ∷ more → unsized_offence sign some x ≡ None → Fine some (laid_item setting sign all some x)
   laid_fine some more (Shows number) is fine = elim (cases_Option (cell_numbered (standing sign some).font number)) [
@@ -105,19 +100,17 @@ module _ (setting : LineFill) (sign : SignData) (all : List Meaning) where
         let s : Spot = record { at = standing sign some; put = Glyph cell } in
         let none = no_conflict (conflicts (spots sign some) s) false (sym (offence-character never_big sign some number cell found) ∙ fine) in
         let (stays, ends) = apart some more (Shows number) is (Glyph cell) puts none in
-        let as' = laid_as setting (spots sign all) (spots sign some) _ s (ap (spots sign) is ∙ spots_with sign some (Shows number) more (Glyph cell) puts) in
+        let as' = laid_as setting (spots sign all) (spots sign some) _ s (ap (spots sign) is
+        ∙ spots_with sign some (Shows number) more (Glyph cell) puts) in
         let found' = ap (λ (s : Standing). cell_numbered s.font number) (are some more (Shows number) is).0 ∙ found in
-        grind (arith, found, as', stays, ends, offence-character never_big sign (before some) number cell found', offence-break never_big sign (before some) None)
+        grind (arith, found, as', stays, ends, offence-character never_big sign (before some) number cell found',
+        offence-break never_big sign (before some) None)
   ]
   laid_fine some more (Does (NewLine gap)) is fine =
       let stays = apart some more (Does (NewLine gap)) is (Break gap) refl in
       grind (arith, offence-break never_big sign some gap, fine, stays, offence-break never_big sign (before some) gap)
-  laid_fine some more x is fine = ap (unsized_offence sign (before some)) (unplaced_item setting sign all some x refl) ∙ same_offence (before some) some (pages_same some (x ∷ more) is) x refl ∙ fine
-
-  orderly_laid : ((some more : List Meaning) (x : Meaning) → all ≡ some ++ x ∷ more → unsized_offence sign some x ≡ None) → (some more : List Meaning) → all ≡ some ++ more → IsOrderly sign (before some)
-  orderly_laid fine = front_ind all (λ some. IsOrderly sign (before some)) refl (λ some more x is ih.
-      ap (some_after (unsized_offence sign)) (each_after_push (laid_item setting sign all) some x)
-      ∙ none_more (unsized_offence sign) (before some) (laid_item setting sign all some x) ih (laid_fine some more x is (fine some more x is)))
+  laid_fine some more x is fine = ap (unsized_offence sign (before some)) (unplaced_item setting sign all some x refl)
+      ∙ same_offence (before some) some (ap (λ (s : Standing). s.page) (are some more x is).0) x refl ∙ fine
 
 -- A STRING
 
@@ -137,6 +130,9 @@ pub orderly_out : (sign : SignData) (items : List Item) → offences sign items 
 orderly_out sign items none =
     let all = map meaning items in
     let f = unsized_offence sign in
-    let fine : (some more : List Meaning) (x : Meaning) → all ≡ some ++ x ∷ more → f some x ≡ None = λ some more x is.
+    let fine = λ (some more : List Meaning) (x : Meaning) (is : all ≡ some ++ x ∷ more).
     none_last sign f some x (none_front sign f (some ++ x ∷ []) more (subst (IsOrderly sign) (is ∙ sym (append_assoc some (x ∷ []) more)) (orderly_items sign items none))) in
-    orderly_laid sign.line_fill sign all fine all [] (sym (append-nil all))
+    front_ind all (λ some. IsOrderly sign (laid_items sign.line_fill sign all some)) refl (λ some more x is ih.
+    ap (some_after f) (each_after_push (laid_item sign.line_fill sign all) some x)
+    ∙ none_more f (laid_items sign.line_fill sign all some) (laid_item sign.line_fill sign all some x) ih
+    (laid_fine sign.line_fill sign all some more x is (fine some more x is))) all [] (sym (append-nil all))

@@ -19,4 +19,5 @@ pub all_same : {X : Type 0} (page column row : ℕ) (f g : List X → X → Opti
     → ((before : List X) (x : X) → Holds x → picked page column row (f before x) ≡ picked page column row (g before x)) → (xs : List X) → AllByRecursion Holds xs
     → filter_map (pick page column row) (some_after f xs) ≡ filter_map (pick page column row) (some_after g xs)
 all_same page column row f g Holds same [] hold = refl
-all_same page column row f g Holds same (x ∷ xs) hold = grind (arith, all_same page column row (λ before. f (x ∷ before)) (λ before. g (x ∷ before)) Holds (λ before. same (x ∷ before)) xs hold.1)
+all_same page column row f g Holds same (x ∷ xs) hold =
+    grind (arith, all_same page column row (λ before. f (x ∷ before)) (λ before. g (x ∷ before)) Holds (λ before. same (x ∷ before)) xs hold.1)

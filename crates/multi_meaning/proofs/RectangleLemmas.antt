@@ -29,13 +29,11 @@ module _ (sign : SignData) where
   behind_push : (area : ℕ) (r : Rectangle) (items : List Meaning) (x : Meaning) → IsBehind area r items → IsBehind area r (items ++ x ∷ [])
   behind_push area r items x (least, same) = grind (arith, area_push, rectangle_stays)
 
-  none_placed : All (λ s. IsBehind s.at.area s.at.rectangle []) (spots sign [])
-  unfolding spots
-  none_placed = All-nil (λ s. IsBehind s.at.area s.at.rectangle [])
-
   -- what some items put stands in their area, with its rectangle, or in one before
   pub spots_placed : (items : List Meaning) → All (λ s. IsBehind s.at.area s.at.rectangle items) (spots sign items)
-  spots_placed = push_ind (λ items. All (λ s. IsBehind s.at.area s.at.rectangle items) (spots sign items)) none_placed (λ items x ih.
+  unfolding spots
+  spots_placed = push_ind (λ items. All (λ s. IsBehind s.at.area s.at.rectangle items) (spots sign items))
+      (All-nil (λ s. IsBehind s.at.area s.at.rectangle [])) (λ items x ih.
       let here = standing sign items in
       spots_all sign (λ s. IsBehind s.at.area s.at.rectangle (items ++ x ∷ [])) items x (λ put e. behind_push here.area here.rectangle items x (omega arith, λ is. refl))
       (All-weaker (λ s. IsBehind s.at.area s.at.rectangle items) (λ s. IsBehind s.at.area s.at.rectangle (items ++ x ∷ [])) (λ s h. behind_push s.at.area s.at.rectangle items x h) (spots sign items) ih))
@@ -43,7 +41,8 @@ module _ (sign : SignData) where
   stays_behind : (items behind : List Meaning) → IsBehind (standing sign items).area (standing sign items).rectangle (items ++ behind)
   stays_behind items =
       let here = standing sign items in
-      push_ind (λ behind. IsBehind here.area here.rectangle (items ++ behind)) (grind (arith, append-nil)) (λ behind x ih. grind (arith, append_assoc items behind (x ∷ []), behind_push here.area here.rectangle (items ++ behind) x ih))
+      push_ind (λ behind. IsBehind here.area here.rectangle (items ++ behind)) (grind (arith, append-nil))
+      (λ behind x ih. grind (arith, append_assoc items behind (x ∷ []), behind_push here.area here.rectangle (items ++ behind) x ih))
 
   -- all spots of a string in the area behind some items have the rectangle in force there
   pub same_rectangle : (items behind : List Meaning) → All (SameRectangle items) (spots sign (items ++ behind))

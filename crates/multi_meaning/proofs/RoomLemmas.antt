@@ -41,13 +41,16 @@ module _ (setting : LineFill) (sign : SignData) (P : Rectangle → List Spot →
   first_holds = first (whole_sign sign)
 
   -- the area behind an item, by what it is and by the rectangle before the item
-  holds_by : (before : List Meaning) (x : Meaning) (area : List Spot) → given_rectangle sign x ≡ None → present_area sign (before ++ x ∷ []) ≡ area → P (standing sign before).rectangle area → Holds (before ++ x ∷ [])
+  holds_by : (before : List Meaning) (x : Meaning) (area : List Spot) → given_rectangle sign x ≡ None → present_area sign (before ++ x ∷ []) ≡ area
+      → P (standing sign before).rectangle area → Holds (before ++ x ∷ [])
   holds_by before x area gives is holds = grind (arith, rectangle_stays)
 
   -- a placing item joins it
   holds_placing : (before : List Meaning) (x : Meaning) (put : Put) → let spot : Spot = record { at = standing sign before; put = put } in
-      given_rectangle sign x ≡ None → begins_area x ≡ false → put_at sign.defaults (standing sign before) x ≡ Some put → (is_glyph spot || is_break spot) ≡ true
-      → cond {A = Option ℕ} (conflicts (spots sign before) spot) (Some 11) (cond (too_big setting (spots sign before) spot) (Some 5) None) ≡ None → Holds before → Holds (before ++ x ∷ [])
+      given_rectangle sign x ≡ None → begins_area x ≡ false → put_at sign.defaults (standing sign before) x ≡ Some put
+      → (is_glyph spot || is_break spot) ≡ true
+      → cond {A = Option ℕ} (conflicts (spots sign before) spot) (Some 11) (cond (too_big setting (spots sign before) spot) (Some 5) None) ≡ None
+          → Holds before → Holds (before ++ x ∷ [])
   holds_placing before x put gives stays puts placing fine old =
       holds_by before x _ gives (present_area-placing sign before x put stays puts placing) (joins before put placing (grind (arith, fine)) old)
 
@@ -55,9 +58,11 @@ module _ (setting : LineFill) (sign : SignData) (P : Rectangle → List Spot →
   pub next_holds : (before : List Meaning) (x : Meaning) → offence setting sign before x ≡ None → Holds before → Holds (before ++ x ∷ [])
   next_holds before (Shows number) none old = elim (cases_Option (cell_numbered (standing sign before).font number)) [
     | inl undefined ↦ absurd (none-some 7 (sym none ∙ offence-undefined (too_big setting) sign before number undefined))
-    | inr (cell, found) ↦ holds_placing before (Shows number) (Glyph cell) refl refl (ap (option_map Glyph) found) refl (sym (offence-character (too_big setting) sign before number cell found) ∙ none) old
+    | inr (cell, found) ↦ holds_placing before (Shows number) (Glyph cell) refl refl (ap (option_map Glyph) found) refl
+        (sym (offence-character (too_big setting) sign before number cell found) ∙ none) old
   ]
-  next_holds before (Does (NewLine gap)) none old = holds_placing before (Does (NewLine gap)) (Break gap) refl refl refl refl (sym (offence-break (too_big setting) sign before gap) ∙ none) old
+  next_holds before (Does (NewLine gap)) none old = holds_placing before (Does (NewLine gap)) (Break gap) refl refl refl refl
+      (sym (offence-break (too_big setting) sign before gap) ∙ none) old
   next_holds before (Does NewPage) none old = grind (arith, present_area-new sign before (Does NewPage) refl, first)
   next_holds before (Does (Rect x y w h)) none old = grind (arith, present_area-new sign before (Does (Rect x y w h)) refl, first)
   next_holds before (Does (Back colour)) none old = holds_by before (Does (Back colour)) (present_area sign before) refl (present_area-cover sign before (Does (Back colour)) _ refl refl refl) old

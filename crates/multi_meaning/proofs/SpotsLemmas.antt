@@ -20,7 +20,8 @@ abbrev pub spots_behind : SignData → List Meaning → List Meaning → List Sp
 spots_behind sign before behind = some_after (λ more item. spot_at sign.defaults (standing sign (before ++ more)) item) behind
 
 -- all items are some and those behind them
-pub spots_split : (sign : SignData) (before behind : List Meaning) → spots sign (before ++ behind) ≡ spots sign before ++ spots_behind sign before behind
+pub spots_split : (sign : SignData) (before behind : List Meaning) → spots sign (before ++ behind)
+    ≡ spots sign before ++ spots_behind sign before behind
 unfolding spots
 spots_split sign before behind = some_after-append (λ before item. spot_at sign.defaults (standing sign before) item) before behind
 
@@ -65,23 +66,21 @@ abbrev pub IsFrom : ℕ → Spot → Type 0
 IsFrom page s = page ≤ page_put s.at s.put
 
 spot_page : (here : Standing) (low : ℕ) → low ≤ here.page → (defaults : Defaults) (x : Meaning) → IfSome (spot_at defaults here x) (IsFrom low)
-spot_page here low reached defaults v4 = grind arith
+spot_page here low reached defaults x = grind arith
 
 -- pages don't fall along the items, nor do areas
-page_on : (sign : SignData) (before more : List Meaning) → (standing sign before).page ≤ (standing sign (before ++ more)).page
+falls_not : (sign : SignData) (before more : List Meaning)
+    → ((standing sign before).page ≤ (standing sign (before ++ more)).page) × ((standing sign before).area ≤ (standing sign (before ++ more)).area)
 unfolding standing
-page_on sign before more = omega (arith, sum_by-append (λ x. cond (is_new_page x) 1 0) before more)
-
-area_on : (sign : SignData) (before more : List Meaning) → (standing sign before).area ≤ (standing sign (before ++ more)).area
-unfolding standing
-area_on sign before more = omega (arith, sum_by-append (λ x. cond (begins_area x) 1 0) before more)
+falls_not sign before more = (omega (arith, sum_by-append (λ x. cond (is_new_page x) 1 0) before more),
+    omega (arith, sum_by-append (λ x. cond (begins_area x) 1 0) before more))
 
 -- what the items behind some others put is of their page or a later one
 pub pages_behind : (sign : SignData) (before behind : List Meaning) → All (IsFrom (standing sign before).page) (spots_behind sign before behind)
 pages_behind sign before behind =
     let low = (standing sign before).page in
     some_all (λ x. Unit {0}) (IsFrom low) (λ more item. spot_at sign.defaults (standing sign (before ++ more)) item) behind (All-weaker (Contains behind) (λ x. Unit {0}) (λ x _. tt) behind (All-contains_itself behind))
-    (λ more x _. spot_page (standing sign (before ++ more)) low (page_on sign before more) sign.defaults x)
+    (λ more x _. spot_page (standing sign (before ++ more)) low (falls_not sign before more).0 sign.defaults x)
 
 module _ (sign : SignData) (before : List Meaning) where
   -- an item that begins an area, and the items behind it, place nothing in the area that ends
@@ -91,13 +90,14 @@ module _ (sign : SignData) (before : List Meaning) where
       let k = (standing sign before).area in
       let next = before ++ x ∷ [] in
       let later = push_ind (λ rest. in_area k (spots sign (next ++ rest)) ≡ in_area k (spots sign next)) (ap (λ l. in_area k (spots sign l)) (append-nil next)) (λ rest y ih.
-      ap (λ l. in_area k (spots sign l)) (sym (append_assoc next rest (y ∷ []))) ∙ other_area sign (next ++ rest) y k (λ e. grind (arith, e, area_on sign next rest, standing_push sign before x, begins)) ∙ ih) in
+      ap (λ l. in_area k (spots sign l)) (sym (append_assoc next rest (y ∷ [])))
+      ∙ other_area sign (next ++ rest) y k (λ e. grind (arith, e, (falls_not sign next rest).1, standing_push, begins)) ∙ ih) in
       grind (arith, later rest, spots_push sign before x, in_area-append, append_assoc before (x ∷ []) rest, append-nil)
 
   -- where an area ends, the rest of the string puts nothing into it
   pub area_ends : (behind : List Meaning) → EndsArea behind
       → in_area (standing sign before).area (spots sign (before ++ behind)) ≡ in_area (standing sign before).area (spots sign before)
-  area_ends behind v1 = grind (arith, append-nil, ends_next)
+  area_ends behind ends = grind (arith, append-nil, ends_next)
 
   -- a character joins its area, and the items behind it come after it
   pub area_with_glyph : (number : ℕ) (cell : CellData) (rest : List Meaning) → cell_numbered (standing sign before).font number ≡ Some cell →
@@ -106,4 +106,5 @@ module _ (sign : SignData) (before : List Meaning) where
       (more : List Spot) × (in_area at.area (spots sign (before ++ Shows number ∷ rest)) ≡ in_area at.area (spots sign before) ++ spot ∷ more)
   area_with_glyph number cell rest found =
       let at = standing sign before in
-      (in_area at.area (spots_behind sign (before ++ Shows number ∷ []) rest), grind (arith, spots_with sign before (Shows number) rest (Glyph cell), found, in_area-append, eq-eqb at.area at.area refl))
+      (in_area at.area (spots_behind sign (before ++ Shows number ∷ []) rest), grind (arith, spots_with sign before (Shows number) rest (Glyph cell),
+      found, in_area-append, eq-eqb at.area at.area refl))

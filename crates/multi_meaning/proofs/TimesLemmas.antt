@@ -25,7 +25,8 @@ cycle_push before here = sum_by_push (λ (t : Times). t.on + t.off) before here
 
 -- each page ends within the cycle
 pub cycle_within : (before after : List Times) (here : Times) → cycle before + (here.on + here.off) ≤ cycle (before ++ here ∷ after)
-cycle_within before after here = omega (arith, sum_by-append (λ (t : Times). t.on + t.off) before (here ∷ after), sum_by-cons (λ (t : Times). t.on + t.off) here after)
+cycle_within before after here = omega (arith, sum_by-append (λ (t : Times). t.on + t.off) before (here ∷ after),
+    sum_by-cons (λ (t : Times). t.on + t.off) here after)
 
 -- THE PAGE AT A CLOCK
 
@@ -34,7 +35,8 @@ find_first : (p : ℕ → Bool) (n k : ℕ) → k < n → p k ≡ true → ((j :
 find_first p n k below passes fails =
     let at : (j : ℕ) → j < n → get_or (range_with_len 0 n) j 0 ≡ j = λ j h. omega (arith, get_or-range_with_len 0 n j 0 h) in
     let none = λ (j : ℕ) (h : j < k). ap p (at j (omega arith)) ∙ fails j h in
-    found_at (find p) p (λ x. Some x) None refl (λ x xs. refl) (range_with_len 0 n) k 0 (omega (arith, length-range_with_len 0 n)) none (ap p (at k below) ∙ passes)
+    found_at (find p) p (λ x. Some x) None refl (λ x xs. refl) (range_with_len 0 n) k 0 (omega (arith, length-range_with_len 0 n)) none
+    (ap p (at k below) ∙ passes)
     ∙ ap (λ j. Some j) (at k below)
 
 -- where no number of a range passes a test, none is found
@@ -74,7 +76,8 @@ module _ (pages before after : List Times) (here : Times) (is : pages ≡ before
   stands = slice_get-get_or pages (length before) here within ∙ ap (λ l. Some (get_or l (length before) here)) is ∙ ap (λ x. Some x) (get_or-append_seam before here after here)
 
   ends : begin pages (length before + 1) ≡ cycle before + (here.on + here.off)
-  ends = grind (arith, sum_by_more (λ (t : Times). t.on + t.off) pages (length before) here within, is, get_or-append_seam before here after here, begins)
+  ends = grind (arith, sum_by_more (λ (t : Times). t.on + t.off) pages (length before) here within, is, get_or-append_seam before here after here,
+      begins)
 
   -- no earlier page is on from its begin on
   none_before : (t j : ℕ) → cycle before ≤ t → j < length before → is_on pages t j ≡ false
@@ -84,7 +87,8 @@ module _ (pages before after : List Times) (here : Times) (is : pages ≡ before
   pub shown_on : (t : ℕ) → cycle before ≤ t → t < cycle before + here.on → shown_within pages t ≡ Page (length before) (t - cycle before)
   unfolding shown_within
   shown_on t from until =
-      let found = find_first (is_on pages t) (length pages) (length before) (omega (arith, within)) (grind (arith, begins, stands)) (λ j below. none_before t j from below) in
+      let found = find_first (is_on pages t) (length pages) (length before) (omega (arith, within)) (grind (arith, begins, stands))
+      (λ j below. none_before t j from below) in
       rw (found, begins) refl
 
   -- in its off time nothing is shown
@@ -107,7 +111,7 @@ unfolding page_times
 times_are sign before rest =
     let ends : List Meaning → Meaning → Option Times = λ ms m. cond (is_new_page m) (Some (times_at (standing sign ms))) None in
     let behind : List Times = some_after (λ ms. ends (before ++ Does NewPage ∷ ms)) rest in
-    (behind ++ times_at (standing sign (before ++ Does NewPage ∷ rest)) ∷ [], grind (arith, some_after-append ends before (Does NewPage ∷ rest), append_assoc, append-nil))
+    (behind ++ times_at (standing sign (before ++ Does NewPage ∷ rest)) ∷ [], grind (arith, some_after-append, append_assoc, append-nil))
 
 -- there is one item for each that passes a test
 count_some : {X Y : Type 0} (p : X → Bool) (of : List X → Y) (xs : List X) → length (some_after (λ before x. cond (p x) (Some (of before)) None) xs) ≡ count_by p xs
@@ -129,10 +133,7 @@ found_below : (p : ℕ → Bool) (a n k : ℕ) → find p (range_with_len a n) �
 found_below p a zero k is = absurd cc
 found_below p a (suc n) k is = grind (arith, is, found_below p (a + 1) n k)
 
-within_below : (pages : List Times) (time page phase : ℕ) → shown_within pages time ≡ Page page phase → page < length pages
-unfolding shown_within
-within_below pages time page phase is = grind (arith, found_below)
-
 -- a page that is shown is one of the string's
 pub page_below : (sign : SignData) (octets : List ℕ) (clock page phase : ℕ) → shown sign octets clock ≡ Page page phase → page < pages_of (meanings octets)
-page_below sign octets clock page phase is = grind (arith, times_count, shown_always, within_below, shown_modulo)
+unfolding shown_within
+page_below sign octets clock page phase is = grind (arith, times_count, shown_always, found_below, shown_modulo)

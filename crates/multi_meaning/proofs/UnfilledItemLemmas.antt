@@ -1,8 +1,7 @@
 -- Where lines aren't filled, each item is laid out as itself.
-use Rattle.std.proofs.lemmas.List.{append_assoc}
+use Rattle.std.proofs.lemmas.List.{append_assoc, get_or_at}
 use Rattle.std.proofs.lemmas.Bool.Decides.{nat_tests}
 use Rattle.std.proofs.Common.{◌≡◌, true, List, [], ◌∷◌, ◌++◌, Some, refl, sym, ap, ◌∙◌, append-nil, option_map, arith}
-use Rattle.std.proofs.lemmas.List.{get_or_at}
 use Rattle.multi_tag.specs.declared.tag.Tag.TheVariants.{NewLine}
 use Rattle.sign_font.specs.declared.parts.LineFill.TheVariants.{Off}
 use Rattle.sign_font.specs.Sign.{SignData, cell_numbered, CellData}
@@ -20,17 +19,16 @@ unfilled_glyph all some more x glyph is = grind (arith, nat_tests, append_assoc,
 
 pub unfilled_item : (sign : SignData) (all before more : List Meaning) (x : Meaning) → all ≡ before ++ x ∷ more → laid_item Off sign all before x ≡ x
 unfilled_item sign all before more (Shows number) is =
-    let split = λ (cell : CellData) (found : cell_numbered (standing sign before).font number ≡ Some cell). ap (spots sign) is ∙ spots_with sign before (Shows number) more (Glyph cell) (ap (option_map Glyph) found) in
+    let split = λ (cell : CellData) (found : cell_numbered (standing sign before).font number ≡ Some cell). ap (spots sign) is
+    ∙ spots_with sign before (Shows number) more (Glyph cell) (ap (option_map Glyph) found) in
     let same = λ (cell : CellData) (found : cell_numbered (standing sign before).font number ≡ Some cell).
     unfilled_glyph (spots sign all) (spots sign before) _ (record { at = standing sign before; put = Glyph cell }) refl (split cell found) in
     grind (arith, cases_Option (cell_numbered (standing sign before).font number), same)
 unfilled_item sign all before more (Does (NewLine gap)) is = refl
 unfilled_item sign all before more _ is = refl
 
-pub unfilled_items : (sign : SignData) (all some more : List Meaning) → all ≡ some ++ more → laid_items Off sign all some ≡ some
-unfilled_items sign all = front_ind all (λ some. laid_items Off sign all some ≡ some) refl
-    (λ some more x is ih. each_after_push (laid_item Off sign all) some x ∙ (λ i. ih i ++ unfilled_item sign all some more x is i ∷ []))
-
 -- where lines aren't filled, the items are laid out as they are
 pub laid_plain : (sign : SignData) (items : List Meaning) → laid_items Off sign items items ≡ items
-laid_plain sign items = unfilled_items sign items items [] (sym (append-nil items))
+laid_plain sign items = front_ind items (λ some. laid_items Off sign items some ≡ some) refl
+    (λ some more x is ih. each_after_push (laid_item Off sign items) some x ∙ (λ i. ih i ++ unfilled_item sign items some more x is i ∷ [])) items []
+    (sym (append-nil items))

@@ -12,7 +12,7 @@ use Rattle.multi_meaning.proofs.WordLemmas.{left_nil, none_mapped, none_of, righ
 
 -- what places nothing is laid as itself
 pub unplaced_item : (setting : LineFill) (sign : SignData) (all before : List Meaning) (x : Meaning) → has_place x ≡ false → laid_item setting sign all before x ≡ x
-unplaced_item setting sign all before v4 e = grind arith
+unplaced_item setting sign all before x e = grind arith
 
 -- and it never offends by its size
 pub sized : (setting : LineFill) (sign : SignData) (ms : List Meaning) (x : Meaning) → has_place x ≡ false → offence setting sign ms x ≡ unsized_offence sign ms x
@@ -21,7 +21,7 @@ sized setting sign ms x e = grind arith
 
 -- without an error there is no conflict
 pub no_conflict : (conflict big : Bool) → ◌≡◌ {A = Option ℕ} (cond conflict (Some 11) (cond big (Some 5) None)) None → conflict ≡ false
-no_conflict v0 big e = grind arith
+no_conflict conflict big e = grind arith
 
 -- none of some items offends, so the last doesn't, nor any before it
 pub last_fine : (sign : SignData) (items : List Item) (item : Item) → offences sign (items ++ item ∷ []) ≡ []

@@ -18,7 +18,8 @@ use Rattle.multi_meaning.proofs.WordLemmas.{some_after-append, some_after_push}
 pub one_verdict : OneVerdict
 unfolding verdict
 one_verdict sign octets v = (
-  (λ (items, rest, read, is). grind (arith, is, one_reading octets items (reading octets).items rest (reading octets).rest read (each_string_has_a_reading octets))),
+  (λ (items, rest, read, is). grind (arith, is, one_reading octets items (reading octets).items rest (reading octets).rest read
+  (each_string_has_a_reading octets))),
   (λ is. ((reading octets).items, (reading octets).rest, each_string_has_a_reading octets, is)),
 )
 
@@ -32,7 +33,7 @@ first_stands : (sign : SignData) (items : List Item) (more : List ℕ) (fault : 
 unfolding verdict verdict_on
 first_stands sign items more fault faults each first =
     let all = each_string_has_a_reading (spell items ++ more) in
-    grind (arith, reading_begins items (reading (spell items ++ more)).items more (reading (spell items ++ more)).rest each all.each all.ends all.spelled, some_after-append (fault_at sign), first)
+    grind (arith, reading_begins, some_after-append, first)
 
 -- a refusal for an item stands for every string with the same octets up to the end of that item
 pub item_refused : (sign : SignData) (before : List Item) (item : Item) (code : ℕ) (rest : List ℕ)
@@ -41,38 +42,37 @@ pub item_refused : (sign : SignData) (before : List Item) (item : Item) (code : 
 item_refused sign before item code rest each none offends =
     first_stands sign (before ++ item ∷ []) rest (code, length (spell before)) [] each (offences_push sign before item (Some code) none offends)
 
--- where no item offends, a rest is a broken bracket
-broken_refused : (sign : SignData) (items : List Item) (rest : List ℕ) → rest ≢ [] → offences sign items ≡ [] → verdict_on sign items rest ≡ Refused 3 (length (spell items))
-unfolding verdict_on
-broken_refused sign items v2 some none = grind arith
-
 -- what stays broken has an octet
 broken_some : (bracket more : List ℕ) → StaysBroken bracket → bracket ++ more ≢ []
 broken_some [] more stays e = absurd (stays (65 ∷ []) (Char 65) [] (tt, refl))
 broken_some (octet ∷ bracket) more stays e = cc
 
 pub broken_bracket_stands : BrokenBracketStands
-unfolding verdict
+unfolding verdict verdict_on
 broken_bracket_stands sign before bracket more each none stays =
     let octets = spell before ++ (bracket ++ more) in
     let read : IsReading octets before (bracket ++ more) = record { each = each; spelled = refl; ends = stays more } in
-    grind (arith, one_reading octets (reading octets).items before (reading octets).rest (bracket ++ more) (each_string_has_a_reading octets) read, broken_refused sign before (bracket ++ more) (broken_some bracket more stays) none)
+    grind (arith, one_reading octets (reading octets).items before (reading octets).rest (bracket ++ more) (each_string_has_a_reading octets) read,
+    broken_some bracket more stays, none)
 
 -- a string of these items and this rest is refused
 stands_by : (sign : SignData) (items : List Item) (rest : List ℕ) (faults : List (ℕ × ℕ)) (code at : ℕ) → All IsItem items → HasNoItem rest → offences sign items ≡ faults
     → of_first (pages_of (map meaning items)) (faults ++ broken items rest) ≡ Refused code at → ¬ (IsOpen (drop at (spell items ++ rest)))
     → (more : List ℕ) → verdict sign ((spell items ++ rest) ++ more) ≡ Refused code at
-stands_by sign items rest (fault ∷ faults) code at each ends first e closed more = grind (arith, first_stands sign items (rest ++ more) fault faults each first, append_assoc)
+stands_by sign items rest (fault ∷ faults) code at each ends first e closed more = grind (arith, first_stands, append_assoc)
 stands_by sign items [] [] code at each ends none e closed more = absurd cc
 stands_by sign items (octet ∷ rest) [] code at each ends none e closed more =
     let cases = open_or_broken (octet ∷ rest) (λ e. cc) ends in
-    grind (arith, broken_bracket_stands sign items (octet ∷ rest) more each none, cases, drop-append_seam (spell items) (octet ∷ rest), append_assoc, closed)
+    grind (arith, broken_bracket_stands sign items (octet ∷ rest) more each none, cases, drop-append_seam (spell items) (octet ∷ rest), append_assoc,
+    closed)
 
 pub refusal_stands : RefusalStands
 unfolding verdict verdict_on
 refusal_stands sign octets code at e closed more =
     let read = each_string_has_a_reading octets in
-    grind (arith, stands_by sign (reading octets).items (reading octets).rest (offences sign (reading octets).items) code at read.each read.ends refl e (subst (λ l. ¬ (IsOpen (drop at l))) read.spelled closed) more, read.spelled)
+    grind (arith, stands_by sign (reading octets).items (reading octets).rest
+    (offences sign (reading octets).items) code at read.each read.ends refl e (subst (λ l. ¬ (IsOpen (drop at l))) read.spelled closed) more,
+    read.spelled)
 
 -- as many are meant as are read
 pub length-meanings : (items : List Item) → length (map meaning items) ≡ length items

@@ -80,7 +80,8 @@ each_same f g xs same =
 -- no value is more than the largest
 pub largest_most : {X : Type 0} (f : X → ℕ) (xs : List X) → All (λ x. f x ≤ largest f xs) xs
 largest_most {X} f = push_ind (λ xs. All (λ x. f x ≤ largest f xs) xs) (All-nil (λ x. f x ≤ 0)) (λ xs x ih.
-    All-push (λ y. f y ≤ largest f (xs ++ x ∷ [])) xs x (All-weaker (λ y. f y ≤ largest f xs) (λ y. f y ≤ largest f (xs ++ x ∷ [])) (λ y h. omega (arith, h, largest_push f xs x)) xs ih) (omega (arith, largest_push f xs x)))
+    All-push (λ y. f y ≤ largest f (xs ++ x ∷ [])) xs x (All-weaker (λ y. f y ≤ largest f xs) (λ y. f y ≤ largest f (xs ++ x ∷ []))
+    (λ y h. omega (arith, h, largest_push f xs x)) xs ih) (omega (arith, largest_push f xs x)))
 
 -- what holds of each holds around one of them, and of it
 pub All-around : {X : Type 0} (P : X → Type 0) (xs : List X) (x : X) (ys : List X) → All P (xs ++ x ∷ ys) → All P xs × P x × All P ys
@@ -106,7 +107,7 @@ right_nil (x ∷ xs) ys e = cc
 
 -- nothing is put before a list of nothing
 pub none_of : {X : Type 0} (o : Option X) (more : List X) → cons_option o more ≡ [] → o ≡ None
-none_of v0 more e = grind arith
+none_of o more e = grind arith
 
 pub none_mapped : {X Y : Type 0} (f : X → Y) (o : Option X) → option_map f o ≡ None → o ≡ None
-none_mapped f v1 e = grind arith
+none_mapped f o e = grind arith
