@@ -142,6 +142,13 @@ module _ {sign : SignData} {items : List Item} {item : Item} {read : KnownItem} 
   pub items_with : map meaning (items ++ item ∷ []) ≡ map meaning items ++ meant_by read ∷ []
   items_with = map-append meaning items (item ∷ []) ∙ ap (λ m. map meaning items ++ m ∷ []) next.meant
 
+-- the item is this one, and the group before it was left
+pub item_left : {words : Bool} {sign : SignData} {items : List Item} {kept : Pass} {lines : LineTable} → IsReadOf words sign items kept.state.area.present kept lines → {item : Item} {read read' : KnownItem}
+    → IsNextRead sign items item read → (lines' : LineTable) → KnowsOn kept.state.area (next_group kept.state (meant_by read)) lines lines' → read ≡ read'
+    → IsReadOf words sign items (next_group kept.state (meant_by read')) kept lines' × IsNextRead sign items item read'
+item_left {words} {sign} {items} {kept} r {item} {read} next lines' known is =
+    (subst (λ (k : KnownItem). IsReadOf words sign items (next_group kept.state (meant_by k)) kept lines') is (group_left r (meant_by read) lines' known), subst (IsNextRead sign items item) is next)
+
 -- a tag doesn't offend among the items as they are laid out
 pub tag_unsized : (words : Bool) (sign : SignData) (kept : Pass) (ms : List Meaning) → IsPassOf words sign kept ms → (tag : Tag) → offence sign.line_fill sign ms (Does tag) ≡ None
     → unsized_offence sign (laid_items (fill_of words) sign ms ms) (Does tag) ≡ None

@@ -51,7 +51,7 @@ impl Cursor {
     {
         let mut first = source.read(self.at);
         while let Some(octet) = first {
-            match meet(sign, &mut self.state, source, self.at, octet) {
+            match meet(sign, &mut self.state, source, self.at, octet, None) {
                 Met::Setting(len) => {
                     self.at += len;
                     first = source.read(self.at);
@@ -76,7 +76,7 @@ impl Cursor {
             (9 * (self.new.at - self.old.at) + (if self.new.state.pages == self.old.state.pages then 1 else 0)) }
     {
         while let Some(first) = source.read(self.at) {
-            match meet(sign, &mut self.state, source, self.at, first) {
+            match meet(sign, &mut self.state, source, self.at, first, None) {
                 Met::Setting(len) => self.at += len,
                 Met::Item(next) => {
                     self.skip(sign, source, next);
@@ -199,32 +199,10 @@ pub(crate) enum Met {
     Item(NextItem),
 }
 
-/// Meets the item that begins with this octet, which was read: reads the rest of it, and puts it into force if it is a setting.
+/// Meets the item at an offset, which begins with this octet and is this one if it was read: else reads the rest of it, and puts it into
+/// force if it is a setting.
 #[inline(always)]
 pub(crate) fn meet(
-    sign: &Terms<'_>,
-    state: &mut State,
-    source: &mut Source<'_>,
-    at: usize,
-    first: u8,
-) -> Met
-    requires { MayMeet sign.now source.old.octets at first state.old }
-    ensures met { IsMet sign.now source.old.octets at state.old result state.new }
-    ensures some { 1 ≤ met_octets result }
-    ensures steps { RisesBetween source.old source.new 0 (met_steps result) }
-{
-    if !is_bracket(first) {
-        return Met::Item(NextItem {
-            item: KnownItem::Char(u16::from(first)),
-            len: 1,
-        });
-    }
-    meet_bracket(sign, state, source, at, first)
-}
-
-/// Meets the item at an offset, which is this one if it was read.
-#[inline(always)]
-pub(crate) fn meet_known(
     sign: &Terms<'_>,
     state: &mut State,
     source: &mut Source<'_>,
@@ -239,10 +217,16 @@ pub(crate) fn meet_known(
     ensures steps { RisesBetween source.old source.new 0 (met_steps result - item_steps item) }
     ensures known { item_steps item ≤ met_steps result }
 {
-    match item {
-        Some(next) => Met::Item(next),
-        None => meet(sign, state, source, at, first),
+    if let Some(next) = item {
+        return Met::Item(next);
     }
+    if !is_bracket(first) {
+        return Met::Item(NextItem {
+            item: KnownItem::Char(u16::from(first)),
+            len: 1,
+        });
+    }
+    meet_bracket(sign, state, source, at, first)
 }
 
 /// The same of an item that begins with a bracket. It isn't put into its callers' code, which would grow too large for what they keep.

@@ -103,7 +103,7 @@ fn draw_area(
             // The area goes on.
             unreachable!();
         };
-        match meet(sign, &mut cursor.state, source, cursor.at, octet) {
+        match meet(sign, &mut cursor.state, source, cursor.at, octet, None) {
             Met::Setting(len) => {
                 cursor.at += len;
                 first = None;

@@ -7,7 +7,6 @@
 #![tactic(auto)]
 
 mod bracket;
-mod cell;
 mod checked;
 mod cursor;
 mod draw;

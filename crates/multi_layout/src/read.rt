@@ -18,7 +18,7 @@ ghost use Rattle.multi_judge.specs.Sums.{IsBelow};
 ghost use Rattle.multi_judge.specs.Table.{group_lines};
 ghost use Rattle.multi_layout.specs.kept.Settings.{IsBegun, item_steps};
 
-use crate::cursor::{Begun, Cursor, Met, meet_known};
+use crate::cursor::{Begun, Cursor, Met, meet};
 use multi_judge::{
     Area, CountedLine, KnownItem, LineTable, NextItem, Pass, State, Terms, go_along,
 };
@@ -98,7 +98,7 @@ fn read_lines<const WORDS: bool>(
             end_area(read, &kept.state.area, at, None);
             return;
         };
-        match meet_known(sign, &mut kept.state, source, at, octet, item) {
+        match meet(sign, &mut kept.state, source, at, octet, item) {
             Met::Setting(len) => {
                 at += len;
                 first = source.read(at);
@@ -166,65 +166,27 @@ fn pass_item<const WORDS: bool>(
 {
     leave_group(lines, item, &kept.state);
     match item {
-        KnownItem::Char(number) => pass_shown::<WORDS>(sign, source, kept, number, lines),
-        KnownItem::Tag(tag) => pass_tag::<WORDS>(sign, source, kept, tag, lines),
-    }
-}
-
-/// Goes behind a character of an area, and puts the line that it ends into the table, if it does.
-fn pass_shown<const WORDS: bool>(
-    sign: &Terms<'_>,
-    source: &mut Source<'_>,
-    kept: &mut Pass,
-    number: u16,
-    lines: &mut LineTable,
-)
-    requires sound { IsSound sign.now }
-    requires known { (before : List spelled.Item) × (next : spelled.Item)
-        × IsReadOf WORDS sign.now before (page_number kept.old.state.attributes.page_just) kept.old lines.old
-        × IsNextRead sign.now before next (Char number) }
-    ensures known { ReadsOn WORDS sign.now (page_number kept.old.state.attributes.page_just) (Char number) kept.old lines.old kept.new
-        lines.new }
-    ensures behind { WORDS ≡ false → IsBehindCharacter kept.new.state }
-    ensures step { number ≤ 255 → source.new ≡ charged source.old 1 }
-    ensures steps { RisesBetween source.old source.new 0 8 }
-{
-    let font = kept.state.attributes.font.number;
-    let Some(width) = sign.bare.cell_width(source, font, number) else {
-        unreachable!();
-    };
-    if let Some(line) = kept.pass_cell::<WORDS>(number, width) {
-        let area = &kept.state.area;
-        lines.push(area.present, CountedLine::of(&line, area.group.closed));
-    }
-}
-
-/// Goes behind a tag of an area, and puts the line that it ends into the table, if it does.
-fn pass_tag<const WORDS: bool>(
-    sign: &Terms<'_>,
-    source: &mut Source<'_>,
-    kept: &mut Pass,
-    tag: Tag,
-    lines: &mut LineTable,
-)
-    requires sound { IsSound sign.now }
-    requires known { (before : List spelled.Item) × (next : spelled.Item)
-        × IsReadOf WORDS sign.now before (next_group kept.old.state (Does tag)) kept.old lines.old
-        × IsNextRead sign.now before next (items.Tag tag) }
-    requires plain { begins_area (Does tag) ≡ false }
-    ensures known { ReadsOn WORDS sign.now (next_group kept.old.state (Does tag)) (items.Tag tag) kept.old lines.old kept.new lines.new }
-    ensures steps { RisesBetween source.old source.new 0 8 }
-{
-    let group = kept.state.area.group_for(kept.state.attributes.page_just);
-    let Ok(()) = kept.judge_tag::<WORDS>(sign, source, tag) else {
-        unreachable!();
-    };
-    if let Tag::NewLine(_) = tag {
-        let area = &kept.state.area;
-        lines.push(
-            area.present,
-            CountedLine::of(&group.line, area.group.closed),
-        );
+        KnownItem::Char(number) => {
+            let font = kept.state.attributes.font.number;
+            let Some(width) = sign.bare.cell_width(source, font, number) else {
+                unreachable!();
+            };
+            if let Some(line) = kept.pass_cell::<WORDS>(number, width) {
+                let area = &kept.state.area;
+                lines.push(area.present, CountedLine::of(&line, area.group.closed));
+            }
+        }
+        KnownItem::Tag(tag) => {
+            let group = kept.state.area.group_for(kept.state.attributes.page_just);
+            let Ok(()) = kept.judge_tag::<WORDS>(sign, source, tag) else {
+                unreachable!();
+            };
+            if let Tag::NewLine(_) = tag {
+                let area = &kept.state.area;
+                let closed = area.group.closed;
+                lines.push(area.present, CountedLine::of(&group.line, closed));
+            }
+        }
     }
 }
 

@@ -21,7 +21,7 @@ meet-requires c =
     let now = c.loop-cursor.invariant.drawn page d in
     let b = now.up_to.between in
     let ready = ready_between c.args.sign.now c.args.source.now.octets now.before now.behind c.loop-cursor.cursor b in
-    record { within = search rules; ready = ready; behind = search rules; stands = search rules; room = search rules }
+    record { begins = record { within = search rules; ready = ready; behind = search rules; stands = search rules; room = search rules }; item = tt }
 
 pub unreachable-requires : goal.unreachable-requires
 unreachable-requires c =

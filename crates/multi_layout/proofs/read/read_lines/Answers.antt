@@ -45,8 +45,8 @@ returns-in_default g c =
       steps = steps_within c.args.source.now i.steps (omega arith) (omega (arith, last, e.end.0));
     }
 
-pub meet_known-requires-clause-begins : goal.meet_known-requires-clause-begins
-meet_known-requires-clause-begins g c =
+pub meet-requires-clause-begins : goal.meet-requires-clause-begins
+meet-requires-clause-begins g c =
     let (before, behind, b, begins) = c.requires.begins in
     let so = c.loop-first.invariant.so_far before behind b begins in
     let ready = ready_state (not (g.row.WORDS == 0)) c.loop-first.kept (read_ready c.requires.sound so.read) in
@@ -75,23 +75,23 @@ loop-first-smaller-in-Setting g c =
 pub loop-first-preserved-in-Setting : goal.loop-first-preserved-in-Setting
 loop-first-preserved-in-Setting g c =
     let i = c.loop-first.invariant in
-    let octets : c.meet_known.new.source.octets ≡ c.args.source.now.octets = same_octets c.in-Setting.ensures.steps.3 ∙ same_octets i.steps.3 in
+    let octets : c.meet.new.source.octets ≡ c.args.source.now.octets = same_octets c.in-Setting.ensures.steps.3 ∙ same_octets i.steps.3 in
     record {
       so_far = λ before behind b begins.
           let so = i.so_far before behind b begins in
-          setting_read so c.requires.sound (same_octets i.steps.3) c.in-Setting.len c.meet_known.new.state c.in-Setting.ensures.met;
+          setting_read so c.requires.sound (same_octets i.steps.3) c.in-Setting.len c.meet.new.state c.in-Setting.ensures.met;
       forward = omega (arith, i.forward);
       first = c.read-first.ensures.octet ∙ ap (λ o. slice_get o (c.loop-first.at + c.in-Setting.len)) octets;
       item = tt;
       few = omega (arith, i.few, i.forward, c.in-Setting.ensures.known);
-      steps = steps_within c.args.source.now (steps_then c.args.source.now (steps_then c.args.source.now i.steps c.in-Setting.ensures.steps) (steps_of c.meet_known.new.source c.read-first.ensures.step)) (omega arith)
+      steps = steps_within c.args.source.now (steps_then c.args.source.now (steps_then c.args.source.now i.steps c.in-Setting.ensures.steps) (steps_of c.meet.new.source c.read-first.ensures.step)) (omega arith)
           (omega (arith, i.few, i.forward, c.in-Setting.ensures.known, c.in-Setting.ensures.some));
     }
 
 pub end_area-requires-then-begins_area : goal.end_area-requires-then-begins_area
 end_area-requires-then-begins_area g c =
     let (before, behind, b, begins) = c.requires.begins in
-    let so = met_stays (c.loop-first.invariant.so_far before behind b begins) c.meet_known.new.state c.in-Item.ensures.met.0 in
+    let so = met_stays (c.loop-first.invariant.so_far before behind b begins) c.meet.new.state c.in-Item.ensures.met.0 in
     record { below = read_below c.requires.sound so.read; known = read_lines c.requires.sound so.read }
 
 pub returns-then-begins_area : goal.returns-then-begins_area
@@ -102,7 +102,7 @@ returns-then-begins_area g c =
     let next : item_steps c.end_area-then-begins_area.new.read.next ≡ 9 * c.in-Item.next.len - 9 = ap item_steps e.end.1 in
     record {
       read = λ before behind b begins.
-          let so' = met_stays (i.so_far before behind b begins) c.meet_known.new.state same in
+          let so' = met_stays (i.so_far before behind b begins) c.meet.new.state same in
           let first = is (items_of (before ++ so'.pieces)) (items_of so'.left) (placed_in so' (same_octets i.steps.3)) in
           area_read so' c.requires.kind c.args.cursor.now c.end_area-then-begins_area.new.read b.placed.place (area_ended so' c.in-Item.next first (sym c.begins_area.ensures ∙ c.if-begins_area.true))
           (all_counted so' c.requires.sound c.end_area-then-begins_area.new.read.lines e.known) e.end.0 (subst (λ n. IsFirst (items_of so'.left) n) (sym e.end.1) first);
@@ -114,14 +114,14 @@ pub pass_item-requires-clause-known : goal.pass_item-requires-clause-known
 pass_item-requires-clause-known g c =
     let i = c.loop-first.invariant in
     let (before, behind, b, begins) = c.requires.begins in
-    let (so, n) = so_met (i.so_far before behind b begins) (same_octets i.steps.3) c.in-Item.next c.meet_known.new.state c.in-Item.ensures.met in
+    let (so, n) = so_met (i.so_far before behind b begins) (same_octets i.steps.3) c.in-Item.next c.meet.new.state c.in-Item.ensures.met in
     (items_of (before ++ so.pieces), n.piece.item, so.read, so_next so n)
 
 pub go_on-requires : goal.go_on-requires
 go_on-requires g c =
     let i = c.loop-first.invariant in
     let (before, behind, b, begins) = c.requires.begins in
-    let (so, n) = so_met (i.so_far before behind b begins) (same_octets i.steps.3) c.in-Item.next c.meet_known.new.state c.in-Item.ensures.met in
+    let (so, n) = so_met (i.so_far before behind b begins) (same_octets i.steps.3) c.in-Item.next c.meet.new.state c.in-Item.ensures.met in
     let r = c.pass_item.ensures.known (items_of (before ++ so.pieces)) n.piece.item so.read (so_next so n) in
     let octets : c.pass_item.new.source.octets ≡ c.args.source.now.octets = same_octets c.pass_item.ensures.steps.3 ∙ same_octets c.in-Item.ensures.steps.3 ∙ same_octets i.steps.3 in
     record {
@@ -139,10 +139,10 @@ loop-first-preserved g c =
     let gone = subst (λ o. GoesOn (not (g.row.WORDS == 0)) c.args.sign.now o at c.pass_item.new.kept c.go_on.result.0 c.go_on.new.kept) octets c.go_on.ensures.gone in
     let on = gone_forward at c.go_on.result.0 c.pass_item.new.kept c.go_on.new.kept gone in
     let met = steps_then c.args.source.now i.steps c.in-Item.ensures.steps in
-    let passed = steps_gone c.meet_known.new.source at c.go_on.result.0 c.is_octet.result c.pass_item.ensures.steps (λ is. c.pass_item.ensures.octet (c.is_octet.ensures.octet is)) c.go_on.ensures.steps in
+    let passed = steps_gone c.meet.new.source at c.go_on.result.0 c.is_octet.result c.pass_item.ensures.steps (λ is. c.pass_item.ensures.octet (c.is_octet.ensures.octet is)) c.go_on.ensures.steps in
     record {
       so_far = λ before behind b begins.
-          let (so, n) = so_met (i.so_far before behind b begins) (same_octets i.steps.3) c.in-Item.next c.meet_known.new.state c.in-Item.ensures.met in
+          let (so, n) = so_met (i.so_far before behind b begins) (same_octets i.steps.3) c.in-Item.next c.meet.new.state c.in-Item.ensures.met in
           let plain = sym c.begins_area.ensures ∙ c.if-begins_area.false in
           let more = read_on so n at refl plain c.pass_item.new.kept c.pass_item.new.lines (c.pass_item.ensures.known (items_of (before ++ so.pieces)) n.piece.item so.read (so_next so n)) in
           went_on c.requires.sound (omega (arith, b.placed.accepted.short)) at c.go_on.result.0 c.pass_item.new.kept c.go_on.new.kept c.pass_item.new.lines more gone;

@@ -12,7 +12,7 @@ loop-first-init c = record { way = in_page c.requires; on = omega arith; steps =
 pub meet-requires : goal.meet-requires
 meet-requires c =
     let s = in_page_in (same_octets c.read.ensures.step ∙ same_octets c.loop-first.invariant.steps.3) c.loop-first.invariant.way in
-    record { within = (s.before, s.behind, s.between.placed); ready = ready_there s.between; behind = (_, s.between.state_is); stands = search rules; room = search rules }
+    record { begins = record { within = (s.before, s.behind, s.between.placed); ready = ready_there s.between; behind = (_, s.between.state_is); stands = search rules; room = search rules }; item = tt }
 
 pub overflow_add-self : goal.overflow_add-self
 overflow_add-self c =

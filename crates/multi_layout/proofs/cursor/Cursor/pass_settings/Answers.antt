@@ -12,7 +12,7 @@ meet-requires c =
     let now = c.loop-first.invariant.passed layer page plane (page_in (same_octets c.read-first.ensures.step) d) in
     let b = now.up_to.between in
     let ready = ready_between c.args.sign.now c.read-first.new.self.octets now.before now.behind c.loop-first.self b in
-    record { within = search rules; ready = ready; behind = search rules; stands = search rules; room = search rules }
+    record { begins = record { within = search rules; ready = ready; behind = search rules; stands = search rules; room = search rules }; item = tt }
 
 pub overflow_add-self : goal.overflow_add-self
 overflow_add-self c =
