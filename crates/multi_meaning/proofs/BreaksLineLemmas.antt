@@ -66,9 +66,6 @@ module _ (sign : SignData) (items : List Meaning) (number : ℕ) (cell : CellDat
   abbrev is_own : Spot → Bool
   is_own x = is_member s.at.area (page_number s.at.page_just) x
 
-  abbrev ended : List Spot → ℕ
-  ended l = count_by is_break (own l)
-
   same_more : HasFill Words (Some width) s.at.area (all ++ s ∷ [])
   same_more = same_width sign items (Glyph cell)
 
@@ -199,9 +196,9 @@ module _ (sign : SignData) (items : List Meaning) (number : ℕ) (cell : CellDat
           ]
         ]
 
-    broken : Broken items
+    is_broken : Broken items
     unfolding spots
-    broken = elim (front_ind items SoFar (inl (omega arith, refl)) (λ some more x is h. one_more some more x is h) items []
+    is_broken = elim (front_ind items SoFar (inl (omega arith, refl)) (λ some more x is h. one_more some more x is h) items []
         (sym (append-nil items))) [
       | inl (early, alike) ↦ absurd (omega (arith, early, size, length-append closed (space ∷ open')))
       | inr b ↦ b
@@ -216,7 +213,7 @@ module _ (sign : SignData) (items : List Meaning) (number : ℕ) (cell : CellDat
 
     pub breaks_line : BreaksLine Words sign items (Shows number)
     breaks_line =
-        let b = broken in
+        let b = is_broken in
         let front = each_after before' b.front in
         let old_items = laid_items Words sign items items in
         let here = are_laid Words sign items b.front (b.item ∷ b.more) b.is in

@@ -1,6 +1,5 @@
 -- The laid spots of a string: each is the spot itself or a dropped space, and those of a group are the group, filled.
-use native.Mathlib.Omega.{arith}
-use Rattle.std.proofs.Common.{◌≡◌, ◌⊎◌, inl, inr, ℕ, true, List, [], ◌∷◌, ◌++◌, length, Option, Some, refl, sym, subst, append_assoc}
+use Rattle.std.proofs.Common.{◌≡◌, ◌⊎◌, inl, inr, ℕ, true, List, [], ◌∷◌, ◌++◌, length, Option, Some, refl, sym, subst, append_assoc, arith}
 use Rattle.std.specs.List.{flat_map, All, AllPass, AllZip}
 use Rattle.multi_meaning.specs.Address.{Spot, is_glyph, is_break}
 use Rattle.multi_meaning.specs.kept.Present.{IsPlacing}

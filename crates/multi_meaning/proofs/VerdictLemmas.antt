@@ -1,6 +1,5 @@
 -- Each string has one verdict, and a refusal for an item stands however the string goes on.
-use native.Mathlib.Omega.{arith}
-use Rattle.std.proofs.Common.{◌≡◌, ◌≢◌, ℕ, List, [], ◌∷◌, ◌++◌, map, length, drop, Option, Some, refl, ap, subst, append_assoc, option_map}
+use Rattle.std.proofs.Common.{◌≡◌, ◌≢◌, ℕ, List, [], ◌∷◌, ◌++◌, map, length, drop, Option, Some, refl, ap, subst, append_assoc, option_map, arith}
 use Rattle.std.proofs.Math.Seq.{drop-append_seam}
 use Rattle.std.specs.List.{All, cons_option}
 use Rattle.multi_token.specs.Broken.{IsOpen, StaysBroken}
