@@ -15,19 +15,18 @@ use Rattle.sign_font.specs.declared.parts.LineFill.TheVariants.{Words}
 use Rattle.sign_font.specs.Sign.{SignData, CellData, cell_numbered}
 use Rattle.multi_meaning.specs.Address.{Glyph, Put, Spot, Standing, is_break, is_glyph, put_at, spots, standing}
 use Rattle.multi_meaning.specs.Filling.{dropped, filled, is_space}
-use Rattle.multi_meaning.specs.Laid.{fill_at, laid_spot}
+use Rattle.multi_meaning.specs.Laid.{laid_spot}
 use Rattle.multi_meaning.specs.LaidItems.{laid_items, laid_of}
 use Rattle.multi_meaning.specs.Meaning.{Does, Meaning, Shows}
 use Rattle.multi_meaning.specs.Words.{each_after}
 use Rattle.multi_meaning.proofs.FoundLemmas.{found_cell}
 use Rattle.multi_meaning.proofs.GroupLemmas.{glyph_put}
-use Rattle.multi_meaning.proofs.FilledTagLemmas.{same_width}
 use Rattle.multi_meaning.proofs.GroupLaidLemmas.{HasFill, group_laid, group_whole, has_place, is_member, laid_as, member_at, members, members_push, own_member, there, whole_length}
 use Rattle.multi_meaning.proofs.LaidItemLemmas.{are_laid}
 use Rattle.multi_meaning.proofs.LaidLemmas.{glyph_none}
-use Rattle.multi_meaning.proofs.LaidTagLemmas.{among, other_leaves}
+use Rattle.multi_meaning.proofs.LaidTagLemmas.{among, other_leaves, same_fill, with_it}
 use Rattle.multi_meaning.proofs.SpotsLemmas.{spots_behind, spots_more, spots_nothing, spots_split, spots_with}
-use Rattle.multi_meaning.proofs.WordLemmas.{All-split, cases_Option, each_after_push, front_ind}
+use Rattle.multi_meaning.proofs.WordLemmas.{cases_Option, each_after_push, front_ind}
 
 -- an item that puts a space shows 32
 pub space_shown : (defaults : Defaults) (here : Standing) (x : Meaning) (put : Put) → put_at defaults here x ≡ Some put → is_space (record { at = here; put = put }) ≡ true → x ≡ Shows 32
@@ -66,11 +65,8 @@ module _ (sign : SignData) (items : List Meaning) (number : ℕ) (cell : CellDat
   abbrev is_own : Spot → Bool
   is_own x = is_member s.at.area (page_number s.at.page_just) x
 
-  same_more : HasFill Words (Some width) s.at.area (all ++ s ∷ [])
-  same_more = same_width sign items (Glyph cell)
-
   same : HasFill Words (Some width) s.at.area all
-  same = (All-split (λ (x : Spot). x.at.area ≡ s.at.area → fill_at Words x.at ≡ Some width) all s same_more).0
+  same = same_fill Words sign items
 
   -- how many spots of its group these items put
   abbrev count : List Meaning → ℕ
@@ -87,7 +83,7 @@ module _ (sign : SignData) (items : List Meaning) (number : ℕ) (cell : CellDat
       (new : filled (Some width) (own (all ++ s ∷ [])) ≡ closed ++ dropped space ∷ (open' ++ s ∷ [])) (is_sp : is_space space ≡ true) (glyphs : AllPass is_glyph (space ∷ open')) where
     laid_new : (some behind : List Spot) (x : Spot) → all ++ s ∷ [] ≡ some ++ x ∷ behind → is_own x ≡ true
         → laid_spot Words (all ++ s ∷ []) some x ≡ slice_index_or (closed ++ dropped space ∷ (open' ++ s ∷ [])) (length (own some)) x
-    laid_new some behind x is m = there Words (all ++ s ∷ []) s.at.area (page_number s.at.page_just) (Some width) same_more some behind x is m
+    laid_new some behind x is m = with_it Words all s same some behind x is m
         ∙ ap (λ l. slice_index_or l (length (own some)) x) new
 
     size : length (own all) ≡ length (closed ++ space ∷ open')

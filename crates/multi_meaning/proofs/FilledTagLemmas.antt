@@ -55,9 +55,6 @@ module _ (sign : SignData) (items : List Meaning) where
         grind (arith, too_big_laid Words nl.at.rectangle.width all nl placed (same_width (Break gap)), laid_more,
         one_more Words nl.at.rectangle.width nl.at.area (laid Words all all) nl, placed)
 
-  abbrev OffendsAsLaid : Tag → Type 0
-  OffendsAsLaid tag = offence Words sign items (Does tag) ≡ offence Off sign laid_before (Does tag)
-
-  pub offends_as_laid : (tag : Tag) → OffendsAsLaid tag
+  pub offends_as_laid : (tag : Tag) → offence Words sign items (Does tag) ≡ offence Off sign laid_before (Does tag)
   unfolding offence_by standing
   offends_as_laid tag = grind (arith, goes_back_laid, too_big_laid_break, here)
