@@ -120,8 +120,7 @@ module _ (sign : SignData) (items : List Meaning) (number : ℕ) (cell : CellDat
           elim (cases_Bool (is_own t)) [
             | inr apart ↦
                 let n = count_is false apart ∙ ap length (append-nil (own front)) in
-                inl (record { same' = rw puts (shown _ _ (other_leaves Words all s front t apart)); least = omega (arith, n);
-                    most = λ h. omega (arith, h, n) })
+                inl (record { same' = rw puts (shown _ _ (other_leaves Words all s front t apart)); least = omega (arith, n); most = λ h. omega (arith, h, n) })
             | inl m ↦
                 let n = count_is true m ∙ length_push (own front) t in
                 let within = has_place all s.at.area (page_number s.at.page_just) front rest t split m in
@@ -138,10 +137,10 @@ module _ (sign : SignData) (items : List Meaning) (number : ℕ) (cell : CellDat
                       let new_is = new_at ∙ get_or_at closed (dropped space) (open' ++ s ∷ []) t (length (own front)) (sym e) in
                       let is_t : is_space t ≡ true = grind (arith, laid_as Words all front rest t split, old_is, is_sp) in
                       let (area, just) = member_at s.at.area (page_number s.at.page_just) t m in
-                          let next : length closed < count (some ++ x ∷ []) = omega (arith, n, e) in
-                  let was = shown _ _ old_is ∙ rw (glyph_put space.at space.put (All-head (λ x. is_glyph x ≡ true) space open' glyphs)).0
-                  (space_shown sign.defaults (standing sign some) x put puts is_t) in
-                  inr (record { place = e; next = next; area = area; just = just; was = rw puts was; ends = rw puts (shown _ _ new_is) })
+                      let next : length closed < count (some ++ x ∷ []) = omega (arith, n, e) in
+                      let was = shown _ _ old_is ∙ rw (glyph_put space.at space.put (All-head (λ x. is_glyph x ≡ true) space open' glyphs)).0
+                      (space_shown sign.defaults (standing sign some) x put puts is_t) in
+                      inr (record { place = e; next = next; area = area; just = just; was = rw puts was; ends = rw puts (shown _ _ new_is) })
                 ]
           ]
     ]
@@ -186,8 +185,7 @@ module _ (sign : SignData) (items : List Meaning) (number : ℕ) (cell : CellDat
             | inl (early, alike) ↦
                 let was = before ∙ ap (λ y. each_after before' some ++ y ∷ []) breaks.was in
                 let are = after ∙ (λ i. alike i ++ breaks.ends i ∷ []) in
-                inr (record { late = breaks.next; front = some; item = x; more = []; behind = []; is = refl; breaks = breaks; was_all = was;
-                    are = are })
+                inr (record { late = breaks.next; front = some; item = x; more = []; behind = []; is = refl; breaks = breaks; was_all = was; are = are })
             | inr b ↦ absurd (omega (arith, b.late, breaks.place))
           ]
         ]
@@ -196,16 +194,15 @@ module _ (sign : SignData) (items : List Meaning) (number : ℕ) (cell : CellDat
     unfolding spots
     is_broken = elim (front_ind items SoFar (inl (omega arith, refl)) (λ some more x is h. one_more some more x is h) items []
         (sym (append-nil items))) [
-      | inl (early, alike) ↦ absurd (omega (arith, early, size, length-append closed (space ∷ open')))
-      | inr b ↦ b
-    ]
+          | inl (early, alike) ↦ absurd (omega (arith, early, size, length-append closed (space ∷ open')))
+          | inr b ↦ b
+        ]
 
     -- the character itself stands
     last_stands : after' items (Shows number) ≡ Shows number
     last_stands =
         let size' = length-append closed (space ∷ open') in
-        grind (arith, found, laid_new all [] s refl (own_member s refl), get_or_at (closed ++ dropped space ∷ open') s [] s (length (own all)), size,
-        size', length-append closed (dropped space ∷ open'), append_assoc)
+        grind (arith, found, laid_new all [] s refl (own_member s refl), get_or_at (closed ++ dropped space ∷ open') s [] s (length (own all)), size, size', length-append closed (dropped space ∷ open'), append_assoc)
 
     pub breaks_line : BreaksLine Words sign items (Shows number)
     breaks_line =
@@ -230,6 +227,6 @@ module _ (sign : SignData) (items : List Meaning) (number : ℕ) (cell : CellDat
           new_all ∙ ap (λ l. l ++ Shows number ∷ []) b.are ∙ append_assoc front (Does (NewLine None) ∷ b.behind) (Shows number ∷ []),
           ap (λ (h : Standing). h.area) here.0 ∙ b.breaks.area,
           ap (λ (h : Standing). h.page_just) here.0 ∙ same_page_just (standing sign b.front).page_just s.at.page_just b.breaks.just,
-          ap (count_by is_break) front_is ∙ omega (arith, sum_by-append (λ x. cond (is_break x) 1 0) closed (space ∷ open'),
-          length-filter is_break (space ∷ open'), ap length (glyph_none (space ∷ open') glyphs)) ∙ ap (count_by is_break) (sym whole_is),
+          ap (count_by is_break) front_is
+              ∙ omega (arith, sum_by-append (λ x. cond (is_break x) 1 0) closed (space ∷ open'), length-filter is_break (space ∷ open'), ap length (glyph_none (space ∷ open') glyphs)) ∙ ap (count_by is_break) (sym whole_is),
         )

@@ -82,9 +82,13 @@ module _ {X : Type 0} (p : X → Bool) where
       → (rest : List X) × (others : List (List X)) × (cut_behind p (xs ++ x ∷ ys) ≡ (cut xs).closed ++ ((cut xs).open' ++ x ∷ rest) ∷ others)
       × (p x ≡ true → rest ≡ [])
   cut_with_item xs x ys =
-      let (rest, others, is, ends) = first_of (p x) x (cut_behind p ys) in
-      (rest, others, cut_append xs (x ∷ ys) ∙ ap (λ l. (cut xs).closed ++ onto (cut xs).open' l) is
-      ∙ ap (λ l. (cut xs).closed ++ l) (onto-cons (cut xs).open' (x ∷ rest) others), ends)
+      let (rest, others, is, ends) = first_of (p x) x (cut_behind p ys) in (
+        rest,
+        others,
+        cut_append xs (x ∷ ys) ∙ ap (λ l. (cut xs).closed ++ onto (cut xs).open' l) is
+            ∙ ap (λ l. (cut xs).closed ++ l) (onto-cons (cut xs).open' (x ∷ rest) others),
+        ends,
+      )
 
   pub cut_push : (xs : List X) (x : X) → cut (xs ++ x ∷ []) ≡ cut_more (cut xs) x
   cut_push xs x = fold_push cut_more (record { closed = []; open' = [] }) xs x

@@ -46,14 +46,12 @@ module _ (sign : SignData) (items : List Meaning) where
     laid_more : laid Words (all ++ nl ∷ []) (all ++ nl ∷ []) ≡ laid Words all all ++ nl ∷ []
     laid_more =
         let more = items ++ Does (NewLine gap) ∷ [] in
-        grind (arith, spots_more sign items (Does (NewLine gap)) (Break gap) refl, are_laid Words sign more more [] (sym (append-nil more)),
-        laid_tag Words sign items (NewLine gap), spots_more sign laid_before (Does (NewLine gap)) (Break gap) refl, here)
+        grind (arith, spots_more sign items (Does (NewLine gap)) (Break gap) refl, are_laid Words sign more more [] (sym (append-nil more)), laid_tag Words sign items (NewLine gap), spots_more sign laid_before (Does (NewLine gap)) (Break gap) refl, here)
 
     too_big_laid_break : too_big Words all nl ≡ too_big Off (laid Words all all) nl
     too_big_laid_break =
         let placed = eq-eqb nl.at.area nl.at.area refl in
-        grind (arith, too_big_laid Words nl.at.rectangle.width all nl placed (same_width (Break gap)), laid_more,
-        one_more Words nl.at.rectangle.width nl.at.area (laid Words all all) nl, placed)
+        grind (arith, too_big_laid Words nl.at.rectangle.width all nl placed (same_width (Break gap)), laid_more, one_more Words nl.at.rectangle.width nl.at.area (laid Words all all) nl, placed)
 
   pub offends_as_laid : (tag : Tag) → offence Words sign items (Does tag) ≡ offence Off sign laid_before (Does tag)
   unfolding offence_by standing

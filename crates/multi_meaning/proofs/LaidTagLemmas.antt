@@ -52,7 +52,8 @@ module _ (setting : LineFill) (all : List Spot) (s : Spot) where
 
     -- a spot of its group, by its place in the filled group with the new one
     pub with_it : (some more : List Spot) (x : Spot) → all ++ s ∷ [] ≡ some ++ x ∷ more → is_member s.at.area (page_number s.at.page_just) x ≡ true
-        → laid_spot setting (all ++ s ∷ []) some x ≡ slice_index_or (filled (fill_at setting s.at) (group_of s (all ++ s ∷ []))) (length (group_of s some)) x
+        → laid_spot setting (all ++ s ∷ []) some x ≡ slice_index_or (filled (fill_at setting s.at) (group_of s (all ++ s ∷ [])))
+        (length (group_of s some)) x
     with_it =
         let same_more = All-push (λ (x : Spot). x.at.area ≡ s.at.area → fill_at setting x.at ≡ fill_at setting s.at) all s same (λ e. refl) in
         there setting (all ++ s ∷ []) s.at.area (page_number s.at.page_just) (fill_at setting s.at) same_more
@@ -112,9 +113,11 @@ module _ (setting : LineFill) (sign : SignData) (items : List Meaning) where
       let here = standing sign items in
       let all = spots sign items in
       let grows = ap (filled (fill_at setting here)) (members_push here.area (page_number here.page_just) all (spot_of put) true member) ∙ is in
-      laid_behind setting sign items x put y puts (placed_leaves setting all (spot_of put) same_fill y member grows) (laid_last setting all (spot_of put) same_fill y member grows)
+      laid_behind setting sign items x put y puts (placed_leaves setting all (spot_of put) same_fill y member grows)
+      (laid_last setting all (spot_of put) same_fill y member grows)
 
-  pub laid_tag : (tag : Tag) → laid_items setting sign (items ++ Does tag ∷ []) (items ++ Does tag ∷ []) ≡ laid_items setting sign items items ++ Does tag ∷ []
+  pub laid_tag : (tag : Tag) → laid_items setting sign (items ++ Does tag ∷ []) (items ++ Does tag ∷ [])
+      ≡ laid_items setting sign items items ++ Does tag ∷ []
   laid_tag (NewLine gap) =
       let here = standing sign items in
       let group = group_of (spot_of (Break gap)) (spots sign items) in
