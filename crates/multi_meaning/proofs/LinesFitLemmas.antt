@@ -67,10 +67,6 @@ pub lines_within : (height : ℕ) (area : List Spot) → area_fits height area �
     → length (lines_of (in_group 2 area)) + length (lines_of (in_group 3 area)) + length (lines_of (in_group 4 area)) ≤ height
 lines_within height area fits all =
     let tall = λ (just : ℕ). height_of (lines_of (in_group just area)) in
-    let most : (just : ℕ) → length (lines_of (in_group just area)) ≤ tall just = λ just.
-    omega (
-      arith,
-      sum_least line_height (lines_of (in_group just area))
-          (lines_high (in_group just area) (All-filter (λ t. page_number t.at.page_just == just) High area all)),
-    ) in
+    let high = λ (just : ℕ). lines_high (in_group just area) (All-filter (λ t. page_number t.at.page_just == just) High area all) in
+    let most : (just : ℕ) → length (lines_of (in_group just area)) ≤ tall just = λ just. omega (arith, sum_least line_height (lines_of (in_group just area)) (high just)) in
     omega (arith, most 2, most 3, most 4, fit_each (tall 2) (tall 3) (tall 4) height fits)

@@ -17,12 +17,9 @@ use Rattle.multi_meaning.proofs.WordLemmas.{some_after-append, some_after_push}
 pub one_verdict : OneVerdict
 unfolding verdict
 one_verdict sign octets v = (
-  (λ (items, rest, read, is). grind (
-    arith,
-    is,
-    one_reading octets items (reading octets).items rest (reading octets).rest read
-        (each_string_has_a_reading octets),
-  )),
+  (λ (items, rest, read, is).
+      let same = one_reading octets items (reading octets).items rest (reading octets).rest read (each_string_has_a_reading octets) in
+      grind (arith, is, same)),
   (λ is. ((reading octets).items, (reading octets).rest, each_string_has_a_reading octets, is)),
 )
 
@@ -71,12 +68,8 @@ pub refusal_stands : RefusalStands
 unfolding verdict verdict_on
 refusal_stands sign octets code at e closed more =
     let read = each_string_has_a_reading octets in
-    grind (
-      arith,
-      stands_by sign (reading octets).items (reading octets).rest
-          (offences sign (reading octets).items) code at read.each read.ends refl e (subst (λ l. ¬ (IsOpen (drop at l))) read.spelled closed) more,
-      read.spelled,
-    )
+    let closed' = subst (λ l. ¬ (IsOpen (drop at l))) read.spelled closed in
+    grind (arith, stands_by sign (reading octets).items (reading octets).rest (offences sign (reading octets).items) code at read.each read.ends refl e closed' more, read.spelled)
 
 -- as many are meant as are read
 pub length-meanings : (items : List Item) → length (map meaning items) ≡ length items
