@@ -1,6 +1,5 @@
 -- What an accepted string is, by its one reading.
-use native.Mathlib.Omega.{arith}
-use Rattle.std.proofs.Common.{◌≡◌, ℕ, ◌^◌, ◌<◌, List, map, length, ap, ◌∙◌, append-nil}
+use Rattle.std.proofs.Common.{◌≡◌, ℕ, ◌^◌, ◌<◌, List, map, length, ap, ◌∙◌, append-nil, arith}
 use Rattle.multi_token.specs.Reading.{reading}
 use Rattle.multi_token.proofs.SpellingLemmas.{one_reading}
 use Rattle.multi_token.proofs.ReadingLemmas.{each_string_has_a_reading}

@@ -60,6 +60,5 @@ a_rectangle_begins_and_ends_inside_the_sign = refl
 
 -- a rectangle is counted from 1, may be of 1 pixel, or of all that remains
 rectangles : rectangle sample 3 2 4 5 ∷ rectangle sample 3 2 1 1 ∷ rectangle sample 3 2 0 0 ∷ []
-    ≡ record { left = 2; top = 1; width = 4; height = 5 } ∷ record { left = 2; top = 1; width = 1; height = 1 } ∷ record { left = 2; top = 1;
-        width = 10; height = 6 } ∷ []
+    ≡ record { left = 2; top = 1; width = 4; height = 5 } ∷ record { left = 2; top = 1; width = 1; height = 1 } ∷ record { left = 2; top = 1; width = 10; height = 6 } ∷ []
 rectangles = refl

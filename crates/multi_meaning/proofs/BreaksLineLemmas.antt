@@ -15,19 +15,18 @@ use Rattle.sign_font.specs.declared.parts.LineFill.TheVariants.{Words}
 use Rattle.sign_font.specs.Sign.{SignData, CellData, cell_numbered}
 use Rattle.multi_meaning.specs.Address.{Glyph, Put, Spot, Standing, is_break, is_glyph, put_at, spots, standing}
 use Rattle.multi_meaning.specs.Filling.{dropped, filled, is_space}
-use Rattle.multi_meaning.specs.Laid.{fill_at, laid_spot}
+use Rattle.multi_meaning.specs.Laid.{laid_spot}
 use Rattle.multi_meaning.specs.LaidItems.{laid_items, laid_of}
 use Rattle.multi_meaning.specs.Meaning.{Does, Meaning, Shows}
 use Rattle.multi_meaning.specs.Words.{each_after}
 use Rattle.multi_meaning.proofs.FoundLemmas.{found_cell}
 use Rattle.multi_meaning.proofs.GroupLemmas.{glyph_put}
-use Rattle.multi_meaning.proofs.FilledTagLemmas.{same_width}
 use Rattle.multi_meaning.proofs.GroupLaidLemmas.{HasFill, group_laid, group_whole, has_place, is_member, laid_as, member_at, members, members_push, own_member, there, whole_length}
 use Rattle.multi_meaning.proofs.LaidItemLemmas.{are_laid}
 use Rattle.multi_meaning.proofs.LaidLemmas.{glyph_none}
-use Rattle.multi_meaning.proofs.LaidTagLemmas.{among, other_leaves}
+use Rattle.multi_meaning.proofs.LaidTagLemmas.{among, other_leaves, same_fill, with_it}
 use Rattle.multi_meaning.proofs.SpotsLemmas.{spots_behind, spots_more, spots_nothing, spots_split, spots_with}
-use Rattle.multi_meaning.proofs.WordLemmas.{All-split, cases_Option, each_after_push, front_ind}
+use Rattle.multi_meaning.proofs.WordLemmas.{cases_Option, each_after_push, front_ind}
 
 -- an item that puts a space shows 32
 pub space_shown : (defaults : Defaults) (here : Standing) (x : Meaning) (put : Put) → put_at defaults here x ≡ Some put → is_space (record { at = here; put = put }) ≡ true → x ≡ Shows 32
@@ -66,14 +65,8 @@ module _ (sign : SignData) (items : List Meaning) (number : ℕ) (cell : CellDat
   abbrev is_own : Spot → Bool
   is_own x = is_member s.at.area (page_number s.at.page_just) x
 
-  abbrev ended : List Spot → ℕ
-  ended l = count_by is_break (own l)
-
-  same_more : HasFill Words (Some width) s.at.area (all ++ s ∷ [])
-  same_more = same_width sign items (Glyph cell)
-
   same : HasFill Words (Some width) s.at.area all
-  same = (All-split (λ (x : Spot). x.at.area ≡ s.at.area → fill_at Words x.at ≡ Some width) all s same_more).0
+  same = same_fill Words sign items
 
   -- how many spots of its group these items put
   abbrev count : List Meaning → ℕ
@@ -90,7 +83,7 @@ module _ (sign : SignData) (items : List Meaning) (number : ℕ) (cell : CellDat
       (new : filled (Some width) (own (all ++ s ∷ [])) ≡ closed ++ dropped space ∷ (open' ++ s ∷ [])) (is_sp : is_space space ≡ true) (glyphs : AllPass is_glyph (space ∷ open')) where
     laid_new : (some behind : List Spot) (x : Spot) → all ++ s ∷ [] ≡ some ++ x ∷ behind → is_own x ≡ true
         → laid_spot Words (all ++ s ∷ []) some x ≡ slice_index_or (closed ++ dropped space ∷ (open' ++ s ∷ [])) (length (own some)) x
-    laid_new some behind x is m = there Words (all ++ s ∷ []) s.at.area (page_number s.at.page_just) (Some width) same_more some behind x is m
+    laid_new some behind x is m = with_it Words all s same some behind x is m
         ∙ ap (λ l. slice_index_or l (length (own some)) x) new
 
     size : length (own all) ≡ length (closed ++ space ∷ open')
@@ -127,8 +120,7 @@ module _ (sign : SignData) (items : List Meaning) (number : ℕ) (cell : CellDat
           elim (cases_Bool (is_own t)) [
             | inr apart ↦
                 let n = count_is false apart ∙ ap length (append-nil (own front)) in
-                inl (record { same' = rw puts (shown _ _ (other_leaves Words all s front t apart)); least = omega (arith, n);
-                    most = λ h. omega (arith, h, n) })
+                inl (record { same' = rw puts (shown _ _ (other_leaves Words all s front t apart)); least = omega (arith, n); most = λ h. omega (arith, h, n) })
             | inl m ↦
                 let n = count_is true m ∙ length_push (own front) t in
                 let within = has_place all s.at.area (page_number s.at.page_just) front rest t split m in
@@ -145,10 +137,10 @@ module _ (sign : SignData) (items : List Meaning) (number : ℕ) (cell : CellDat
                       let new_is = new_at ∙ get_or_at closed (dropped space) (open' ++ s ∷ []) t (length (own front)) (sym e) in
                       let is_t : is_space t ≡ true = grind (arith, laid_as Words all front rest t split, old_is, is_sp) in
                       let (area, just) = member_at s.at.area (page_number s.at.page_just) t m in
-                          let next : length closed < count (some ++ x ∷ []) = omega (arith, n, e) in
-                  let was = shown _ _ old_is ∙ rw (glyph_put space.at space.put (All-head (λ x. is_glyph x ≡ true) space open' glyphs)).0
-                  (space_shown sign.defaults (standing sign some) x put puts is_t) in
-                  inr (record { place = e; next = next; area = area; just = just; was = rw puts was; ends = rw puts (shown _ _ new_is) })
+                      let next : length closed < count (some ++ x ∷ []) = omega (arith, n, e) in
+                      let was = shown _ _ old_is ∙ rw (glyph_put space.at space.put (All-head (λ x. is_glyph x ≡ true) space open' glyphs)).0
+                      (space_shown sign.defaults (standing sign some) x put puts is_t) in
+                      inr (record { place = e; next = next; area = area; just = just; was = rw puts was; ends = rw puts (shown _ _ new_is) })
                 ]
           ]
     ]
@@ -193,30 +185,28 @@ module _ (sign : SignData) (items : List Meaning) (number : ℕ) (cell : CellDat
             | inl (early, alike) ↦
                 let was = before ∙ ap (λ y. each_after before' some ++ y ∷ []) breaks.was in
                 let are = after ∙ (λ i. alike i ++ breaks.ends i ∷ []) in
-                inr (record { late = breaks.next; front = some; item = x; more = []; behind = []; is = refl; breaks = breaks; was_all = was;
-                    are = are })
+                inr (record { late = breaks.next; front = some; item = x; more = []; behind = []; is = refl; breaks = breaks; was_all = was; are = are })
             | inr b ↦ absurd (omega (arith, b.late, breaks.place))
           ]
         ]
 
-    broken : Broken items
+    is_broken : Broken items
     unfolding spots
-    broken = elim (front_ind items SoFar (inl (omega arith, refl)) (λ some more x is h. one_more some more x is h) items []
+    is_broken = elim (front_ind items SoFar (inl (omega arith, refl)) (λ some more x is h. one_more some more x is h) items []
         (sym (append-nil items))) [
-      | inl (early, alike) ↦ absurd (omega (arith, early, size, length-append closed (space ∷ open')))
-      | inr b ↦ b
-    ]
+          | inl (early, alike) ↦ absurd (omega (arith, early, size, length-append closed (space ∷ open')))
+          | inr b ↦ b
+        ]
 
     -- the character itself stands
     last_stands : after' items (Shows number) ≡ Shows number
     last_stands =
         let size' = length-append closed (space ∷ open') in
-        grind (arith, found, laid_new all [] s refl (own_member s refl), get_or_at (closed ++ dropped space ∷ open') s [] s (length (own all)), size,
-        size', length-append closed (dropped space ∷ open'), append_assoc)
+        grind (arith, found, laid_new all [] s refl (own_member s refl), get_or_at (closed ++ dropped space ∷ open') s [] s (length (own all)), size, size', length-append closed (dropped space ∷ open'), append_assoc)
 
     pub breaks_line : BreaksLine Words sign items (Shows number)
     breaks_line =
-        let b = broken in
+        let b = is_broken in
         let front = each_after before' b.front in
         let old_items = laid_items Words sign items items in
         let here = are_laid Words sign items b.front (b.item ∷ b.more) b.is in
@@ -237,6 +227,6 @@ module _ (sign : SignData) (items : List Meaning) (number : ℕ) (cell : CellDat
           new_all ∙ ap (λ l. l ++ Shows number ∷ []) b.are ∙ append_assoc front (Does (NewLine None) ∷ b.behind) (Shows number ∷ []),
           ap (λ (h : Standing). h.area) here.0 ∙ b.breaks.area,
           ap (λ (h : Standing). h.page_just) here.0 ∙ same_page_just (standing sign b.front).page_just s.at.page_just b.breaks.just,
-          ap (count_by is_break) front_is ∙ omega (arith, sum_by-append (λ x. cond (is_break x) 1 0) closed (space ∷ open'),
-          length-filter is_break (space ∷ open'), ap length (glyph_none (space ∷ open') glyphs)) ∙ ap (count_by is_break) (sym whole_is),
+          ap (count_by is_break) front_is
+              ∙ omega (arith, sum_by-append (λ x. cond (is_break x) 1 0) closed (space ∷ open'), length-filter is_break (space ∷ open'), ap length (glyph_none (space ∷ open') glyphs)) ∙ ap (count_by is_break) (sym whole_is),
         )

@@ -1,8 +1,7 @@
 -- A list cut behind each item that passes a test, at one more item.
 use Rattle.std.proofs.lemmas.List.{append-nil}
 use Rattle.std.proofs.lemmas.Bool.Decides.{nat_tests}
-use native.Mathlib.Omega.{arith}
-use Rattle.std.proofs.Common.{◌≡◌, inl, inr, Bool, true, false, cond, List, [], ◌∷◌, ◌++◌, refl, sym, ap, ◌∙◌, append_assoc}
+use Rattle.std.proofs.Common.{◌≡◌, inl, inr, Bool, true, false, cond, List, [], ◌∷◌, ◌++◌, refl, sym, ap, ◌∙◌, append_assoc, arith}
 use Rattle.std.specs.List.{All, fold, onto_first}
 use Rattle.std.proofs.lemmas.Bool.{cases_Bool, false≢true}
 use Rattle.std.proofs.lemmas.List.Sums.{fold-append, fold_push}
@@ -83,9 +82,13 @@ module _ {X : Type 0} (p : X → Bool) where
       → (rest : List X) × (others : List (List X)) × (cut_behind p (xs ++ x ∷ ys) ≡ (cut xs).closed ++ ((cut xs).open' ++ x ∷ rest) ∷ others)
       × (p x ≡ true → rest ≡ [])
   cut_with_item xs x ys =
-      let (rest, others, is, ends) = first_of (p x) x (cut_behind p ys) in
-      (rest, others, cut_append xs (x ∷ ys) ∙ ap (λ l. (cut xs).closed ++ onto (cut xs).open' l) is
-      ∙ ap (λ l. (cut xs).closed ++ l) (onto-cons (cut xs).open' (x ∷ rest) others), ends)
+      let (rest, others, is, ends) = first_of (p x) x (cut_behind p ys) in (
+        rest,
+        others,
+        cut_append xs (x ∷ ys) ∙ ap (λ l. (cut xs).closed ++ onto (cut xs).open' l) is
+            ∙ ap (λ l. (cut xs).closed ++ l) (onto-cons (cut xs).open' (x ∷ rest) others),
+        ends,
+      )
 
   pub cut_push : (xs : List X) (x : X) → cut (xs ++ x ∷ []) ≡ cut_more (cut xs) x
   cut_push xs x = fold_push cut_more (record { closed = []; open' = [] }) xs x

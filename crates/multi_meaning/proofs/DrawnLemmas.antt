@@ -42,7 +42,7 @@ covered_put sign page phase colour all column row before x put puts =
     ∙ elim (cases_Option (thing_at phase (place_of (spots sign before) all s) s put)) [
       | inl none ↦ rw none (ap (λ l. shown_colour sign (colour_of sign.defaults l page column row) == colour) (append-nil old))
       | inr (t, is) ↦ rw is (ap (λ c. shown_colour sign c == colour) (colour_push sign.defaults old t page column row)
-        ∙ elim (cases_Bool (covers_at t page column row)) [ inl e ↦ rw e refl | inr e ↦ rw e refl ])
+          ∙ elim (cases_Bool (covers_at t page column row)) [ inl e ↦ rw e refl | inr e ↦ rw e refl ])
     ]
 
 module _ (sign : SignData) (phase colour : ℕ) (all : List Spot) (column row : ℕ) where
@@ -53,8 +53,8 @@ module _ (sign : SignData) (phase colour : ℕ) (all : List Spot) (column row : 
   begins_next : (earlier : List Meaning) → HasBackground (earlier ++ Does NewPage ∷ [])
   begins_next earlier =
       let at = standing sign earlier in
-      grind (arith, standing_push sign earlier (Does NewPage), covered_put sign (at.page + 1) phase colour all column row earlier (Does NewPage)
-      (Cover (at.page + 1) at.back) refl, eq-eqb)
+      let put = covered_put sign (at.page + 1) phase colour all column row earlier (Does NewPage) (Cover (at.page + 1) at.back) refl in
+      grind (arith, standing_push sign earlier (Does NewPage), put, eq-eqb)
 
   -- where a page begins, every pixel has it
   pub covered_begins : (before : List Meaning) → BeginsPage before
@@ -74,16 +74,15 @@ module _ (sign : SignData) (phase colour : ℕ) (all : List Spot) (column row : 
       (has_colour sign at.page phase colour all (spots sign before) column row)
   covered_glyph before number cell found =
       let at = standing sign before in
-      grind (arith, covered_put sign at.page phase colour all column row before (Shows number) (Glyph cell) (ap (option_map Glyph) found),
-      eq-eqb at.page at.page refl)
+      grind (arith, covered_put sign at.page phase colour all column row before (Shows number) (Glyph cell) (ap (option_map Glyph) found), eq-eqb at.page at.page refl)
 
   -- after a background every pixel of its page has it
   pub covered_cover : (before : List Meaning) (given : Option ℕ)
       → has_colour sign (standing sign before).page phase colour all (spots sign (before ++ Does (Back given) ∷ [])) column row ≡ (shown_colour sign (unwrap_or given sign.defaults.back) == colour)
   covered_cover before given =
       let at = standing sign before in
-      grind (arith, covered_put sign at.page phase colour all column row before (Does (Back given))
-      (Cover at.page (unwrap_or given sign.defaults.back)) refl, eq-eqb at.page at.page refl)
+      let put = covered_put sign at.page phase colour all column row before (Does (Back given)) (Cover at.page (unwrap_or given sign.defaults.back)) refl in
+      grind (arith, put, eq-eqb at.page at.page refl)
 
   -- an item that puts nothing, or ends a line, leaves every pixel of every page
   pub covered_same : (before : List Meaning) (x : Meaning) (page : ℕ)

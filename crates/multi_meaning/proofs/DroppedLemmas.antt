@@ -17,9 +17,7 @@ use Rattle.std.proofs.lemmas.Bool.Decides.{nat_tests}
 -- what stands behind an item of a segment makes it no narrower
 wider : (j : ℕ) (open' rest : List Spot) (y : Spot) → is_glyph y ≡ true → line_number y.at.line_just ≡ j → 1 ≤ glyph_width y → width_of (segment j open') < width_of (segment j (open' ++ y ∷ rest))
 wider j open' rest y glyph just wide =
-    grind (arith, nat_tests, filter-append (λ t. is_glyph t && (line_number t.at.line_just == j)) open' (y ∷ rest),
-    extent_push glyph_width char_gap (segment j open') y, extent-append-le glyph_width char_gap (segment j rest) (segment j open' ++ y ∷ []),
-    append_assoc)
+    grind (arith, nat_tests, filter-append (λ t. is_glyph t && (line_number t.at.line_just == j)) open' (y ∷ rest), extent_push glyph_width char_gap (segment j open') y, extent-append-le glyph_width char_gap (segment j rest) (segment j open' ++ y ∷ []), append_assoc)
 
 -- an item of a laid group ends its line exactly where the segment in which it would stand is as wide before it as on that line
 pub full_known : (j : ℕ) (front : List Spot) (y : Spot) (back : List Spot) → IsPlacing y → (is_glyph y ≡ true → (line_number y.at.line_just ≡ j) × (1 ≤ glyph_width y))

@@ -1,5 +1,4 @@
 -- One more item keeps every break of filling, and adds at most one, on its line.
-use native.Mathlib.Omega.{arith}
 use Rattle.std.proofs.Common.{◌≡◌, ◌⊎◌, inl, inr, ℕ, true, false, map, List, [], ◌∷◌, ◌++◌, Option, Some, None, refl, sym, ap, subst, ◌∙◌, append_assoc, append-nil, option_map, arith}
 use Rattle.std.specs.List.{All, AllPass}
 use Rattle.std.proofs.lemmas.Bool.{cases_Bool, eqb-true}
@@ -57,8 +56,7 @@ module _ (sign : SignData) (items : List Meaning) (number : ℕ) (cell : CellDat
   dropped_itself space new =
       let here = (are_laid Words sign items items [] (sym (append-nil items))).0 in
       let is : number ≡ 32 = eqb-true number 32 (sym (spaces_is sign items number cell found) ∙ space) in
-      inr (laid_items Words sign items items, [], ap (λ n. laid_items Words sign items items ++ Shows n ∷ []) is, new,
-      ap (λ (h : Standing). h.area) here, ap (λ (h : Standing). h.page_just) here, refl)
+      inr (laid_items Words sign items items, [], ap (λ n. laid_items Words sign items items ++ Shows n ∷ []) is, new, ap (λ (h : Standing). h.area) here, ap (λ (h : Standing). h.page_just) here, refl)
 
   -- the line is broken at its last space
   broken : line_fits w (open_line w g) ≡ true → (k : CutAt Spot) → line_fits w (open_line w g ++ c ∷ []) ≡ false → is_space c ≡ false → cut_at_last is_space (open_line w g) ≡ Some k → Kept Words sign items (Shows number)

@@ -1,5 +1,5 @@
 -- Filling at one more character: every break is kept, and at most one is added, in the last line.
-use Rattle.std.proofs.Common.{◌≡◌, inl, inr, ℕ, ◌+◌, ◌<◌, ◌≤◌, true, false, cond, ◌&&◌, List, [], ◌∷◌, ◌++◌, length, take, drop, Option, Some, None, zero, suc, refl, sym, ap, ◌∙◌, arith, length-append, append_assoc, append-nil, nat_le, option_map}
+use Rattle.std.proofs.Common.{◌≡◌, inl, inr, ℕ, ◌+◌, ◌<◌, ◌≤◌, true, false, cond, ◌&&◌, List, [], ◌∷◌, ◌++◌, length, take, Option, Some, None, zero, suc, refl, ap, arith, length-append, append_assoc, append-nil, nat_le, option_map}
 use Rattle.std.proofs.lemmas.Bool.{false≢true, false_from_ne_true}
 use Rattle.std.proofs.lemmas.Bool.Decides.{nat_tests}
 use Rattle.std.proofs.lemmas.List.{take_all, drop_all, take-append-le, drop-append-le, take-append-drop}
@@ -30,9 +30,6 @@ module _ (width : ℕ) where
   abbrev most : List Spot → ℕ
   most cs = length (longest_prefix (line_fits width) cs) + 1
 
-  abbrev cut_wide : ℕ → List Spot → Option (CutAt Spot)
-  cut_wide n cs = option_map (longer (drop n cs)) (cut_at_last is_space (take n cs))
-
   pub broken_fits : (cs : List Spot) → line_fits width cs ≡ true → soft_break width cs ≡ None
   broken_fits cs h = rw h refl
 
@@ -41,11 +38,8 @@ module _ (width : ℕ) where
 
   -- a later one leaves the break
   pub broken_later : (cs : List Spot) (s : Spot) → line_fits width cs ≡ false → soft_break width (cs ++ s ∷ []) ≡ option_map (longer (s ∷ [])) (soft_break width cs)
-  broken_later cs s wide = grind (arith, false_from_ne_true, false≢true, nat_tests, segment_front, longest_push, longest_short, drop-append-le,
-      take-append-le, longer_twice)
-
-  pub broken_is_wide : (cs : List Spot) (c : CutAt Spot) → soft_break width cs ≡ Some c → line_fits width cs ≡ false
-  broken_is_wide cs c e = false_from_ne_true (line_fits width cs) (λ fits. let wrong : ◌≡◌ {A = Option (CutAt Spot)} None (Some c) = sym (broken_fits cs fits) ∙ e in cc)
+  broken_later cs s wide =
+      grind (arith, false_from_ne_true, false≢true, nat_tests, segment_front, longest_push, longest_short, drop-append-le, take-append-le, longer_twice)
 
   -- what is broken off are the characters, less nothing
   pub broken_parts : (cs : List Spot) (c : CutAt Spot) → soft_break width cs ≡ Some c → cs ≡ c.before ++ c.item ∷ c.behind
@@ -76,7 +70,7 @@ module _ (width : ℕ) where
   -- what holds of characters that stay together, and of broken ones if it does of the rest, holds of all
   pub fill_ind : (P : List Spot → Filled → Type 0) → ((cs : List Spot) → P cs (record { closed = []; open' = cs }))
       → ((cs : List Spot) (c : CutAt Spot) (f : Filled) → cs ≡ c.before ++ c.item ∷ c.behind → P c.behind f
-          → P cs (record { closed = c.before ++ dropped c.item ∷ f.closed; open' = f.open' })) → (n : ℕ) (cs : List Spot) → P cs (parts n cs)
+      → P cs (record { closed = c.before ++ dropped c.item ∷ f.closed; open' = f.open' })) → (n : ℕ) (cs : List Spot) → P cs (parts n cs)
   fill_ind P still broken zero cs = still cs
   fill_ind P still broken (suc n) cs = elim (cases_Option (soft_break width cs)) [
     | inl none ↦ rw none (still cs)
@@ -109,8 +103,8 @@ module _ (width : ℕ) where
   rest_still n line = grind (arith, fill_still n, is_cut is_space line)
 
   last_line : (n : ℕ) (cs : List Spot) (s : Spot) → line_fits width cs ≡ true → broken_off (fill n width) (cs ++ s ∷ []) (soft_break width (cs ++ s ∷ [])) ≡ relaid (cs ++ s ∷ [])
-  last_line n cs s fits = grind (arith, broken_fits (cs ++ s ∷ []), longest_push, longest_all, length-append, drop_all, take_all, append-nil,
-      rest_still n (cs ++ s ∷ []))
+  last_line n cs s fits =
+      grind (arith, broken_fits (cs ++ s ∷ []), longest_push, longest_all, length-append, drop_all, take_all, append-nil, rest_still n (cs ++ s ∷ []))
 
   -- one more character behind characters whose last line fits: every break is kept, and the last line is broken at its last space
   -- where it no longer fits
@@ -119,6 +113,6 @@ module _ (width : ℕ) where
   fill_push zero cs s h fits = absurd (omega (arith, h))
   fill_push (suc n) cs s h fits = elim (cases_Option (soft_break width cs)) [
     | inl none ↦ grind (arith, none, last_line n cs s, fits)
-    | inr (c, some) ↦ grind (arith, some, broken_later cs s (broken_is_wide cs c some), fill_push n c.behind s (omega (arith, shorter cs c some, h)),
-        fits, append_assoc)
+    | inr (c, some) ↦
+        grind (arith, some, broken_later cs s, broken_fits cs, fill_push n c.behind s (omega (arith, shorter cs c some, h)), fits, append_assoc)
   ]

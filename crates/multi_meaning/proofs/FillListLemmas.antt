@@ -27,13 +27,13 @@ longest_short p xs some = push_ind (λ xs. p xs ≡ false → length (longest_pr
 
 -- A CUT AT THE LAST
 
-abbrev pub cut_more : {X : Type 0} → Bool → List X → X → Option (CutAt X) → Option (CutAt X)
-cut_more b xs x o = cond b (Some (record { before = xs; item = x; behind = [] })) (option_map (longer (x ∷ [])) o)
+abbrev pub last_more : {X : Type 0} → Bool → List X → X → Option (CutAt X) → Option (CutAt X)
+last_more b xs x o = cond b (Some (record { before = xs; item = x; behind = [] })) (option_map (longer (x ∷ [])) o)
 
 module _ {X : Type 0} (p : X → Bool) where
-  pub cut_push : (xs : List X) (x : X) → cut_at_last p (xs ++ x ∷ []) ≡ cut_more (p x) xs x (cut_at_last p xs)
-  cut_push [] x = grind arith
-  cut_push (y ∷ xs) x = grind (arith, cut_push xs x)
+  pub last_push : (xs : List X) (x : X) → cut_at_last p (xs ++ x ∷ []) ≡ last_more (p x) xs x (cut_at_last p xs)
+  last_push [] x = grind arith
+  last_push (y ∷ xs) x = grind (arith, last_push xs x)
 
   -- a cut gives the list's parts, and none that passes stands behind
   pub record IsCut (xs : List X) (c : CutAt X) : Type 0 where

@@ -26,7 +26,4 @@ broken_line width g s placing glyph fits c wide word found =
     let front = ended width g in
     let glyphs = open_line_glyphs width g placing in
     let (before, behind) = glyphs_around c.before c.item c.behind (subst (AllPass is_glyph) (is_cut is_space (open_line width g) c found).parts glyphs) in
-    grind (arith, breaks width g s placing glyph fits c wide word found, ended_glyphs front c.before before, filled_is width g placing,
-    ended_glyphs front (open_line width g) glyphs, after_last_is, cut_with c.before front before, ends_open width front (ended_ends width g placing),
-    ended_glyphs ((front ++ c.before) ++ dropped c.item ∷ []) (c.behind ++ s ∷ []) (All-push (λ x. is_glyph x ≡ true) c.behind s behind glyph),
-    ended_break (front ++ c.before) (dropped c.item) refl)
+    grind (arith, breaks width g s placing glyph fits c wide word found, ended_glyphs front c.before before, filled_is width g placing, ended_glyphs front (open_line width g) glyphs, after_last_is, cut_with c.before front before, ends_open width front (ended_ends width g placing), ended_glyphs ((front ++ c.before) ++ dropped c.item ∷ []) (c.behind ++ s ∷ []) (All-push (λ x. is_glyph x ≡ true) c.behind s behind glyph), ended_break (front ++ c.before) (dropped c.item) refl)

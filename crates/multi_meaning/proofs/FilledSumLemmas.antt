@@ -5,7 +5,7 @@ use Rattle.multi_meaning.specs.Address.{Spot, is_glyph}
 use Rattle.multi_meaning.specs.Fit.{line_fits}
 use Rattle.multi_meaning.specs.kept.Present.{IsPlacing}
 use Rattle.multi_meaning.specs.Filling.{CutAt, cut_at_last, is_space, dropped, longer, filled}
-use Rattle.multi_meaning.proofs.FillListLemmas.{cut_push}
+use Rattle.multi_meaning.proofs.FillListLemmas.{last_push}
 use Rattle.multi_meaning.proofs.FillLemmas.{relaid}
 use Rattle.multi_meaning.proofs.LaidLemmas.{ended, open_line, filled_is, filled_character}
 
@@ -13,10 +13,10 @@ use Rattle.multi_meaning.proofs.LaidLemmas.{ended, open_line, filled_is, filled_
 
 -- the parts around a line's last space, at one more character: a space begins a new word, another character lengthens the last
 pub word_begins : (line : List Spot) (s : Spot) → is_space s ≡ true → cut_at_last is_space (line ++ s ∷ []) ≡ Some (record { before = line; item = s; behind = [] })
-word_begins line s space = cut_push is_space line s ∙ rw space refl
+word_begins line s space = last_push is_space line s ∙ rw space refl
 
 pub word_grows : (line : List Spot) (s : Spot) (o : Option (CutAt Spot)) → is_space s ≡ false → cut_at_last is_space line ≡ o → cut_at_last is_space (line ++ s ∷ []) ≡ option_map (longer (s ∷ [])) o
-word_grows line s o word e = cut_push is_space line s ∙ rw (word, e) refl
+word_grows line s o word e = last_push is_space line s ∙ rw (word, e) refl
 
 -- THE OPEN LINE WITH ONE MORE CHARACTER
 

@@ -1,6 +1,5 @@
 -- A tag offends behind some items, where lines are filled, just where it does behind the items as they are laid out.
-use native.Mathlib.Omega.{arith}
-use Rattle.std.proofs.Common.{◌≡◌, ℕ, List, [], ◌∷◌, ◌++◌, Option, Some, refl, sym, append-nil, eq-eqb}
+use Rattle.std.proofs.Common.{◌≡◌, ℕ, List, [], ◌∷◌, ◌++◌, Option, Some, refl, sym, append-nil, eq-eqb, arith}
 use Rattle.std.specs.List.{list_any}
 use Rattle.std.proofs.lemmas.List.Elements.{All-push}
 use Rattle.multi_tag.specs.declared.tag.Tag.{Tag}
@@ -44,21 +43,16 @@ module _ (sign : SignData) (items : List Meaning) where
     goes_back_laid = grind (arith, group_goes_back, largest_laid Words nl.at.rectangle.width nl.at.area all all [] (sym (append-nil all)))
 
     -- the spots with it are laid as those before it, and it
-    laid_with : laid Words (all ++ nl ∷ []) (all ++ nl ∷ []) ≡ laid Words all all ++ nl ∷ []
-    laid_with =
+    laid_more : laid Words (all ++ nl ∷ []) (all ++ nl ∷ []) ≡ laid Words all all ++ nl ∷ []
+    laid_more =
         let more = items ++ Does (NewLine gap) ∷ [] in
-        grind (arith, spots_more sign items (Does (NewLine gap)) (Break gap) refl, are_laid Words sign more more [] (sym (append-nil more)),
-        laid_tag Words sign items (NewLine gap), spots_more sign laid_before (Does (NewLine gap)) (Break gap) refl, here)
+        grind (arith, spots_more sign items (Does (NewLine gap)) (Break gap) refl, are_laid Words sign more more [] (sym (append-nil more)), laid_tag Words sign items (NewLine gap), spots_more sign laid_before (Does (NewLine gap)) (Break gap) refl, here)
 
     too_big_laid_break : too_big Words all nl ≡ too_big Off (laid Words all all) nl
     too_big_laid_break =
         let placed = eq-eqb nl.at.area nl.at.area refl in
-        grind (arith, too_big_laid Words nl.at.rectangle.width all nl placed (same_width (Break gap)), laid_with,
-        one_more Words nl.at.rectangle.width nl.at.area (laid Words all all) nl, placed)
+        grind (arith, too_big_laid Words nl.at.rectangle.width all nl placed (same_width (Break gap)), laid_more, one_more Words nl.at.rectangle.width nl.at.area (laid Words all all) nl, placed)
 
-  abbrev OffendsAsLaid : Tag → Type 0
-  OffendsAsLaid tag = offence Words sign items (Does tag) ≡ offence Off sign laid_before (Does tag)
-
-  pub offends_as_laid : (tag : Tag) → OffendsAsLaid tag
+  pub offends_as_laid : (tag : Tag) → offence Words sign items (Does tag) ≡ offence Off sign laid_before (Does tag)
   unfolding offence_by standing
   offends_as_laid tag = grind (arith, goes_back_laid, too_big_laid_break, here)

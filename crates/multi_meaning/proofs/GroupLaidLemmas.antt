@@ -94,9 +94,8 @@ module _ (setting : LineFill) (all : List Spot) where
     group_laid = front_ind all (λ some. members a j (laid setting all some) ≡ take (length (members a j some)) whole) refl (λ some more x is ih.
         let y = laid_spot setting all some x in
         let push = members_push a j (laid setting all some) y (is_member a j y) refl in
-        ap (members a j) (each_after_push (laid_spot setting all) some x) ∙ grind (arith, push, same_member a j x y (laid_as some more x is), ih,
-        there some more x is, take_more whole (length (members a j some)) x, has_place all a j some more x is, whole_length,
-        length_push (members a j some) x, members_push a j some x (is_member a j x) refl, append-nil))
+        ap (members a j) (each_after_push (laid_spot setting all) some x)
+        ∙ grind (arith, push, same_member a j x y (laid_as some more x is), ih, there some more x is, take_more whole (length (members a j some)) x, has_place all a j some more x is, whole_length, length_push (members a j some) x, members_push a j some x (is_member a j x) refl, append-nil))
 
     -- all of them are the group, filled
     pub group_whole : members a j (laid setting all all) ≡ filled fill (members a j all)

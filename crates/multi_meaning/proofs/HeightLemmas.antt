@@ -47,14 +47,12 @@ module _ (P : List Spot → List (List Spot) → Type 0) (none : P [] [])
       let h = ih (All-split IsPlacing group s all).0 in
       let line = c.open' ++ s ∷ [] in
       let is = ap (λ l. l ++ s ∷ []) h.is ∙ append_assoc h.before c.open' (s ∷ []) ∙ sym (append-nil (h.before ++ line)) in
-      record { before = h.before ++ line; is = is; glyphs = All-nil (λ x. is_glyph x ≡ true);
-          holds = more h.before c.closed c.open' s h.glyphs e h.holds })
+      record { before = h.before ++ line; is = is; glyphs = All-nil (λ x. is_glyph x ≡ true); holds = more h.before c.closed c.open' s h.glyphs e h.holds })
       (λ group c s e ih all.
       let (earlier, placing) = All-split IsPlacing group s all in
       let h = ih earlier in
       let glyph : is_glyph s ≡ true = elim placing [ inl glyph ↦ glyph | inr breaks ↦ absurd (both_ways (is_break s) e breaks) ] in
-      record { before = h.before; is = ap (λ l. l ++ s ∷ []) h.is ∙ append_assoc h.before c.open' (s ∷ []);
-          glyphs = All-push (λ x. is_glyph x ≡ true) c.open' s h.glyphs glyph; holds = h.holds })
+      record { before = h.before; is = ap (λ l. l ++ s ∷ []) h.is ∙ append_assoc h.before c.open' (s ∷ []); glyphs = All-push (λ x. is_glyph x ≡ true) c.open' s h.glyphs glyph; holds = h.holds })
 
 pub open_glyphs : (group : List Spot) → All IsPlacing group → AllPass is_glyph (cut is_break group).open'
 open_glyphs group all = (lines_ind (λ before lines. Unit {0}) tt (λ before lines line s glyphs e h. tt) group all).glyphs

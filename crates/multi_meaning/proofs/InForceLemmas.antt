@@ -50,8 +50,8 @@ module _ (sign : SignData) (big : List Spot → Spot → Bool) where
   -- behind the items of an accepted string the rectangle in force is inside the sign
   pub rectangle_inside : (items : List Meaning) → some_after (offence_by big sign) items ≡ [] → IsInSign sign (standing sign items).rectangle
   unfolding standing
-  rectangle_inside = each_ind sign (offence_by big sign) (λ before. IsInSign sign (standing sign before).rectangle) (omega arith,
-      omega arith) next_in_sign
+  rectangle_inside = each_ind sign (offence_by big sign) (λ before. IsInSign sign (standing sign before).rectangle)
+      (omega arith, omega arith) next_in_sign
 
   -- and so the rectangle in force is no higher than the sign
   pub rectangle_within : (items : List Meaning) → some_after (offence_by big sign) items ≡ [] → (standing sign items).rectangle.height ≤ sign.height

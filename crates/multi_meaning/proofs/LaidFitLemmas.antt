@@ -1,13 +1,12 @@
 -- Whether a placing item is too big, by the laid items of its area.
-use Rattle.std.proofs.Common.{◌≡◌, ℕ, Bool, true, not, ◌&&◌, ◌||◌, List, [], ◌∷◌, ◌++◌, Some, refl, arith}
+use Rattle.std.proofs.Common.{◌≡◌, ℕ, true, not, ◌&&◌, ◌||◌, List, [], ◌∷◌, ◌++◌, Some, refl, arith}
 use Rattle.std.specs.List.{after_last}
 use Rattle.multi_tag.specs.Just.{page_number}
 use Rattle.sign_font.specs.declared.parts.LineFill.{LineFill}
-use Rattle.multi_meaning.specs.Address.{Spot, in_area, in_group, is_break, is_glyph, lines_of}
+use Rattle.multi_meaning.specs.Address.{Spot, in_area, in_group, is_break, is_glyph}
 use Rattle.multi_meaning.specs.Fit as plain
 use Rattle.multi_meaning.specs.Fit.{fit, line_fits}
 use Rattle.multi_meaning.specs.Laid.{fill_at, laid, too_big}
-use Rattle.multi_meaning.specs.Line.{height_of}
 use Rattle.multi_meaning.proofs.FilledOnLemmas.{HasWidth, groups_laid, one_more}
 use Rattle.multi_meaning.proofs.GroupLaidLemmas.{in_areas}
 use Rattle.multi_meaning.proofs.WordLemmas.{All-split}
@@ -16,12 +15,6 @@ module _ (setting : LineFill) (width : ℕ) (all : List Spot) (s : Spot) (placed
   -- the laid items of its area
   abbrev pub laid_with : List Spot
   laid_with = in_area s.at.area (laid setting (all ++ s ∷ []) (all ++ s ∷ []))
-
-  -- whether it is too big, by the groups of its area
-  abbrev by_groups : (ℕ → List Spot) → Bool
-  by_groups group =
-      (is_glyph s && not (line_fits s.at.rectangle.width (after_last is_break (group (page_number s.at.page_just)))))
-      || not (fit (height_of (lines_of (group 2))) (height_of (lines_of (group 3))) (height_of (lines_of (group 4))) s.at.rectangle.height)
 
   -- it is too big just where, as laid out, its line doesn't fit, or its area
   pub too_big_laid : too_big setting all s ≡ ((is_glyph s && not (line_fits s.at.rectangle.width (after_last is_break (in_group (page_number s.at.page_just) laid_with)))) || not (plain.area_fits s.at.rectangle.height laid_with))

@@ -1,6 +1,5 @@
 -- The items of a string as they are laid out: a space that is dropped is the end of its line, as an `nl` is.
-use native.Mathlib.Omega.{arith}
-use Rattle.std.proofs.Common.{◌≡◌, List, [], ◌∷◌, ◌++◌, Some, inl, inr, refl, sym, ap, ◌∙◌, append-nil}
+use Rattle.std.proofs.Common.{◌≡◌, List, [], ◌∷◌, ◌++◌, Some, inl, inr, refl, sym, ap, ◌∙◌, append-nil, arith}
 use Rattle.std.specs.List.{cons_option}
 use Rattle.sign_font.specs.Sign.{SignData}
 use Rattle.sign_font.specs.declared.parts.LineFill.{LineFill}

@@ -130,5 +130,4 @@ ends_open width xs ends = grind (arith, cut_push)
 -- the open line of a filled group stands behind its last end of a line
 pub open_line_is : (width : ℕ) (g : List Spot) → All IsPlacing g → after_last is_break (filled (Some width) g) ≡ open_line width g
 open_line_is width g placing =
-    grind (arith, after_last_is, filled_is width g placing, cut_with (open_line width g) (ended width g) (open_line_glyphs width g placing),
-    ends_open width (ended width g) (ended_ends width g placing))
+    grind (arith, after_last_is, filled_is width g placing, cut_with (open_line width g) (ended width g) (open_line_glyphs width g placing), ends_open width (ended width g) (ended_ends width g placing))

@@ -1,6 +1,5 @@
 -- The laid spots of a string: each is the spot itself or a dropped space, and those of a group are the group, filled.
-use native.Mathlib.Omega.{arith}
-use Rattle.std.proofs.Common.{◌≡◌, ◌⊎◌, inl, inr, ℕ, true, List, [], ◌∷◌, ◌++◌, length, Option, Some, refl, sym, subst, append_assoc}
+use Rattle.std.proofs.Common.{◌≡◌, ◌⊎◌, inl, inr, ℕ, true, List, [], ◌∷◌, ◌++◌, length, Option, Some, refl, sym, subst, append_assoc, arith}
 use Rattle.std.specs.List.{flat_map, All, AllPass, AllZip}
 use Rattle.multi_meaning.specs.Address.{Spot, is_glyph, is_break}
 use Rattle.multi_meaning.specs.kept.Present.{IsPlacing}
@@ -35,8 +34,8 @@ module _ (width : ℕ) where
       let (before, space, behind) = All-around (λ x. is_glyph x ≡ true) c.before c.item c.behind (subst (AllPass is_glyph) is h) in
       subst (λ l. LaidAll l ((c.before ++ dropped c.item ∷ f.closed) ++ f.open')) (sym is)
       (rw (append_assoc c.before (dropped c.item ∷ f.closed) f.open')
-      (laid-append c.before c.before (c.item ∷ c.behind) (dropped c.item ∷ (f.closed ++ f.open')) (same_laid c.before) (inr (space, refl),
-      ih behind))))
+      (laid-append c.before c.before (c.item ∷ c.behind) (dropped c.item ∷ (f.closed ++ f.open')) (same_laid c.before)
+      (inr (space, refl), ih behind))))
 
   -- the lines that an `nl` ended, and then all
   some_laid : (g : List Spot) → All IsPlacing g → LaidAll g (filled (Some width) g)
@@ -44,8 +43,8 @@ module _ (width : ℕ) where
       let last = last_parts width g in
       let lines = lines_ind (λ before lines. LaidAll before (flat_map (filled_line width) lines)) tt (λ before lines line s glyphs e h.
       let laid_line = laid-append line _ (s ∷ []) (s ∷ []) (fill_laid (length line) line glyphs) (inl refl, tt) in
-      let one : LaidAll (line ++ s ∷ []) (filled_line width (line ++ s ∷ [])) = rw (glyphs_before line s glyphs e, break_behind line s glyphs e,
-      fill_is width (length line) line) laid_line in
+      let one : LaidAll (line ++ s ∷ []) (filled_line width (line ++ s ∷ [])) =
+      rw (glyphs_before line s glyphs e, break_behind line s glyphs e, fill_is width (length line) line) laid_line in
       rw (flat_map_push (filled_line width) lines (line ++ s ∷ [])) (laid-append before (flat_map (filled_line width) lines) (line ++ s ∷ [])
       (filled_line width (line ++ s ∷ [])) h one)) g placing in
       let all = laid-append lines.before (front width g) (cut is_break g).open' (last.closed ++ last.open') lines.holds

@@ -46,27 +46,27 @@ module _ (setting : LineFill) (all : List Spot) (s : Spot) where
   pub unplaced_leaves : is_glyph s ≡ false → is_break s ≡ false → LeavesAll
   unplaced_leaves glyph break some more x is = group_stays some x (rw (glyph, break) refl)
 
-  module _ (s' : Spot) (member : is_member s.at.area (page_number s.at.page_just) s ≡ true)
-      (same : HasFill setting (fill_at setting s.at) s.at.area all)
-      (grows : filled (fill_at setting s.at) (group_of s (all ++ s ∷ [])) ≡ filled (fill_at setting s.at) (group_of s all) ++ s' ∷ []) where
+  module _ (same : HasFill setting (fill_at setting s.at) s.at.area all) where
     size : length (group_of s all) ≡ length (filled (fill_at setting s.at) (group_of s all))
     size = whole_length setting all s.at.area (page_number s.at.page_just) (fill_at setting s.at) same
 
     -- a spot of its group, by its place in the filled group with the new one
-    with_it : (some more : List Spot) (x : Spot) → all ++ s ∷ [] ≡ some ++ x ∷ more → is_member s.at.area (page_number s.at.page_just) x ≡ true
-        → laid_spot setting (all ++ s ∷ []) some x ≡ slice_index_or (filled (fill_at setting s.at) (group_of s all) ++ s' ∷ []) (length (group_of s some)) x
-    with_it some more x is own =
+    pub with_it : (some more : List Spot) (x : Spot) → all ++ s ∷ [] ≡ some ++ x ∷ more → is_member s.at.area (page_number s.at.page_just) x ≡ true
+        → laid_spot setting (all ++ s ∷ []) some x ≡ slice_index_or (filled (fill_at setting s.at) (group_of s (all ++ s ∷ [])))
+        (length (group_of s some)) x
+    with_it =
         let same_more = All-push (λ (x : Spot). x.at.area ≡ s.at.area → fill_at setting x.at ≡ fill_at setting s.at) all s same (λ e. refl) in
-        there setting (all ++ s ∷ []) s.at.area (page_number s.at.page_just) (fill_at setting s.at) same_more some more x is own
-        ∙ ap (λ l. slice_index_or l (length (group_of s some)) x) grows
+        there setting (all ++ s ∷ []) s.at.area (page_number s.at.page_just) (fill_at setting s.at) same_more
 
-    -- it leaves all others
-    pub placed_leaves : LeavesAll
-    placed_leaves some more x is = grind (arith, other_leaves, with_it, get_or_append_left, has_place, size, there, append_assoc)
+    module _ (s' : Spot) (member : is_member s.at.area (page_number s.at.page_just) s ≡ true)
+        (grows : filled (fill_at setting s.at) (group_of s (all ++ s ∷ [])) ≡ filled (fill_at setting s.at) (group_of s all) ++ s' ∷ []) where
+      -- it leaves all others
+      pub placed_leaves : LeavesAll
+      placed_leaves some more x is = grind (arith, other_leaves, with_it, get_or_append_left, has_place, size, there, append_assoc)
 
-    -- and is laid itself as the last of its group
-    pub laid_last : laid_spot setting (all ++ s ∷ []) all s ≡ s'
-    laid_last = grind (arith, with_it, get_or_at, size)
+      -- and is laid itself as the last of its group
+      pub laid_last : laid_spot setting (all ++ s ∷ []) all s ≡ s'
+      laid_last = grind (arith, with_it, get_or_at, size)
 
 -- ONE MORE ITEM
 
@@ -113,12 +113,11 @@ module _ (setting : LineFill) (sign : SignData) (items : List Meaning) where
       let here = standing sign items in
       let all = spots sign items in
       let grows = ap (filled (fill_at setting here)) (members_push here.area (page_number here.page_just) all (spot_of put) true member) ∙ is in
-      laid_behind setting sign items x put y puts (placed_leaves setting all (spot_of put) y member same_fill grows) (laid_last setting all (spot_of put) y member same_fill grows)
+      laid_behind setting sign items x put y puts (placed_leaves setting all (spot_of put) same_fill y member grows)
+      (laid_last setting all (spot_of put) same_fill y member grows)
 
-  abbrev LaidAsItself : Tag → Type 0
-  LaidAsItself tag = laid_items setting sign (items ++ Does tag ∷ []) (items ++ Does tag ∷ []) ≡ laid_items setting sign items items ++ Does tag ∷ []
-
-  pub laid_tag : (tag : Tag) → LaidAsItself tag
+  pub laid_tag : (tag : Tag) → laid_items setting sign (items ++ Does tag ∷ []) (items ++ Does tag ∷ [])
+      ≡ laid_items setting sign items items ++ Does tag ∷ []
   laid_tag (NewLine gap) =
       let here = standing sign items in
       let group = group_of (spot_of (Break gap)) (spots sign items) in

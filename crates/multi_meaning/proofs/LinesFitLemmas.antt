@@ -42,9 +42,11 @@ part_high line high = grind (arith, All-nil, All-cons, line_high)
 lines_high : (g : List Spot) → All High g → All IsHigh (lines_of g)
 lines_high g all =
     let (closed, last) = cut_ind_all is_break High (λ c. All IsHigh c.closed × All High c.open') (All-nil IsHigh, All-nil High)
-    (λ c s h e (lines, line).
-    (All-push IsHigh c.closed (c.open' ++ s ∷ []) lines (line_high (c.open' ++ s ∷ []) (omega (arith, length_push c.open' s))
-    (All-push High c.open' s line h)), All-nil High))
+    (λ c s h e (lines, line). (
+      All-push IsHigh c.closed (c.open' ++ s ∷ []) lines (line_high (c.open' ++ s ∷ []) (omega (arith, length_push c.open' s))
+          (All-push High c.open' s line h)),
+      All-nil High,
+    ))
     (λ c s h e (lines, line). (lines, All-push High c.open' s line h)) g all in
     subst (All IsHigh) (sym (cut_behind_is is_break g)) (All-append IsHigh (cut is_break g).closed (part is_break (cut is_break g).open') closed
     (part_high (cut is_break g).open' last))
@@ -65,8 +67,6 @@ pub lines_within : (height : ℕ) (area : List Spot) → area_fits height area �
     → length (lines_of (in_group 2 area)) + length (lines_of (in_group 3 area)) + length (lines_of (in_group 4 area)) ≤ height
 lines_within height area fits all =
     let tall = λ (just : ℕ). height_of (lines_of (in_group just area)) in
-    let most : (just : ℕ) → length (lines_of (in_group just area)) ≤ tall just = λ just.
-    omega (arith,
-    sum_least line_height (lines_of (in_group just area))
-    (lines_high (in_group just area) (All-filter (λ t. page_number t.at.page_just == just) High area all))) in
+    let high = λ (just : ℕ). lines_high (in_group just area) (All-filter (λ t. page_number t.at.page_just == just) High area all) in
+    let most : (just : ℕ) → length (lines_of (in_group just area)) ≤ tall just = λ just. omega (arith, sum_least line_height (lines_of (in_group just area)) (high just)) in
     omega (arith, most 2, most 3, most 4, fit_each (tall 2) (tall 3) (tall 4) height fits)

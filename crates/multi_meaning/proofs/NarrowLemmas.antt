@@ -99,9 +99,12 @@ module _ (sign : SignData) (sound : IsSound sign) (items : List Meaning) (fits :
       let P = λ (s : Spot). is_glyph s ≡ true → 1 ≤ glyph_width s in
       let wide : All P line = All-drop P _ (in_group just (present_area sign items)) (All-filter (λ t. page_number t.at.page_just == just) P (present_area sign items) (area_wide sign sound sound.font items)) in
       let many = sum_least glyph_width (segment 5 line) (wide_segment 5 line wide) in
-      record { width = each_just (λ just. width_of (segment just line) ≤ 1024) (grind (arith, nat_tests, fits, across, sound.width.1))
-          (grind (arith, nat_tests, fits, across, sound.width.1)) (grind (arith, nat_tests, fits, across, sound.width.1))
-          (grind (arith, nat_tests, fits, across, sound.width.1)); characters = grind (arith, nat_tests, many, fits, across, sound.width.1) }
+      record {
+        width = each_just (λ just. width_of (segment just line) ≤ 1024) (grind (arith, nat_tests, fits, across, sound.width.1))
+            (grind (arith, nat_tests, fits, across, sound.width.1)) (grind (arith, nat_tests, fits, across, sound.width.1))
+            (grind (arith, nat_tests, fits, across, sound.width.1));
+        characters = grind (arith, nat_tests, many, fits, across, sound.width.1);
+      }
 
   -- and no group is higher than a sign
   height : (just : ℕ) → 2 ≤ just → just ≤ 4 → height_of (lines_of (in_group just (present_area sign items))) ≤ 1024

@@ -1,5 +1,4 @@
 -- The error of an item, by the tests of its cases.
-use native.Mathlib.Omega.{arith}
 use Rattle.std.proofs.Common.{◌≡◌, ℕ, ◌+◌, Bool, false, cond, List, Option, Some, None, refl, nat_lt, not, ◌==◌, count_by, arith}
 use Rattle.std.specs.Option.{option_map_or}
 use Rattle.multi_tag.specs.declared.tag.Tag.TheVariants.{NewPage, NewLine, Font, Rect}

@@ -1,5 +1,4 @@
 -- The items of a string as they are laid out offend by nothing but their size, where those of the string don't.
-use native.Mathlib.Omega.{arith}
 use Rattle.std.proofs.Common.{◌≡◌, ℕ, Bool, false, cond, ◌||◌, inl, inr, List, [], ◌∷◌, ◌++◌, map, Some, None, refl, sym, ap, subst, ◌∙◌, append_assoc, append-nil, option_map, arith}
 use Rattle.std.proofs.lemmas.Bool.{or_parts}
 use Rattle.std.specs.List.{after_last, list_any}
@@ -103,8 +102,7 @@ module _ (setting : LineFill) (sign : SignData) (all : List Meaning) where
         let as' = laid_as setting (spots sign all) (spots sign some) _ s (ap (spots sign) is
         ∙ spots_with sign some (Shows number) more (Glyph cell) puts) in
         let found' = ap (λ (s : Standing). cell_numbered s.font number) (are some more (Shows number) is).0 ∙ found in
-        grind (arith, found, as', stays, ends, offence-character never_big sign (before some) number cell found',
-        offence-break never_big sign (before some) None)
+        grind (arith, found, as', stays, ends, offence-character never_big sign (before some) number cell found', offence-break never_big sign (before some) None)
   ]
   laid_fine some more (Does (NewLine gap)) is fine =
       let stays = apart some more (Does (NewLine gap)) is (Break gap) refl in

@@ -1,6 +1,5 @@
 -- What things give a pixel of a page.
-use native.Mathlib.Omega.{arith}
-use Rattle.std.proofs.Common.{◌≡◌, ℕ, cond, ◌&&◌, ◌==◌, List, [], ◌∷◌, Option, Some, None, refl}
+use Rattle.std.proofs.Common.{◌≡◌, ℕ, cond, ◌&&◌, ◌==◌, List, [], ◌∷◌, Option, Some, None, refl, arith}
 use Rattle.std.specs.List.{AllByRecursion, filter_map}
 use Rattle.multi_meaning.specs.Picture.{Thing}
 use Rattle.multi_meaning.specs.Words.{some_after}

@@ -50,7 +50,7 @@ module _ (setting : LineFill) (sign : SignData) (P : Rectangle → List Spot →
       given_rectangle sign x ≡ None → begins_area x ≡ false → put_at sign.defaults (standing sign before) x ≡ Some put
       → (is_glyph spot || is_break spot) ≡ true
       → cond {A = Option ℕ} (conflicts (spots sign before) spot) (Some 11) (cond (too_big setting (spots sign before) spot) (Some 5) None) ≡ None
-          → Holds before → Holds (before ++ x ∷ [])
+      → Holds before → Holds (before ++ x ∷ [])
   holds_placing before x put gives stays puts placing fine old =
       holds_by before x _ gives (present_area-placing sign before x put stays puts placing) (joins before put placing (grind (arith, fine)) old)
 

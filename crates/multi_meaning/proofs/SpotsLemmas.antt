@@ -72,8 +72,8 @@ spot_page here low reached defaults x = grind arith
 falls_not : (sign : SignData) (before more : List Meaning)
     → ((standing sign before).page ≤ (standing sign (before ++ more)).page) × ((standing sign before).area ≤ (standing sign (before ++ more)).area)
 unfolding standing
-falls_not sign before more = (omega (arith, sum_by-append (λ x. cond (is_new_page x) 1 0) before more),
-    omega (arith, sum_by-append (λ x. cond (begins_area x) 1 0) before more))
+falls_not sign before more =
+    (omega (arith, sum_by-append (λ x. cond (is_new_page x) 1 0) before more), omega (arith, sum_by-append (λ x. cond (begins_area x) 1 0) before more))
 
 -- what the items behind some others put is of their page or a later one
 pub pages_behind : (sign : SignData) (before behind : List Meaning) → All (IsFrom (standing sign before).page) (spots_behind sign before behind)
@@ -106,5 +106,4 @@ module _ (sign : SignData) (before : List Meaning) where
       (more : List Spot) × (in_area at.area (spots sign (before ++ Shows number ∷ rest)) ≡ in_area at.area (spots sign before) ++ spot ∷ more)
   area_with_glyph number cell rest found =
       let at = standing sign before in
-      (in_area at.area (spots_behind sign (before ++ Shows number ∷ []) rest), grind (arith, spots_with sign before (Shows number) rest (Glyph cell),
-      found, in_area-append, eq-eqb at.area at.area refl))
+      (in_area at.area (spots_behind sign (before ++ Shows number ∷ []) rest), grind (arith, spots_with sign before (Shows number) rest (Glyph cell), found, in_area-append, eq-eqb at.area at.area refl))

@@ -25,8 +25,8 @@ cycle_push before here = sum_by_push (λ (t : Times). t.on + t.off) before here
 
 -- each page ends within the cycle
 pub cycle_within : (before after : List Times) (here : Times) → cycle before + (here.on + here.off) ≤ cycle (before ++ here ∷ after)
-cycle_within before after here = omega (arith, sum_by-append (λ (t : Times). t.on + t.off) before (here ∷ after),
-    sum_by-cons (λ (t : Times). t.on + t.off) here after)
+cycle_within before after here =
+    omega (arith, sum_by-append (λ (t : Times). t.on + t.off) before (here ∷ after), sum_by-cons (λ (t : Times). t.on + t.off) here after)
 
 -- THE PAGE AT A CLOCK
 
@@ -76,8 +76,7 @@ module _ (pages before after : List Times) (here : Times) (is : pages ≡ before
   stands = slice_get-get_or pages (length before) here within ∙ ap (λ l. Some (get_or l (length before) here)) is ∙ ap (λ x. Some x) (get_or-append_seam before here after here)
 
   ends : begin pages (length before + 1) ≡ cycle before + (here.on + here.off)
-  ends = grind (arith, sum_by_more (λ (t : Times). t.on + t.off) pages (length before) here within, is, get_or-append_seam before here after here,
-      begins)
+  ends = grind (arith, sum_by_more (λ (t : Times). t.on + t.off) pages (length before) here within, is, get_or-append_seam before here after here, begins)
 
   -- no earlier page is on from its begin on
   none_before : (t j : ℕ) → cycle before ≤ t → j < length before → is_on pages t j ≡ false

@@ -1,6 +1,5 @@
 -- Each string has one verdict, and a refusal for an item stands however the string goes on.
-use native.Mathlib.Omega.{arith}
-use Rattle.std.proofs.Common.{◌≡◌, ◌≢◌, ℕ, List, [], ◌∷◌, ◌++◌, map, length, drop, Option, Some, refl, ap, subst, append_assoc, option_map}
+use Rattle.std.proofs.Common.{◌≡◌, ◌≢◌, ℕ, List, [], ◌∷◌, ◌++◌, map, length, drop, Option, Some, refl, ap, subst, append_assoc, option_map, arith}
 use Rattle.std.proofs.Math.Seq.{drop-append_seam}
 use Rattle.std.specs.List.{All, cons_option}
 use Rattle.multi_token.specs.Broken.{IsOpen, StaysBroken}
@@ -18,8 +17,9 @@ use Rattle.multi_meaning.proofs.WordLemmas.{some_after-append, some_after_push}
 pub one_verdict : OneVerdict
 unfolding verdict
 one_verdict sign octets v = (
-  (λ (items, rest, read, is). grind (arith, is, one_reading octets items (reading octets).items rest (reading octets).rest read
-  (each_string_has_a_reading octets))),
+  (λ (items, rest, read, is).
+      let same = one_reading octets items (reading octets).items rest (reading octets).rest read (each_string_has_a_reading octets) in
+      grind (arith, is, same)),
   (λ is. ((reading octets).items, (reading octets).rest, each_string_has_a_reading octets, is)),
 )
 
@@ -52,8 +52,7 @@ unfolding verdict verdict_on
 broken_bracket_stands sign before bracket more each none stays =
     let octets = spell before ++ (bracket ++ more) in
     let read : IsReading octets before (bracket ++ more) = record { each = each; spelled = refl; ends = stays more } in
-    grind (arith, one_reading octets (reading octets).items before (reading octets).rest (bracket ++ more) (each_string_has_a_reading octets) read,
-    broken_some bracket more stays, none)
+    grind (arith, one_reading octets (reading octets).items before (reading octets).rest (bracket ++ more) (each_string_has_a_reading octets) read, broken_some bracket more stays, none)
 
 -- a string of these items and this rest is refused
 stands_by : (sign : SignData) (items : List Item) (rest : List ℕ) (faults : List (ℕ × ℕ)) (code at : ℕ) → All IsItem items → HasNoItem rest → offences sign items ≡ faults
@@ -63,16 +62,14 @@ stands_by sign items rest (fault ∷ faults) code at each ends first e closed mo
 stands_by sign items [] [] code at each ends none e closed more = absurd cc
 stands_by sign items (octet ∷ rest) [] code at each ends none e closed more =
     let cases = open_or_broken (octet ∷ rest) (λ e. cc) ends in
-    grind (arith, broken_bracket_stands sign items (octet ∷ rest) more each none, cases, drop-append_seam (spell items) (octet ∷ rest), append_assoc,
-    closed)
+    grind (arith, broken_bracket_stands sign items (octet ∷ rest) more each none, cases, drop-append_seam (spell items) (octet ∷ rest), append_assoc, closed)
 
 pub refusal_stands : RefusalStands
 unfolding verdict verdict_on
 refusal_stands sign octets code at e closed more =
     let read = each_string_has_a_reading octets in
-    grind (arith, stands_by sign (reading octets).items (reading octets).rest
-    (offences sign (reading octets).items) code at read.each read.ends refl e (subst (λ l. ¬ (IsOpen (drop at l))) read.spelled closed) more,
-    read.spelled)
+    let closed' = subst (λ l. ¬ (IsOpen (drop at l))) read.spelled closed in
+    grind (arith, stands_by sign (reading octets).items (reading octets).rest (offences sign (reading octets).items) code at read.each read.ends refl e closed' more, read.spelled)
 
 -- as many are meant as are read
 pub length-meanings : (items : List Item) → length (map meaning items) ≡ length items

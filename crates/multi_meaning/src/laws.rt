@@ -11,17 +11,20 @@ pub fn one_verdict()
 
 /// A law of the definitions: a refused string stays refused, with the same error at the same position, whatever is appended to
 /// it. The only exception is a string that ends in an open bracket and is refused for it: what is appended may mend that.
+#[tactic(auto, using(crate::proofs::VerdictLemmas::refusal_stands))]
 pub fn refusal_stands()
     ensures { RefusalStands }
 {}
 
 /// A law of the definitions: if a string is refused for a bracket that stays broken, so is every string with the same octets up
 /// to where nothing can mend it any more.
+#[tactic(auto, using(crate::proofs::VerdictLemmas::broken_bracket_stands))]
 pub fn broken_bracket_stands()
     ensures { BrokenBracketStands }
 {}
 
 /// A law of the definitions: what fits still fits when its parts shrink.
+#[tactic(auto, using(crate::proofs::FitLemmas::smaller_fits))]
 pub fn smaller_fits()
     ensures { SmallerFits }
 {}
@@ -29,6 +32,7 @@ pub fn smaller_fits()
 /// A law of the definitions: one more item, whatever it is, leaves all items before it laid out as they were, and with them
 /// every break of filling. At most one space more ends its line: one on the line of the new item, or the new item itself. The
 /// only premise is that no item before it offends.
+#[tactic(auto, using(crate::proofs::FillLawLemmas::keeps_breaks))]
 pub fn keeps_breaks()
     ensures { KeepsBreaks }
 {}
