@@ -1,19 +1,17 @@
 -- The sums of an area at one more character, where lines are filled.
-use Rattle.std.proofs.Common.{◌≡◌, inl, inr, ℕ, ◌+◌, ◌<◌, ◌≤◌, Bool, false, cond, List, [], ◌∷◌, ◌++◌, Option, Some, None, refl, sym, ap, ◌∙◌, arith, not, ◌||◌, ◌&&◌}
-use Rattle.std.specs.Prelude.{nat_lt}
+use Rattle.std.proofs.Common.{◌≡◌, inl, inr, ℕ, ◌+◌, ◌<◌, ◌≤◌, Bool, false, List, [], ◌∷◌, ◌++◌, Option, Some, None, sym, ap, ◌∙◌, arith, not, ◌||◌, ◌&&◌, rules}
 use Rattle.std.specs.List.{after_last, list_any}
 use Rattle.std.proofs.lemmas.Bool.{cases_Bool, cases_lt, false≢true, le-ltb, leb-false, leb-true, le-leb, lt-leb, lt-ltb}
-use Rattle.multi_meaning.specs.Address.{Spot, in_group, is_break, lines_of, area_of, is_glyph}
+use Rattle.multi_meaning.specs.Address.{Spot, in_group, is_break, area_of, is_glyph}
 use Rattle.multi_meaning.specs.Filling.{filled}
 use Rattle.multi_meaning.specs.kept.Present.{IsFilledOn}
-use Rattle.multi_meaning.specs.Line.{height_of}
 use Rattle.multi_judge.specs.declared.area.Area.{Area}
 use Rattle.multi_judge.specs.declared.area.Group.{Group}
 use Rattle.multi_judge.specs.declared.fill.Split.{Split}
 use Rattle.multi_judge.specs.Adding.{ReachesGroup}
 use Rattle.multi_judge.specs.FillSums.{split_sum}
 use Rattle.multi_judge.specs.State.{IsMost, group_room}
-use Rattle.multi_judge.specs.Sums.{IsBare, IsBelow, IsGroupBelow, area_sum, area_sum_in, group_sum, height_before}
+use Rattle.multi_judge.specs.Sums.{IsBare, IsBelow, IsGroupBelow, area_sum, area_sum_in, group_sum}
 use Rattle.multi_judge.proofs.AreaSumLemmas.{group_behind, conflict_is}
 use Rattle.multi_meaning.specs.Offence.{clashes, conflicts}
 use Rattle.multi_tag.specs.Just.{page_number}
@@ -22,17 +20,7 @@ use Rattle.multi_tag.specs.Just.{page_number}
 pub area_filled : (old new group : List Spot) (s : Spot) (just width : ℕ) → IsFilledOn just width group s old new
     → (kept r : Area) → kept ≡ area_sum_in just old → r.present ≡ kept.present → r.top ≡ kept.top → r.middle ≡ kept.middle → r.group ≡ group_sum (filled (Some width) (group ++ s ∷ []))
     → r ≡ area_sum new
-area_filled old new group s just width on kept r is present top middle own =
-    let other : (j : ℕ) → height_before just j old ≡ height_before just j new = λ j. elim (cases_lt j just) [
-      | inl less ↦ ap (λ l. cond (nat_lt j just) (height_of (lines_of l)) 0) (sym (on.others j (λ h. omega (arith, h))))
-      | inr most ↦ rw (le-ltb j just most) refl
-    ] in
-    let top' : r.top ≡ height_before just 2 new = top ∙ ap (λ (a : Area). a.top) is ∙ other 2 in
-    let middle' : r.middle ≡ height_before just 3 new = middle ∙ ap (λ (a : Area). a.middle) is ∙ other 3 in
-    let present' : r.present ≡ just = present ∙ ap (λ (a : Area). a.present) is in
-    let group' : r.group ≡ group_sum (in_group just new) = own ∙ ap group_sum (sym on.after) in
-    let whole : r ≡ area_sum_in just new = rw (← top', ← middle', ← group', ← present') refl in
-    whole ∙ ap (λ n. area_sum_in n new) (sym on.last)
+area_filled old new group s just width on kept r is present top middle own = search (rules, cases_lt, le-ltb)
 
 -- an area that goes on to the group with a page justification, or doesn't where that is before its present one
 module _ {page height : ℕ} {old : Area} {most : ℕ} {reached : Bool} {new : Area} {most' : ℕ} (r : ReachesGroup page height old most reached new most') (page_known : (2 ≤ page) × (page ≤ 4)) where
@@ -67,21 +55,10 @@ module _ {page height : ℕ} {old : Area} {most : ℕ} {reached : Bool} {new : A
 
   -- and the limits of its present group and of its present line are known where they were
   pub reached_group : (2 ≤ old.present → most ≡ group_room old height) → most' ≡ group_room new height
-  reached_group is = elim (cases_Bool reached) [
-    | inl on ↦ r.limit on is
-    | inr off ↦ let (same, kept) = r.left off in rw (same, kept) (is (omega (arith, before off, page_known.0)))
-  ]
+  reached_group is = search (rules, before, cases_Bool)
 
   pub reached_line : (width most : ℕ) → IsMost width old.group.line most → IsMost width new.group.line most
-  reached_line width most is = elim (cases_Bool reached) [
-    | inl on ↦
-        let goes = r.goes on in
-        elim (cases_lt old.present page) [
-          | inl later ↦ λ any. absurd (false≢true (sym (goes.begins later) ∙ any))
-          | inr same ↦ rw (goes.stays (omega (arith, same, leb-true old.present page (sym r.order ∙ on)))) is
-        ]
-    | inr off ↦ rw ((r.left off).0) is
-  ]
+  reached_line width most is = search (rules, cases_Bool, cases_lt, false≢true, leb-true)
 
 -- a group behind the present one has no line yet
 pub nothing_yet : (old group : List Spot) (just width : ℕ) → in_group just old ≡ filled (Some width) group → (a : Area) → a ≡ area_sum old → a.present < just

@@ -1,5 +1,5 @@
 -- The sums of an area after one more placing item, and what is judged by them.
-use Rattle.std.proofs.Common.{◌≡◌, inl, inr, ℕ, ◌<◌, ◌≤◌, Bool, true, false, cond, not, ◌&&◌, ◌||◌, ◌==◌, List, [], ◌∷◌, ◌++◌, refl, sym, ap, ◌∙◌, arith}
+use Rattle.std.proofs.Common.{◌≡◌, ℕ, ◌<◌, ◌≤◌, Bool, true, false, not, ◌&&◌, ◌||◌, ◌==◌, List, [], ◌∷◌, ◌++◌, refl, sym, ap, ◌∙◌, arith, rules}
 use Rattle.multi_tag.specs.Just.{page_number}
 use Rattle.multi_meaning.specs.Words.{largest}
 use Rattle.std.specs.Prelude.{nat_lt}
@@ -7,9 +7,8 @@ use Rattle.std.specs.List.{list_any, after_last}
 use Rattle.std.proofs.lemmas.Bool.{ltb-false, or_parts, cases_eq, cases_lt, eq-eqb, le-ltb, lt-ltb, ne_eqb}
 use Rattle.std.proofs.lemmas.List.Elements.{All-head, All-weaker}
 use Rattle.sign_font.specs.declared.parts.LineFill.TheVariants.{Off}
-use Rattle.multi_meaning.specs.Address.{Spot, is_glyph, is_break, area_of, in_group, line_before, lines_of}
+use Rattle.multi_meaning.specs.Address.{Spot, is_glyph, is_break, area_of, in_group, line_before}
 use Rattle.multi_meaning.specs.Fit.{line_fits, area_fits}
-use Rattle.multi_meaning.specs.Line.{height_of}
 use Rattle.multi_meaning.specs.Laid.{too_big}
 use Rattle.multi_meaning.specs.Offence.{goes_back, clashes, conflicts}
 use Rattle.multi_tag.proofs.JustLemmas.{page_number_known}
@@ -19,15 +18,12 @@ use Rattle.multi_meaning.proofs.CheckLemmas.{group_goes_back}
 use Rattle.multi_meaning.proofs.GroupLemmas.{break_put, own_group, in_group_other}
 use Rattle.multi_judge.specs.declared.area.Area.{Area}
 use Rattle.multi_judge.specs.declared.area.Group.{Group}
-use Rattle.multi_judge.specs.Sums.{group_sum, area_sum, area_sum_in, height_before, line_sum}
+use Rattle.multi_judge.specs.Sums.{group_sum, area_sum, area_sum_in, line_sum}
 use Rattle.multi_judge.proofs.GroupSumLemmas.{present_push}
 
 -- no item of an area is in a group behind the one with the largest justification
 pub group_behind : (just : ℕ) (area : List Spot) → largest (λ (t : Spot). page_number t.at.page_just) area < just → in_group just area ≡ []
-group_behind just area less =
-    filter_none (λ t. page_number t.at.page_just == just) area
-    (All-weaker (λ (t : Spot). page_number t.at.page_just ≤ largest (λ (t : Spot). page_number t.at.page_just) area) (λ t. (page_number t.at.page_just == just) ≡ false)
-    (λ t most. ne_eqb (page_number t.at.page_just) just (λ e. omega arith)) area (largest_most (λ t. page_number t.at.page_just) area))
+group_behind just area less = search (rules, All-weaker, filter_none, largest_most, ne_eqb)
 
 -- an area in which no page justification is largest has no item
 pub empty_area : (area : List Spot) → largest (λ (t : Spot). page_number t.at.page_just) area ≡ 0 → area ≡ []
@@ -46,17 +42,7 @@ area_stays area just a e low high =
 pub area_with : (area : List Spot) (s : Spot) (just : ℕ) → page_number s.at.page_just ≡ just → (a : Area) → a ≡ area_sum area → a.present ≤ just
     → (kept r : Area) → kept ≡ area_sum_in just area → r.present ≡ kept.present → r.top ≡ kept.top → r.middle ≡ kept.middle → r.group ≡ group_sum (in_group just (area ++ s ∷ []))
     → r ≡ area_sum (area ++ s ∷ [])
-area_with area s just own a e order kept r is present top middle group =
-    let more : largest (λ (t : Spot). page_number t.at.page_just) (area ++ s ∷ []) ≡ just = omega (arith, ap (λ (a : Area). a.present) e, largest_push (λ t. page_number t.at.page_just) area s, own, order) in
-    let other : (j : ℕ) → height_before just j area ≡ height_before just j (area ++ s ∷ []) = λ j. elim (cases_lt j just) [
-      | inl less ↦ ap (λ l. cond (nat_lt j just) (height_of (lines_of l)) 0) (sym (in_group_other j area s (λ h. omega (arith, own, h))))
-      | inr most ↦ rw (le-ltb j just most) refl
-    ] in
-    let top' : r.top ≡ height_before just 2 (area ++ s ∷ []) = top ∙ ap (λ (a : Area). a.top) is ∙ other 2 in
-    let middle' : r.middle ≡ height_before just 3 (area ++ s ∷ []) = middle ∙ ap (λ (a : Area). a.middle) is ∙ other 3 in
-    let present' : r.present ≡ just = present ∙ ap (λ (a : Area). a.present) is in
-    let whole : r ≡ area_sum_in just (area ++ s ∷ []) = rw (← top', ← middle', ← group, ← present') refl in
-    whole ∙ ap (λ n. area_sum_in n (area ++ s ∷ [])) (sym more)
+area_with area s just own a e order kept r is present top middle group = search (rules, cases_lt, in_group_other, largest_push, le-ltb)
 
 -- behind an item that isn't before the present group, the present group is that item's
 pub present_behind : (area : List Spot) (s : Spot) (a b : Area) → a ≡ area_sum area → b ≡ area_sum (area ++ s ∷ []) → a.present ≤ page_number s.at.page_just → b.present ≡ page_number s.at.page_just
@@ -113,17 +99,7 @@ no_clash before s page_just g page none =
 clash_by : (before : List Spot) (s : Spot) (page_just present : ℕ) (clash : Bool) → present ≡ largest (λ (t : Spot). page_number t.at.page_just) (area_of s before)
     → clash ≡ list_any (clashes s) (after_last is_break (in_group present (area_of s before)))
     → (nat_lt page_just present || ((page_just == present) && clash)) ≡ (nat_lt page_just present || list_any (clashes s) (after_last is_break (in_group page_just (area_of s before))))
-clash_by before s page_just present clash e c = elim (cases_eq page_just present) [
-  | inl own ↦
-      ap (λ b. nat_lt page_just present || (b && clash)) (eq-eqb page_just present own)
-      ∙ ap (λ b. nat_lt page_just present || b) (c ∙ ap (λ n. list_any (clashes s) (after_last is_break (in_group n (area_of s before)))) (sym own))
-  | inr other ↦ elim (cases_lt page_just present) [
-    | inl back ↦ rw (lt-ltb page_just present back) refl
-    | inr on ↦
-        ap (λ b. nat_lt page_just present || (b && clash)) (ne_eqb page_just present other)
-        ∙ ap (λ l. nat_lt page_just present || list_any (clashes s) (after_last is_break l)) (sym (group_behind page_just (area_of s before) (omega (arith, e, on, other))))
-  ]
-]
+clash_by before s page_just present clash e c = search (rules, back, cases_eq, cases_lt, eq-eqb, group_behind, lt-ltb, ne_eqb)
 
 pub conflicts_kept : (before : List Spot) (s : Spot) (page_just present : ℕ) (clash : Bool) → is_glyph s ≡ true → page_number s.at.page_just ≡ page_just → present ≡ largest (λ t. page_number t.at.page_just) (area_of s before)
     → clash ≡ list_any (clashes s) (after_last is_break (in_group present (area_of s before))) → (nat_lt page_just present || ((page_just == present) && clash)) ≡ conflicts before s
@@ -142,24 +118,11 @@ no_line false = refl
 
 -- the present line of a character's group is its line
 pub present_line : (before : List Spot) (s : Spot) (page_just : ℕ) → is_glyph s ≡ true → page_number s.at.page_just ≡ page_just → after_last is_break (in_group page_just (area_of s before ++ s ∷ [])) ≡ line_before before s ++ s ∷ []
-present_line before s page_just g page =
-    ap (λ n. after_last is_break (in_group n (area_of s before ++ s ∷ []))) (sym page)
-    ∙ ap (after_last is_break) (own_group (page_number s.at.page_just) (area_of s before) s refl)
-    ∙ present_push (in_group (page_number s.at.page_just) (area_of s before)) s g
+present_line before s page_just g page = search (rules, own_group, present_push)
 
 pub fits_character : (before : List Spot) (s : Spot) (page_just width height : ℕ) (line area : Bool) → is_glyph s ≡ true → page_number s.at.page_just ≡ page_just → s.at.rectangle.width ≡ width → s.at.rectangle.height ≡ height
     → line ≡ line_fits width (after_last is_break (in_group page_just (area_of s before ++ s ∷ []))) → area ≡ area_fits height (area_of s before ++ s ∷ []) → (line && area) ≡ not (too_big Off before s)
-fits_character before s page_just width height line area g page w h l a =
-    let more = after_last is_break (in_group (page_number s.at.page_just) (area_of s before ++ s ∷ [])) in
-    let line' : line ≡ line_fits s.at.rectangle.width more = l ∙ ap (λ n. line_fits width (after_last is_break (in_group n (area_of s before ++ s ∷ [])))) (sym page) ∙ ap (λ n. line_fits n more) (sym w) in
-    let area' : area ≡ area_fits s.at.rectangle.height (area_of s before ++ s ∷ []) = a ∙ ap (λ n. area_fits n (area_of s before ++ s ∷ [])) (sym h) in
-    ap (λ b. b && area) line' ∙ ap (λ b. line_fits s.at.rectangle.width more && b) area'
-    ∙ both_fit (line_fits s.at.rectangle.width more) (area_fits s.at.rectangle.height (area_of s before ++ s ∷ []))
-    ∙ ap (λ b. not ((b && not (line_fits s.at.rectangle.width more)) || not (area_fits s.at.rectangle.height (area_of s before ++ s ∷ [])))) (sym g)
+fits_character before s page_just width height line area g page w h l a = search (rules)
 
 pub fits_break : (before : List Spot) (s : Spot) (height : ℕ) (area : Bool) → is_break s ≡ true → s.at.rectangle.height ≡ height → area ≡ area_fits height (area_of s before ++ s ∷ []) → area ≡ not (too_big Off before s)
-fits_break before s height area b h a =
-    let more = after_last is_break (in_group (page_number s.at.page_just) (area_of s before ++ s ∷ [])) in
-    a ∙ ap (λ n. area_fits n (area_of s before ++ s ∷ [])) (sym h)
-    ∙ no_line (area_fits s.at.rectangle.height (area_of s before ++ s ∷ []))
-    ∙ ap (λ b. not ((b && not (line_fits s.at.rectangle.width more)) || not (area_fits s.at.rectangle.height (area_of s before ++ s ∷ [])))) (sym (break_put s.at s.put b))
+fits_break before s height area b h a = search (rules, break_put)

@@ -1,14 +1,14 @@
 -- What fits behind one more character, where what was before it fits: only the present segment and the present group can be too much.
-use Rattle.std.proofs.Common.{◌≡◌, ℕ, ◌≤◌, Bool, true, inl, inr, List, [], ◌∷◌, ◌++◌, refl, sym, ap, subst, ◌∙◌, arith}
-use Rattle.multi_tag.specs.Just.{line_number, page_number}
+use Rattle.std.proofs.Common.{◌≡◌, ℕ, ◌≤◌, Bool, true, List, [], ◌∷◌, ◌++◌, refl, ap, arith, rules}
+use Rattle.multi_tag.specs.Just.{line_number}
 use Rattle.multi_meaning.proofs.FillLemmas.{le_test}
 use Rattle.std.specs.Prelude.{nat_le, ◌==◌, if◌then◌else◌}
-use Rattle.std.specs.List.{All, after_last}
+use Rattle.std.specs.List.{All}
 use Rattle.sign_font.specs.declared.parts.LineFill.TheVariants.{Off}
 use Rattle.sign_font.specs.Sign.{SignData}
 use Rattle.std.proofs.lemmas.Bool.{and_from, and_parts, cases_eq, eq-eqb, ne_eqb}
 use Rattle.std.proofs.lemmas.Bool.Decides.{nat_tests}
-use Rattle.multi_meaning.specs.Address.{Spot, Standing, in_area, in_group, is_break, lines_of, segment, spots, standing}
+use Rattle.multi_meaning.specs.Address.{Spot, in_group, lines_of, segment, spots, standing}
 use Rattle.multi_meaning.specs.Fit.{FitsWithout, area_fits, fit, line_fits, room_for}
 use Rattle.multi_meaning.specs.Line.{height_of, width_of}
 use Rattle.multi_meaning.specs.Meaning.{Meaning}
@@ -21,7 +21,6 @@ use Rattle.multi_meaning.proofs.LinesFitLemmas.{each_just}
 use Rattle.multi_meaning.proofs.RoomLemmas.{area_fits_always}
 use Rattle.multi_judge.specs.declared.area.Area.{Area}
 use Rattle.multi_judge.specs.declared.line.Line.{Line}
-use Rattle.multi_judge.specs.declared.line.Segment.{Segment}
 use Rattle.multi_judge.specs.State.{group_room}
 use Rattle.multi_judge.specs.Run.{FitsBefore, kept_height, kept_width, lengthened_line}
 use Rattle.multi_judge.specs.Sums.{area_sum, line_sum}
@@ -33,13 +32,7 @@ use Rattle.multi_judge.proofs.RunLemmas.{kept_group_height, kept_group_height_is
 module _ (width : ℕ) (line : List Spot) (s : Spot) (l : Line) (e : l ≡ line_sum (line ++ s ∷ [])) (own : l.present ≡ line_number s.at.line_just) (known : l.present ≤ 5) (fits : line_fits width line ≡ true) where
   -- the other segments are as wide as without the character
   no_wider : (just : ℕ) → 2 ≤ just → just ≤ 5 → kept_width just (lengthened_line 0 0 l) ≤ width_of (segment just line)
-  no_wider just low high = elim (cases_eq just l.present) [
-    | inl same ↦ rw (eq-eqb just l.present same) (omega arith)
-    | inr other ↦
-        let kept : kept_width just (lengthened_line 0 0 l) ≡ kept_width just l = rw (ne_eqb just l.present other) refl in
-        let without = ap (λ (g : Segment). g.width) (segment_other just line s (λ h. other (sym (own ∙ h)))) in
-        omega (arith, kept, kept_width_is (line ++ s ∷ []) l e known just low high, without)
-  ]
+  no_wider just low high = search (rules, cases_eq, eq-eqb, kept_width_is, ne_eqb, segment_other)
 
   pub segments_fit_before : FitsBefore width l
   segments_fit_before =
@@ -62,19 +55,10 @@ module _ (height : ℕ) (area more : List Spot) (page : ℕ) (others : (just : �
     (own : a.present ≡ page) (known : a.present ≤ 4) (fits : area_fits height area ≡ true) where
   -- the other groups are as high as without the character
   no_higher : (just : ℕ) → 2 ≤ just → just ≤ 4 → kept_before just a ≤ height_of (lines_of (in_group just area))
-  no_higher just low high = elim (cases_eq just a.present) [
-    | inl same ↦ rw (eq-eqb just a.present same) (omega arith)
-    | inr other ↦
-        let kept : kept_before just a ≡ kept_group_height just a = rw (ne_eqb just a.present other) refl in
-        let without = ap (λ l. height_of (lines_of l)) (others just (λ h. other (h ∙ sym own))) in
-        omega (arith, kept, kept_group_height_is more a e placing just low high known, without)
-  ]
+  no_higher just low high = search (rules, cases_eq, eq-eqb, kept_group_height, kept_group_height_is, ne_eqb)
 
   pub groups_fit_before : GroupsFitBefore height a
-  groups_fit_before =
-      let h = λ (just : ℕ). height_of (lines_of (in_group just area)) in
-      smaller_fits (h 2) (h 3) (h 4) (kept_before 2 a) (kept_before 3 a) (kept_before 4 a) height
-      (no_higher 2 (omega arith) (omega arith)) (no_higher 3 (omega arith) (omega arith)) (no_higher 4 (omega arith) (omega arith)) fits
+  groups_fit_before = search (rules, no_higher, smaller_fits)
 
 -- the groups of an area stand apart within a height, by what is kept of the area
 abbrev pub kept_fits_height : ℕ → Area → Bool
@@ -86,12 +70,7 @@ module _ (area : List Spot) (a : Area) (e : a ≡ area_sum area) (height : ℕ) 
   middle_none is = grind (arith, nat_tests, is, ap (λ (a : Area). a.middle) e, ap (λ (a : Area). a.present) e)
 
   group_by : (just : ℕ) → a.present ≡ just → 2 ≤ just → just ≤ 5 → just ≤ 4 → GroupsFitBefore height a → nat_le (kept_height a.group) (room_for just a.top a.middle height) ≡ kept_fits_height height a
-  group_by just is' low' high' = each_just (λ just. a.present ≡ just → just ≤ 4 → GroupsFitBefore height a → nat_le (kept_height a.group) (room_for just a.top a.middle height) ≡ kept_fits_height height a)
-      (λ is low before. rw (is, middle_none is) (sym (room_start (kept_height a.group) height)))
-      (λ is low before. let earlier : fit a.top 0 0 height ≡ true = rw is at before in rw is (sym (room_middle a.top (kept_height a.group) height earlier)))
-      (λ is low before. let earlier : fit a.top a.middle 0 height ≡ true = rw is at before in rw is (sym (room_end a.top a.middle (kept_height a.group) height earlier)))
-      (λ is low before. absurd (omega (arith, low)))
-      just low' high' is'
+  group_by just is' low' high' = search (rules, each_just, middle_none, room_end, room_middle, room_start)
 
   pub group_room_fits : 2 ≤ a.present → a.present ≤ 4 → GroupsFitBefore height a → nat_le (kept_height a.group) (group_room a height) ≡ kept_fits_height height a
   group_room_fits low high = group_by a.present refl low (omega (arith, high)) high
@@ -101,7 +80,4 @@ module _ (area : List Spot) (a : Area) (e : a ≡ area_sum area) (height : ℕ) 
 module _ (sign : SignData) (items : List Meaning) (none : some_after (offence Off sign) items ≡ []) where
   -- what an item here joins fits without it
   pub fits_without : (s : Spot) → s.at ≡ standing sign items → FitsWithout (spots sign items) s
-  fits_without s at =
-      let before = spots sign items in
-      subst (λ (t : Standing). (line_fits t.rectangle.width (after_last is_break (in_group (page_number t.page_just) (in_area t.area before))) ≡ true) × (area_fits t.rectangle.height (in_area t.area before) ≡ true)) (sym at)
-      (lines_fit_always sign items none (page_number (standing sign items).page_just), area_fits_always sign items none)
+  fits_without s at = search (rules, area_fits_always, lines_fit_always)

@@ -1,5 +1,5 @@
 -- Bounds on the sums that are kept: what is below one is below a larger one.
-use Rattle.std.proofs.Common.{ℕ, ◌+◌, ◌≤◌, Option, Some, None, arith}
+use Rattle.std.proofs.Common.{ℕ, ◌+◌, ◌≤◌, Option, Some, None, arith, rules}
 use Rattle.multi_judge.specs.declared.area.Area.{Area}
 use Rattle.multi_judge.specs.declared.area.Group.{Group}
 use Rattle.multi_judge.specs.declared.fill.Split.{Split}
@@ -13,13 +13,7 @@ segment_more : (k m : ℕ) (segment : Segment) → k ≤ m → IsSegmentBelow k 
 segment_more k m segment h b = record { width = omega (arith, b.width); count = omega (arith, b.count) }
 
 pub line_more : (k m : ℕ) (line : Line) → k ≤ m → IsLineBelow k line → IsLineBelow m line
-line_more k m line h b = record {
-  left = omega (arith, b.left);
-  centre = omega (arith, b.centre);
-  right = omega (arith, b.right);
-  part = segment_more k m line.part h b.part;
-  known = b.known;
-}
+line_more k m line h b = search (rules, segment_more)
 
 pub group_more : (k m : ℕ) (group : Group) → k ≤ m → IsGroupBelow k group → IsGroupBelow m group
 group_more k m group h b = record { ended = omega (arith, b.ended); closed = omega (arith, b.closed); line = line_more k m group.line h b.line }

@@ -1,5 +1,5 @@
 -- The sums of a group whose present line is another.
-use Rattle.std.proofs.Common.{◌≡◌, true, List, [], ◌∷◌, ◌++◌, sym, ap, ◌∙◌}
+use Rattle.std.proofs.Common.{◌≡◌, true, List, [], ◌∷◌, ◌++◌, ap, ◌∙◌, rules}
 use Rattle.std.specs.List.{after_last, AllPass}
 use Rattle.std.proofs.lemmas.List.Elements.{All-cons, All-append}
 use Rattle.multi_meaning.specs.Address.{Spot, is_break, is_glyph}
@@ -22,9 +22,4 @@ none_behind group b e =
 
 -- a group whose present line is empty, with characters behind it
 pub relined : (front line : List Spot) → after_last is_break front ≡ [] → AllPass is_glyph line → ◌≡◌ {A = Group} (record (group_sum front) { line = line_sum line }) (group_sum (front ++ line))
-relined front line none glyphs =
-    let empty : (cut is_break front).open' ≡ [] = sym (after_last_is is_break front) ∙ none in
-    ap (λ (g : Group). let k : Group = record g { line = line_sum line } in k) (sums_are front)
-    ∙ ap (λ l. let c : Cut Spot = record { closed = (cut is_break front).closed; open' = l ++ line } in cut_sums c) (sym empty)
-    ∙ ap cut_sums (sym (cut_with line front glyphs))
-    ∙ sym (sums_are (front ++ line))
+relined front line none glyphs = search (rules, Cut, after_last_is, cut, cut_sums, cut_with, sums_are)

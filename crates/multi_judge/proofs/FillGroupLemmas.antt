@@ -1,5 +1,5 @@
 -- The sums of a filled group at one more character, in each case that filling tells apart.
-use Rattle.std.proofs.Common.{◌≡◌, ◌≤◌, inl, inr, ℕ, Bool, true, false, cond, not, ◌&&◌, ◌==◌, arith, List, [], ◌∷◌, ◌++◌, Option, Some, None, refl, sym, ap, subst, ◌∙◌, append_assoc, append-nil}
+use Rattle.std.proofs.Common.{◌≡◌, ◌≤◌, inl, inr, ℕ, Bool, true, false, cond, not, ◌&&◌, ◌==◌, arith, List, [], ◌∷◌, ◌++◌, Option, Some, None, refl, sym, ap, subst, ◌∙◌, append_assoc, append-nil, rules}
 use Rattle.std.specs.List.{after_last, list_any, All, AllPass}
 use Rattle.std.specs.Option.{option_map}
 use Rattle.std.specs.Prelude.{nat_le}
@@ -68,18 +68,12 @@ with_line group line = record group { line = line }
 
 -- what stands behind a list that ends a line
 pub line_behind : (front line : List Spot) → after_last is_break front ≡ [] → AllPass is_glyph line → after_last is_break (front ++ line) ≡ line
-line_behind front line none glyphs =
-    after_last_is is_break (front ++ line)
-    ∙ ap (λ (c : Cut Spot). c.open') (cut_with line front glyphs)
-    ∙ ap (λ l. l ++ line) (sym (after_last_is is_break front) ∙ none)
+line_behind front line none glyphs = search (rules, Cut, after_last_is, cut_with)
 
 -- the sums with another line behind the same list
 pub lined_anew : (front line other : List Spot) → after_last is_break front ≡ [] → AllPass is_glyph line → AllPass is_glyph other → (self : Group) → self ≡ group_sum (front ++ line)
     → (l : Line) → l ≡ line_sum other → with_line self l ≡ group_sum (front ++ other)
-lined_anew front line other none glyphs others self e l is =
-    ap (λ (g : Group). with_line g l) (e ∙ sym (relined front line none glyphs))
-    ∙ ap (with_line (group_sum front)) is
-    ∙ relined front other none others
+lined_anew front line other none glyphs others self e l is = search (rules, relined)
 
 laid_one : (s t : Spot) → IsPlacing s → LaidAs s t → IsPlacing t
 laid_one s t h (inl e) = subst IsPlacing (sym e) h
@@ -161,14 +155,21 @@ module _ {width : ℕ} {group : List Spot} {s : Spot} {character : Character} {s
     on_line : filled (Some width) (group ++ s ∷ []) ≡ old ++ s ∷ [] → (split : Option Split) → split ≡ split_sum (open' ++ s ∷ [])
         → Joined width group s (with_line self grown) split None
     on_line is split parts =
-        let glyphs = open_line_glyphs width group j.placing in
-        let none : after_last is_break front ≡ [] = after_last_is is_break front ∙ ends_open width front (ended_ends width group j.placing) in (
-          lined_anew front line (line ++ s ∷ []) none glyphs (glyphs_more line glyphs) self (j.sum ∙ ap group_sum all_is) grown
-              (sum ∙ ap (λ l. line_sum (l ++ s ∷ [])) line_is)
-              ∙ ap group_sum (sym (append_assoc front line (s ∷ [])) ∙ ap (λ l. l ++ s ∷ []) (sym all_is) ∙ sym is),
-          parts ∙ ap split_sum (sym (present_push old s j.is.glyph) ∙ ap (after_last is_break) (sym is)),
-          ap ended_lines is ∙ ended_glyph old s j.is.glyph,
-          fits_behind width open' s grown sum j.apart j.fits,
+        search (
+          rules,
+          after_last_is,
+          all_is,
+          append_assoc,
+          ended_ends,
+          ended_glyph,
+          ends_open,
+          fits,
+          fits_behind,
+          glyphs_more,
+          line_is,
+          lined_anew,
+          open_line_glyphs,
+          present_push,
         )
 
     -- since it fits

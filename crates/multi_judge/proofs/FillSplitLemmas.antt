@@ -1,9 +1,8 @@
 -- The sums around the last space of a line, at one more character.
-use Rattle.std.proofs.Common.{◌≡◌, true, false, List, [], ◌∷◌, ◌++◌, Option, Some, None, sym, ap, subst, ◌∙◌}
+use Rattle.std.proofs.Common.{◌≡◌, true, false, List, [], ◌∷◌, ◌++◌, Option, Some, None, sym, ap, subst, ◌∙◌, rules, arith}
 use Rattle.std.proofs.lemmas.Bool.{or_parts}
 use Rattle.std.specs.List.{AllPass, list_any}
 use Rattle.std.specs.Option.{option_map}
-use Rattle.sign_font.specs.Sign.{info_of}
 use Rattle.multi_meaning.specs.Address.{Spot, is_glyph}
 use Rattle.multi_meaning.specs.Filling.{CutAt, cut_at_last, is_space, longer}
 use Rattle.multi_meaning.specs.Offence.{clashes}
@@ -35,11 +34,7 @@ parts_of line s split glyphs apart o =
 
 pub split_space : (line : List Spot) (s : Spot) (character : Character) → IsCharacter s character → is_space s ≡ true → (before none : Line) → before ≡ line_sum line → none ≡ line_sum []
     → ◌≡◌ {A = Option Split} (Some (record { before = before; font = character.font; behind = none })) (split_sum (line ++ s ∷ []))
-split_space line s character is h before none e n =
-    ap (λ l. let p : Split = record { before = l; font = character.font; behind = none } in Some p) e
-    ∙ ap (λ f. let p : Split = record { before = line_sum line; font = f; behind = none } in Some p) is.font
-    ∙ ap (λ l. let p : Split = record { before = line_sum line; font = info_of s.at.font; behind = l } in Some p) n
-    ∙ ap (option_map parts_sum) (sym (word_begins line s h))
+split_space line s character is h before none e n = search (rules, word_begins)
 
 split_if : (line : List Spot) (s : Spot) (o : Option (CutAt Spot)) → is_space s ≡ false → cut_at_last is_space line ≡ o → split_sum (line ++ s ∷ []) ≡ option_map parts_sum (option_map (longer (s ∷ [])) o)
 split_if line s o w e = ap (option_map parts_sum) (word_grows line s o w e)
@@ -51,8 +46,4 @@ pub split_word : (line : List Spot) (s : Spot) (character : Character) → AllPa
     → (split : Split) (more : Line) → Some split ≡ split_sum line
     → ((l : List Spot) (t : Spot) → AllPass is_glyph l → IsCharacter t character → split.behind ≡ line_sum l → list_any (clashes t) l ≡ false → more ≡ line_sum (l ++ t ∷ []))
     → ◌≡◌ {A = Option Split} (Some (record { before = split.before; font = split.font; behind = more })) (split_sum (line ++ s ∷ []))
-split_word line s character glyphs is w apart split more o grows =
-    let (c, found, parts, before, behind, away) = parts_of line s split glyphs apart o in
-    ap (λ (p : Split). let q : Split = record { before = p.before; font = p.font; behind = more } in Some q) (sym parts)
-    ∙ ap (λ l. let q : Split = record { before = line_sum c.before; font = info_of c.item.at.font; behind = l } in Some q) (grows c.behind s behind is (ap (λ (p : Split). p.behind) (sym parts)) away)
-    ∙ sym (split_if line s (Some c) w found)
+split_word line s character glyphs is w apart split more o grows = grind (arith, parts_of, split_if)

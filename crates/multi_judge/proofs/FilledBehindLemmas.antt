@@ -3,7 +3,7 @@ use Rattle.multi_judge.proofs.JudgedLemmas.{area_stays}
 use Rattle.multi_judge.proofs.LimitLemmas.{limited_none}
 use Rattle.multi_judge.specs.Sums.{area_sum}
 use Rattle.multi_meaning.specs.kept.FillOpen.{AllOpenFit}
-use Rattle.std.proofs.Common.{◌≡◌, ℕ, ◌*◌, ◌≤◌, true, false, inl, inr, List, [], ◌∷◌, ◌++◌, length, Option, Some, None, Result, Ok, Err, refl, sym, ap, subst, ◌∙◌, arith, append-nil, ◌&&◌}
+use Rattle.std.proofs.Common.{◌≡◌, ℕ, ◌*◌, ◌≤◌, true, false, List, [], ◌∷◌, ◌++◌, length, Option, Some, None, Result, Ok, Err, refl, sym, ap, subst, ◌∙◌, arith, append-nil, ◌&&◌, rules}
 use Rattle.std.specs.List.{after_last}
 use Rattle.std.proofs.lemmas.Bool.{cases_eq, le-leb}
 use Rattle.std.proofs.lemmas.List.{length-append}
@@ -21,7 +21,7 @@ use Rattle.multi_meaning.specs.Laid.{too_big}
 use Rattle.multi_meaning.specs.LaidItems.{laid_items}
 use Rattle.multi_meaning.specs.Meaning.{Meaning, Does}
 use Rattle.multi_meaning.specs.Offence.{conflicts, offence}
-use Rattle.multi_meaning.specs.kept.Present.{present_area, standing_behind}
+use Rattle.multi_meaning.specs.kept.Present.{present_area}
 use Rattle.multi_meaning.specs.Words.{largest}
 use Rattle.multi_meaning.proofs.GroupLemmas.{in_group_other, own_group, placing_group, area_placing}
 use Rattle.multi_meaning.proofs.FillLemmas.{nothing_fits}
@@ -84,19 +84,7 @@ pub filled_of : (sign : SignData) (items more : List Meaning) (old new : Pass) �
     → (group : List Spot) → in_group page (present_area sign more) ≡ group → new.split ≡ split_sum (after_last is_break (filled (Some (standing sign items).rectangle.width) group))
     → new.order ≡ order_sum (after_last is_break group) → line_fits (standing sign items).rectangle.width (after_last is_break (filled (Some (standing sign items).rectangle.width) group)) ≡ true → IsFilledOf sign more new
 filled_of sign items more old new of st limited area_fits below width page present others group own split order fits =
-    let group_is = ap (λ j. in_group j (present_area sign more)) present ∙ own in
-    record {
-      state_is = st;
-      split_is = split ∙ sym (λ i. split_sum (after_last is_break (filled (Some (width i)) (group_is i))));
-      order_is = order ∙ sym (ap (λ l. order_sum (after_last is_break l)) group_is);
-      split_below = below;
-      limited = limited;
-      area_fits = area_fits;
-      fits = λ j. elim (cases_eq page j) [
-        | inl same ↦ (λ i. line_fits (width i) (after_last is_break (filled (Some (width i)) ((ap (λ j. in_group j (present_area sign more)) (sym same) ∙ own) i)))) ∙ fits
-        | inr differ ↦ (λ i. line_fits (width i) (after_last is_break (filled (Some (width i)) (others j differ i)))) ∙ of.fits j
-      ];
-    }
+    grind (arith, cases_eq)
 
 module _ (sign : SignData) (items : List Meaning) (kept : Pass) (of : IsFilledOf sign items kept) (tag : Tag) (state : State)
     (st : IsStateOf sign (laid_items Words sign items items ++ Does tag ∷ []) state) (limited : IsLimited state) (fine : offence Off sign (laid_items Words sign items items) (Does tag) ≡ None) where
@@ -178,13 +166,7 @@ module _ (sign : SignData) (items : List Meaning) (kept : Pass) (of : IsFilledOf
   laid = laid_items Words sign items items
 
   width_stays : (tag : Tag) → begins_line tag ≡ false → (standing sign (items ++ Does tag ∷ [])).rectangle.width ≡ (standing sign items).rectangle.width
-  width_stays tag e = ap (λ (t : Standing). t.rectangle.width) (standing_push sign items (Does tag)) ∙ of_tag tag e
-    where
-      of_tag : (tag : Tag) → begins_line tag ≡ false → (standing_behind sign (standing sign items) (Does tag)).rectangle.width ≡ (standing sign items).rectangle.width
-      of_tag NewPage e = cc
-      of_tag (NewLine gap) e = cc
-      of_tag (Rect x y w h) e = cc
-      of_tag tag e = refl
+  width_stays tag e = search (rules, standing_push, width)
 
   as_laid : sign.line_fill ≡ Words → (tag : Tag) → offence sign.line_fill sign items (Does tag) ≡ offence Off sign laid (Does tag)
   as_laid words tag = ap (λ (setting : LineFill). offence setting sign items (Does tag)) words ∙ offends_as_laid sign items tag

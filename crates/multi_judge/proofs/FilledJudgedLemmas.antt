@@ -1,5 +1,5 @@
 -- One more character is judged where lines are filled, by what is kept of the items before it.
-use Rattle.std.proofs.Common.{◌≡◌, ℕ, Bool, true, false, cond, not, ◌&&◌, ◌||◌, ◌==◌, nat_lt, List, [], ◌∷◌, ◌++◌, Option, Some, None, refl, sym, ap, subst, ◌∙◌, arith, append-nil}
+use Rattle.std.proofs.Common.{◌≡◌, ℕ, Bool, true, false, cond, not, ◌&&◌, ◌||◌, ◌==◌, nat_lt, List, [], ◌∷◌, ◌++◌, Option, Some, None, refl, sym, ap, subst, ◌∙◌, arith, append-nil, rules}
 use Rattle.std.specs.List.{after_last, list_any}
 use Rattle.multi_tag.specs.Just.{page_number}
 use Rattle.sign_font.specs.declared.parts.LineFill.TheVariants.{Words}
@@ -92,13 +92,7 @@ module _ (sign : SignData) (items : List Meaning) (kept : Pass) (of : IsFilledOf
     pub shown_character : (cell : CellData) (found : cell_numbered (standing sign items).font number ≡ Some cell) → c.width ≡ cell.width
         → (character : Character) → character.just ≡ kept.state.attributes.line_just → character.spacing ≡ kept.state.attributes.spacing → character.width ≡ c.width → character.font ≡ kept.state.attributes.font
         → IsCharacter (shown sign items number cell found) character
-    shown_character cell found width character just spacing wide font = record {
-      glyph = refl;
-      just = just ∙ ap (λ (a : Attributes). a.line_just) attributes_here;
-      spacing = spacing ∙ ap (λ (a : Attributes). a.spacing) attributes_here;
-      width = wide ∙ width;
-      font = font ∙ ap (λ (a : Attributes). a.font) attributes_here;
-    }
+    shown_character cell found width character just spacing wide font = search (rules, attributes_here)
 
     -- what `Area::fill_character` says of the area and the split behind it, by its page justification and the width of its rectangle
     abbrev pub Fills : Character → Bool → Area → Option Split → Option Line → ℕ → ℕ → Type 0

@@ -1,6 +1,6 @@
 -- The order of justifications since a hard break, with one more character; and what clashes with nothing since then doesn't on the
 -- open line.
-use Rattle.std.proofs.Common.{◌≡◌, ℕ, Bool, false, ◌&&◌, ◌||◌, ◌==◌, List, [], ◌∷◌, ◌++◌, length, Option, Some, None, zero, suc, refl, sym, ap, ◌∙◌, append_assoc, arith}
+use Rattle.std.proofs.Common.{◌≡◌, ℕ, Bool, false, ◌||◌, List, [], ◌∷◌, ◌++◌, length, Option, Some, None, zero, suc, refl, sym, ap, ◌∙◌, append_assoc, arith, rules}
 use Rattle.std.specs.Prelude.{nat_lt}
 use Rattle.std.specs.List.{after_last, list_any, All}
 use Rattle.std.proofs.lemmas.Bool.{le-ltb, or_parts}
@@ -61,12 +61,7 @@ order_more line s just parts is apart e =
 
 -- a character with the justification of the last one clashes with none
 pub order_apart : (line : List Spot) (s : Spot) (order : Order) → order ≡ order_sum line → order.largest ≡ line_number s.at.line_just → order.has_parts ≡ nat_lt (line_number s.at.line_just) 5 → list_any (clashes s) line ≡ false
-order_apart line s order e largest_is parts =
-    line_clashes line s
-    ∙ ap (λ n. nat_lt (line_number s.at.line_just) n || ((line_number s.at.line_just == 5) && list_any (λ (t : Spot). nat_lt (line_number t.at.line_just) 5) line)) (ap (λ (o : Order). o.largest) (sym e) ∙ largest_is)
-    ∙ ap (λ b. nat_lt (line_number s.at.line_just) (line_number s.at.line_just) || ((line_number s.at.line_just == 5) && b)) (ap (λ (o : Order). o.has_parts) (sym e) ∙ parts)
-    ∙ ap (λ b. b || ((line_number s.at.line_just == 5) && nat_lt (line_number s.at.line_just) 5)) (le-ltb (line_number s.at.line_just) (line_number s.at.line_just) (omega arith))
-    ∙ not_full (line_number s.at.line_just)
+order_apart line s order e largest_is parts = search (rules, le-ltb, line_clashes, not_full, parts)
 
 -- and leaves it as it is
 pub order_stays : (line : List Spot) (s : Spot) (order : Order) → order ≡ order_sum line → order.largest ≡ line_number s.at.line_just → order.has_parts ≡ nat_lt (line_number s.at.line_just) 5 → order ≡ order_sum (line ++ s ∷ [])

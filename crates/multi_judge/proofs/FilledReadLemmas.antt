@@ -1,5 +1,5 @@
 -- The verdict from the items read so far, where lines are filled.
-use Rattle.std.proofs.Common.{◌≡◌, ℕ, ◌*◌, ◌^◌, ◌<◌, ◌≤◌, List, [], length, map, sym, ap, ◌∙◌, arith, append-nil}
+use Rattle.std.proofs.Common.{◌≡◌, ℕ, ◌^◌, ◌<◌, ◌≤◌, List, [], length, map, sym, ap, ◌∙◌, append-nil, rules}
 use Rattle.sign_font.specs.declared.parts.LineFill.TheVariants.{Words}
 use Rattle.sign_font.specs.Sign.{SignData}
 use Rattle.multi_meaning.specs.Address.{Standing}
@@ -20,10 +20,7 @@ use Rattle.multi_judge.proofs.ReadLemmas.{few_here}
 module _ (sign : SignData) (items : List Meaning) (kept : Pass) (of : IsFilledOf sign items kept) where
   -- what is kept of few items is small enough
   pub filled_ready : length items ≤ 2 ^ 32 → IsFilledReady kept
-  filled_ready few = record {
-    state = ready sign (laid_items Words sign items items) kept.state of.state_is (omega (arith, few, laid_count sign items));
-    split = split_more (1024 * length items) (2 ^ 62) kept.split (omega (arith, few)) of.split_below;
-  }
+  filled_ready few = search (rules, laid_count, ready, split_more)
 
   -- it has their pages and times
   pub kept_pages : kept.state.pages ≡ pages_of items

@@ -130,12 +130,7 @@ module _ (kept : Pass) (run : IsFilledRun kept) (gap : ℕ) (runs : IsRun kept.s
 
   -- what is kept with it is that of a run
   pub one_goes_on : IsFilledRun (with_one gap width space kept)
-  one_goes_on =
-      record {
-        behind = behind_stays kept.state (line.part.width + (gap + width)) (line.part.count + 1) run.behind;
-        order = run.order;
-        split = split_goes_on here gap width runs.gap_is space line kept.split run.split;
-      }
+  one_goes_on = search (rules, behind_stays)
 
   -- the group grows by it
   fills_one : FillsArea (page_number here.page_just) here.rectangle.width kept.state.area kept.split (character_of here width) space area' (split_one here gap width space line kept.split) None

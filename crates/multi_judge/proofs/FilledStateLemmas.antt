@@ -1,10 +1,9 @@
 -- What is kept of the items of a string as they are laid out, behind one more character.
-use Rattle.std.proofs.Common.{◌≡◌, ℕ, ◌+◌, ◌*◌, Bool, true, false, cond, List, [], ◌∷◌, ◌++◌, length, Option, Some, None, refl, sym, ap, subst, ◌∙◌, arith, append_assoc, append-nil}
+use Rattle.std.proofs.Common.{◌≡◌, ℕ, ◌+◌, ◌*◌, Bool, true, false, cond, List, [], ◌∷◌, ◌++◌, length, Option, Some, None, refl, sym, ap, subst, ◌∙◌, arith, append_assoc, append-nil, rules}
 use Rattle.std.specs.List.{cons_option}
-use Rattle.std.specs.Option.{option_map}
 use Rattle.sign_font.specs.declared.parts.LineFill.{LineFill}
 use Rattle.sign_font.specs.Sign.{SignData, CellData, cell_numbered, font_numbered}
-use Rattle.multi_meaning.specs.Address.{Glyph, Standing, in_area, put_at, spots, standing}
+use Rattle.multi_meaning.specs.Address.{Glyph, Standing, in_area, spots, standing}
 use Rattle.multi_meaning.specs.Laid.{laid}
 use Rattle.multi_meaning.specs.LaidItems.{laid_item, laid_items}
 use Rattle.multi_meaning.specs.Meaning.{Meaning, Shows, is_new_page}
@@ -36,15 +35,7 @@ pages_at sign xs ys e = ap (λ n. n + 1) e
 module _ (setting : LineFill) (sign : SignData) where
   -- what is laid of a new page is a new page
   pub same_page : (all some more : List Meaning) (x : Meaning) → all ≡ some ++ x ∷ more → is_new_page (laid_item setting sign all some x) ≡ is_new_page x
-  same_page all some more x is =
-      let y = laid_item setting sign all some x in
-      let here = (are_laid setting sign all some (x ∷ more) is).0 in
-      let behind = (are_laid setting sign all (some ++ x ∷ []) more (is ∙ sym (append_assoc some (x ∷ []) more))).0 in
-      let push : laid_items setting sign all (some ++ x ∷ []) ≡ laid_items setting sign all some ++ y ∷ [] = each_after_push (laid_item setting sign all) some x in
-      let laid_page : (standing sign (laid_items setting sign all some)).page + cond (is_new_page y) 1 0 ≡ (standing sign some).page + cond (is_new_page x) 1 0 =
-      ap (λ (s : Standing). s.page) (sym (standing_push sign (laid_items setting sign all some) y) ∙ ap (standing sign) (sym push) ∙ behind ∙ standing_push sign some x) in
-      let page : (standing sign (laid_items setting sign all some)).page ≡ (standing sign some).page = ap (λ (s : Standing). s.page) here in
-      one_of (is_new_page y) (is_new_page x) (omega (arith, laid_page, page))
+  same_page all some more x is = search (rules, append_assoc, are_laid, each_after_push, standing_push)
 
   -- the pages that are ended have the same times
   pub same_times : (all some more : List Meaning) → all ≡ some ++ more → ended_times sign (laid_items setting sign all some) ≡ ended_times sign some
@@ -86,11 +77,7 @@ module _ (setting : LineFill) (sign : SignData) where
 
     pub laid_area_more : present_area sign laid_more
         ≡ in_area (standing sign items).area (laid setting (spots sign items ++ record { at = standing sign items; put = Glyph cell } ∷ []) (spots sign items ++ record { at = standing sign items; put = Glyph cell } ∷ []))
-    laid_area_more =
-        let here : (standing sign laid_more).area ≡ (standing sign items).area = ap (λ (s : Standing). s.area) (behind.0 ∙ standing_push sign items (Shows number)) ∙ omega arith in
-        let put : put_at sign.defaults (standing sign items) (Shows number) ≡ Some (Glyph cell) = ap (option_map Glyph) found in
-        ap (λ k. in_area k (spots sign laid_more)) here
-        ∙ ap (in_area (standing sign items).area) (behind.1 ∙ ap (λ l. laid setting l l) (spots_more sign items (Shows number) (Glyph cell) put))
+    laid_area_more = search (rules, behind, spots_more, standing_push)
 
     pub filled_state : (state : State) (area : Area) (limits : Limits) → IsStateOf sign laid_before state → area ≡ area_sum (present_area sign laid_more) → IsBelow (1024 * length laid_more) area
         → IsStateOf sign laid_more (record state { area = area; limits = limits })

@@ -1,5 +1,5 @@
 -- A word behind a character with the same attributes, where lines are filled: what is kept with it.
-use Rattle.std.proofs.Common.{◌≡◌, ℕ, inl, inr, ◌+◌, ◌-◌, ◌^◌, ◌<◌, ◌≤◌, Bool, true, false, cond, ◌==◌, List, [], ◌∷◌, length, take, drop, slice_get, Option, Some, None, refl, sym, ap, subst, ◌∙◌, arith}
+use Rattle.std.proofs.Common.{◌≡◌, ℕ, ◌+◌, ◌-◌, ◌^◌, ◌<◌, ◌≤◌, false, cond, ◌==◌, List, [], ◌∷◌, length, take, drop, slice_get, Option, Some, None, refl, ap, subst, ◌∙◌, arith, rules}
 use Rattle.std.specs.List.{All}
 use Rattle.std.specs.Option.{option_map}
 use Rattle.std.proofs.lemmas.Bool.{cases_eq, ne_eqb}
@@ -23,14 +23,7 @@ use Rattle.multi_judge.proofs.RunReadLemmas.{front_taken}
 module _ (here : Attributes) (gap : ℕ) where
   -- no character more
   run_none : (line : Line) → with_run here gap 0 0 line ≡ line
-  run_none line = by_any line.any refl
-    where
-      by_any : (b : Bool) → line.any ≡ b → with_run here gap 0 0 line ≡ line
-      by_any true some =
-          let wide : line.part.width + 0 ≡ line.part.width = omega arith in
-          let many : line.part.count + 0 ≡ line.part.count = omega arith in
-          run_some here gap 0 0 line some ∙ rw (wide, many) refl
-      by_any false none = ap (λ b. cond b (longer_line 0 0 line) line) none
+  run_none line = search (rules, run_some)
 
   -- a line of no character begins with some
   run_begun : (pixels count : ℕ) (line : Line) → line.any ≡ false → 1 ≤ count → with_run here gap pixels count line ≡ even_line here (pixels - gap) count line
@@ -41,29 +34,7 @@ module _ (here : Attributes) (gap : ℕ) where
   -- some, and one more
   run_more : (pixels count width : ℕ) (line : Line) → (count ≡ 0 → pixels ≡ 0) → (1 ≤ count → gap ≤ pixels)
       → with_run here gap (gap + width) 1 (with_run here gap pixels count line) ≡ with_run here gap (pixels + (gap + width)) (count + 1) line
-  run_more pixels count width line empty wide_enough = by_any line.any refl
-    where
-      by_any : (b : Bool) → line.any ≡ b → with_run here gap (gap + width) 1 (with_run here gap pixels count line) ≡ with_run here gap (pixels + (gap + width)) (count + 1) line
-      by_any true some =
-          let wide : line.part.width + pixels + (gap + width) ≡ line.part.width + (pixels + (gap + width)) = omega arith in
-          let many : line.part.count + count + 1 ≡ line.part.count + (count + 1) = omega arith in
-          ap (with_run here gap (gap + width) 1) (run_some here gap pixels count line some)
-          ∙ run_some here gap (gap + width) 1 (longer_line pixels count line) some
-          ∙ rw (wide, many) refl
-          ∙ sym (run_some here gap (pixels + (gap + width)) (count + 1) line some)
-      by_any false none =
-          let all = run_begun (pixels + (gap + width)) (count + 1) line none (omega arith) in
-          elim (cases_eq count 0) [
-            | inl zero ↦
-                let nothing : with_run here gap pixels count line ≡ line = (λ i. with_run here gap (empty zero i) (zero i) line) ∙ run_none line in
-                let wide : gap + width - gap ≡ pixels + (gap + width) - gap = omega (arith, empty zero) in
-                let one : 1 ≡ count + 1 = omega (arith, zero) in
-                ap (with_run here gap (gap + width) 1) nothing ∙ run_begun (gap + width) 1 line none (omega arith) ∙ (λ i. even_line here (wide i) (one i) line) ∙ sym all
-            | inr other ↦
-                let some : 1 ≤ count = omega (arith, other) in
-                let wide : pixels - gap + (gap + width) ≡ pixels + (gap + width) - gap = omega (arith, wide_enough some) in
-                ap (with_run here gap (gap + width) 1) (run_begun pixels count line none some) ∙ ap (λ n. even_line here n (count + 1) line) wide ∙ sym all
-          ]
+  run_more pixels count width line empty wide_enough = search (rules, cases_eq, run_begun, run_none, run_some)
 
   split_none : (split : Option Split) → option_map (with_run_behind here gap 0 0) split ≡ split
   split_none None = refl
@@ -75,18 +46,10 @@ module _ (here : Attributes) (gap : ℕ) where
   split_more pixels count width (Some parts) empty wide = ap (λ l. let p : Split = record parts { behind = l } in Some p) (run_more pixels count width parts.behind empty wide)
 
 with_none : (gap : ℕ) (kept : Pass) → with_word gap 0 0 kept ≡ kept
-with_none gap kept =
-    let line = line_in_force kept.state in
-    let wide : line.part.width + 0 ≡ line.part.width = omega arith in
-    let many : line.part.count + 0 ≡ line.part.count = omega arith in
-    rw (wide, many, split_none kept.state.attributes gap kept.split) refl
+with_none gap kept = search (rules)
 
 with_more : (gap pixels count width : ℕ) (kept : Pass) → (count ≡ 0 → pixels ≡ 0) → (1 ≤ count → gap ≤ pixels) → with_one gap width false (with_word gap pixels count kept) ≡ with_word gap (pixels + (gap + width)) (count + 1) kept
-with_more gap pixels count width kept empty enough =
-    let line = line_in_force kept.state in
-    let wide : line.part.width + pixels + (gap + width) ≡ line.part.width + (pixels + (gap + width)) = omega arith in
-    let many : line.part.count + count + 1 ≡ line.part.count + (count + 1) = omega arith in
-    rw (wide, many, split_more kept.state.attributes gap pixels count width kept.split empty enough) refl
+with_more gap pixels count width kept empty enough = search (rules)
 
 both_of : (P Q : ℕ → Type 0) (xs : List ℕ) → All P xs → All Q xs → All (λ x. P x × Q x) xs
 both_of P Q [] p q = All-nil (λ x. P x × Q x)

@@ -1,5 +1,5 @@
 -- The sums of a group after one more placing item, and its height.
-use Rattle.std.proofs.Common.{◌≡◌, ℕ, ◌+◌, max, Bool, true, false, cond, ◌||◌, List, [], ◌∷◌, ◌++◌, length, Option, Some, None, refl, sym, ap, subst, ◌∙◌, arith}
+use Rattle.std.proofs.Common.{◌≡◌, ℕ, ◌+◌, max, Bool, true, false, cond, ◌||◌, List, [], ◌∷◌, ◌++◌, length, Option, Some, None, refl, sym, ap, subst, ◌∙◌, arith, rules}
 use Rattle.std.specs.List.{filter_map, last_or, list_any, after_last, cons_option, All, AllPass}
 use Rattle.std.specs.Option.{unwrap_or, option_map, option_map_or}
 use Rattle.std.proofs.lemmas.List.Elements.{filter_map-append, All-head, All-tail}
@@ -71,10 +71,7 @@ present_glyphs just area h = subst (AllPass is_glyph) (sym (after_last_is is_bre
 
 -- a character stands on the present line
 pub present_push : (group : List Spot) (s : Spot) → is_glyph s ≡ true → after_last is_break (group ++ s ∷ []) ≡ after_last is_break group ++ s ∷ []
-present_push group s g =
-    after_last_is is_break (group ++ s ∷ [])
-    ∙ ap (λ (c : Cut Spot). c.open') (cut_push is_break group s ∙ ap (λ b. cut_if is_break b (cut is_break group) s) (glyph_put s.at s.put g).0)
-    ∙ ap (λ l. l ++ s ∷ []) (sym (after_last_is is_break group))
+present_push group s g = search (rules, Cut, after_last_is, cut, cut_if, cut_push, glyph_put)
 
 -- a group after one more character
 pub group_character : (just : ℕ) (area : List Spot) (s : Spot) → page_number s.at.page_just ≡ just → is_glyph s ≡ true → (group : Group) (line : Line) → group ≡ group_sum (in_group just area) → line ≡ line_sum (after_last is_break (in_group just area) ++ s ∷ [])
@@ -98,10 +95,4 @@ same_group a b n m o p l k c d e f = rw (c, d, e, f) refl
 -- the height of the ended lines and one more, from the sums
 pub more_height : (closed : List (List Spot)) (line : List Spot) (group : Group) (gap height spacing : ℕ) → group.closed ≡ height_of closed → group.last ≡ option_map ended_sum (last_or None closed)
     → gap ≡ option_map_or (λ ended. unwrap_or ended.gap (average ended.spacing spacing)) group.last 0 → spacing ≡ line_spacing line → height ≡ line_height line → group.closed + gap + height ≡ height_of (closed ++ line ∷ [])
-more_height closed line group gap height spacing c last g s h =
-    let between : gap ≡ gap_before line_gap closed line =
-    g ∙ ap (λ o. option_map_or (λ ended. unwrap_or ended.gap (average ended.spacing spacing)) o 0) last
-    ∙ ap (λ n. option_map_or (λ ended. unwrap_or ended.gap (average ended.spacing n)) (option_map ended_sum (last_or None closed)) 0) s
-    ∙ gap_if (last_or None closed) line in
-    ap (λ n. n + gap + height) c ∙ ap (λ n. height_of closed + n + height) between ∙ ap (λ n. height_of closed + gap_before line_gap closed line + n) h
-    ∙ sym (extent_push line_height line_gap closed line)
+more_height closed line group gap height spacing c last g s h = search (rules, extent_push, gap_before)

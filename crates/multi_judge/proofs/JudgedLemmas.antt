@@ -1,5 +1,5 @@
 -- The state of the items read so far, at one more item.
-use Rattle.std.proofs.Common.{◌≡◌, ℕ, ◌+◌, ◌*◌, ◌^◌, ◌≤◌, true, false, cond, inl, inr, List, [], ◌∷◌, ◌++◌, length, Option, Some, None, refl, sym, ap, ◌∙◌, subst, arith, append-nil}
+use Rattle.std.proofs.Common.{◌≡◌, ℕ, ◌+◌, ◌*◌, ◌^◌, ◌≤◌, true, false, cond, inl, inr, List, [], ◌∷◌, ◌++◌, length, Option, Some, None, refl, sym, ap, ◌∙◌, arith, append-nil, rules}
 use Rattle.std.specs.Prelude.{nat_lt, ◌==◌}
 use Rattle.std.specs.List.{count_by, cons_option, find}
 use Rattle.std.specs.Option.{option_map, option_and_then, unwrap_or}
@@ -16,7 +16,7 @@ use Rattle.sign_font.specs.Cell.{SizedCell}
 use Rattle.sign_font.specs.Sign.{SignData, CellData, FontData, cell_in, cell_numbered, font_numbered, info_of, sized}
 use Rattle.sign_font.specs.declared.font.FontInfo.{FontInfo}
 use Rattle.multi_meaning.specs.Attributes.{default_font, default_line_just, default_page_just, whole_sign}
-use Rattle.multi_meaning.specs.Address.{Spot, Cover, Glyph, Standing, spots, standing}
+use Rattle.multi_meaning.specs.Address.{Spot, Cover, Glyph, spots, standing}
 use Rattle.multi_meaning.specs.Meaning.{Meaning, Shows, Does, is_new_page}
 use Rattle.multi_meaning.specs.Offence.{conflicts, never_big, offence, unsized_offence}
 use Rattle.multi_meaning.specs.kept.Present.{present_area, standing_behind}
@@ -54,11 +54,7 @@ cycle-stays sign items x same =
 
 pub cycle-grows : (sign : SignData) (items : List Meaning) (x : Meaning) → is_new_page x ≡ true
     → cycle (ended_times sign (items ++ x ∷ [])) ≡ cycle (ended_times sign items) + ((standing sign items).on + (standing sign items).off)
-cycle-grows sign items x new =
-    let old = ended_times sign items in
-    let all : cycle (ended_times sign (items ++ x ∷ [])) ≡ cycle (old ++ times_at (standing sign items) ∷ []) =
-    ap cycle (ended_times-push sign items x ∙ ap (λ b. old ++ cons_option (cond b (Some (times_at (standing sign items))) None) []) new) in
-    omega (arith, all, cycle-append old (times_at (standing sign items) ∷ []))
+cycle-grows sign items x new = search (rules, cycle-append, ended_times-push)
 
 -- the number of items rises by one
 length-push : (items : List Meaning) (x : Meaning) → 1024 * length (items ++ x ∷ []) ≡ 1024 * length items + 1024
@@ -98,17 +94,7 @@ pub state-same_page : (sign : SignData) (items : List Meaning) (state new : Stat
     → font_numbered sign (standing_behind sign (standing sign items) x).font.number ≡ Some (standing_behind sign (standing sign items) x).font
     → IsBelow (1024 * length items + 1024) new.area → IsStateOf sign (items ++ x ∷ []) new
 state-same_page sign items state new x st same pages times attributes area font below =
-    let none : cond {A = ℕ} (is_new_page x) 1 0 ≡ 0 = ap (λ b. cond b 1 0) same in
-    let push = standing_push sign items x in
-    record {
-      pages = omega (arith, pages, st.pages, pages_of-push items x, none);
-      times = times ∙ st.times ∙ sym (cycle-stays sign items x same);
-      attributes = attributes ∙ sym (ap attributes_of push);
-      area = area;
-      font = subst (λ (s : Standing). font_numbered sign s.font.number ≡ Some s.font) (sym push) font;
-      below = subst (λ n. IsBelow n new.area) (sym (length-push items x)) below;
-      short = omega (arith, st.short, pages, times);
-    }
+    search (rules, cycle-stays, length-push, pages_of-push, standing_push)
 
 -- a tag behind which no line begins leaves the present area
 pub area_stays : (sign : SignData) (items : List Meaning) (tag : Tag) → begins_line tag ≡ false → present_area sign (items ++ Does tag ∷ []) ≡ present_area sign items
@@ -129,16 +115,7 @@ state-attribute sign items state attributes x st page area is font =
 
 -- what the items so far make of a state doesn't hang on its limits
 pub state-limits : (sign : SignData) (items : List Meaning) (state new : State) → new ≡ record state { area = new.area; limits = new.limits } → IsStateOf sign items (record state { area = new.area }) → IsStateOf sign items new
-state-limits sign items state new same st =
-    subst (IsStateOf sign items) (sym same) (record {
-      pages = st.pages;
-      times = st.times;
-      attributes = st.attributes;
-      area = st.area;
-      font = st.font;
-      below = st.below;
-      short = st.short;
-    })
+state-limits sign items state new same st = search (rules)
 
 -- a character that doesn't offend doesn't conflict
 pub no_conflict : (sign : SignData) (items : List Meaning) (number : ℕ) (cell : CellData) → cell_numbered (standing sign items).font number ≡ Some cell → unsized_offence sign items (Shows number) ≡ None
@@ -168,10 +145,7 @@ module _ (sign : SignData) (items : List Meaning) (state : State) (st : IsStateO
 
   pub cell_found : (number : ℕ) (c : SizedCell) → cell_in sign state.attributes.font.number number ≡ Some c
       → (cell : CellData) × (cell_numbered (standing sign items).font number ≡ Some cell) × (c.width ≡ cell.width)
-  cell_found number c some =
-      let font = (standing sign items).font in
-      let (cell, found, is) = some_mapped (sized font) (cell_numbered font number) c (sym (cell_is number) ∙ some) in
-      (cell, found, ap (λ (z : SizedCell). z.width) is)
+  cell_found number c some = search (rules, cell_is)
 
   -- ---- new pages and rectangles
 
@@ -187,21 +161,7 @@ module _ (sign : SignData) (items : List Meaning) (state : State) (st : IsStateO
       → state.attributes.on ≤ 255 → state.attributes.off ≤ 255
       → IsStateOf sign (items ++ Does NewPage ∷ []) new
   state-page new pages times attributes area below on_bound off_bound =
-      let x = Does NewPage in
-      let push = standing_push sign items x in
-      let on : state.attributes.on ≡ (standing sign items).on = ap (λ (a : Attributes). a.on) st.attributes in
-      let off : state.attributes.off ≡ (standing sign items).off = ap (λ (a : Attributes). a.off) st.attributes in
-      let whole : new.attributes ≡ attributes_of (standing_behind sign (standing sign items) x) =
-      attributes ∙ ap (λ (a : Attributes). let b : Attributes = record a { rectangle = whole_sign sign } in b) st.attributes in
-      record {
-        pages = omega (arith, pages, st.pages, pages_of-push items x);
-        times = omega (arith, times, st.times, on, off, cycle-grows sign items x refl);
-        attributes = whole ∙ sym (ap attributes_of push);
-        area = area ∙ ap area_sum (sym (present_area-new sign items x refl));
-        font = subst (λ (s : Standing). font_numbered sign s.font.number ≡ Some s.font) (sym push) st.font;
-        below = below_more 0 (1024 * length (items ++ x ∷ [])) new.area (omega arith) below;
-        short = omega (arith, st.short, pages, times, on_bound, off_bound);
-      }
+      search (rules, below_more, cycle-grows, pages_of-push, present_area-new, standing_push)
 
   pub judged-rectangle : (x y w h : ℕ) → offence Off sign items (Does (Rect x y w h)) ≡ cond (Rattle.multi_meaning.specs.Attributes.is_inside sign x y w h) None (Some 4)
   judged-rectangle x y w h = offence-rectangle (too_big Off) sign items x y w h
@@ -229,26 +189,11 @@ pub state-start : (sign : SignData) (info : FontInfo) (area : Area) (limits : Li
       limits = limits;
     })
 unfolding standing spots
-state-start sign info area limits is sum below =
-    let (font, found, same) = some_mapped info_of (font_numbered sign sign.defaults.font) info is in
-    let none : FontData = record { number = 0; version = 0; height = 0; char_spacing = 0; line_spacing = 0; cells = [] } in
-    let default : default_font sign ≡ font = ap (λ o. unwrap_or o none) found in
-    record {
-      pages = refl;
-      times = refl;
-      attributes = ap (λ f. let a : Attributes = record (attributes_of (standing sign [])) { font = f } in a) (same ∙ ap info_of (sym default));
-      area = sum;
-      font = subst (λ (f : FontData). font_numbered sign f.number ≡ Some f) (sym default) (found_again sign sign.defaults.font font found);
-      below = below;
-      short = omega arith;
-    }
+state-start sign info area limits is sum below = search (rules, found_again)
 
 -- a state within these bounds has room for one more item
 pub ready : (sign : SignData) (items : List Meaning) (state : State) → IsStateOf sign items state → length items ≤ 2 ^ 32 → IsReady state
-ready sign items state st few = record {
-  below = below_more (1024 * length items) (2 ^ 62) state.area (omega arith) st.below;
-  short = st.short;
-}
+ready sign items state st few = search (rules, below_more)
 
 -- a rectangle, in which an empty area begins
 pub state-rectangle : (sign : SignData) (items : List Meaning) (state new : State) (x y w h : ℕ) → IsStateOf sign items state
@@ -257,6 +202,4 @@ pub state-rectangle : (sign : SignData) (items : List Meaning) (state new : Stat
     → new.area ≡ area_sum [] → IsBelow 0 new.area
     → IsStateOf sign (items ++ Does (Rect x y w h) ∷ []) new
 state-rectangle sign items state new x y w h st pages times attributes area below =
-    state-same_page sign items state new (Does (Rect x y w h)) st refl pages times attributes
-    (area ∙ ap area_sum (sym (present_area-new sign items (Does (Rect x y w h)) refl))) st.font
-    (below_more 0 (1024 * length items + 1024) new.area (omega arith) below)
+    search (rules, below_more, present_area-new, state-same_page)

@@ -1,5 +1,5 @@
 -- What the present segment and the present group may have: the limits that are kept, and what fits them.
-use Rattle.std.proofs.Common.{◌≡◌, inl, inr, ℕ, ◌+◌, ◌*◌, ◌≤◌, Bool, true, false, cond, ◌&&◌, not, [], ◌∷◌, ◌++◌, List, length, Option, Some, None, refl, sym, ap, subst, ◌∙◌, arith}
+use Rattle.std.proofs.Common.{◌≡◌, inl, inr, ℕ, ◌+◌, ◌*◌, ◌≤◌, Bool, true, false, cond, ◌&&◌, not, [], ◌∷◌, ◌++◌, List, length, Option, Some, None, refl, sym, ap, subst, ◌∙◌, arith, rules}
 use Rattle.std.specs.Prelude.{nat_le}
 use Rattle.std.specs.List.{All, AllPass, list_any}
 use Rattle.std.proofs.lemmas.List.Elements.{All-head, All-push}
@@ -10,7 +10,7 @@ use Rattle.sign_font.specs.declared.parts.LineFill.TheVariants.{Off}
 use Rattle.multi_meaning.specs.declared.attributes.Rectangle.{Rectangle}
 use Rattle.multi_meaning.specs.Address.{Spot, Standing, area_of, is_glyph, line_before, spots, standing}
 use Rattle.multi_meaning.specs.Meaning.{Does, Meaning, Shows}
-use Rattle.multi_meaning.specs.Fit.{area_fits, fit, line_fits, room_for}
+use Rattle.multi_meaning.specs.Fit.{area_fits, line_fits, room_for}
 use Rattle.multi_meaning.specs.Laid.{too_big}
 use Rattle.multi_meaning.proofs.FitLemmas.{room_end, room_middle, room_start}
 use Rattle.multi_meaning.proofs.FillLemmas.{nothing_fits}
@@ -53,28 +53,13 @@ and_with false b h = absurd cc
 -- a line into which its segments before the present one fit
 module _ (line : List Spot) (l : Line) (e : l ≡ line_sum line) (width pixels count : ℕ) where
   later_none : (just : ℕ) → l.present ≡ just → (just ≤ 2 → l.centre ≡ 0) × (just ≤ 4 → l.right ≡ 0)
-  later_none just is = (
-    λ low. grind (arith, nat_tests, is, low, ap (λ (l : Line). l.centre) e, ap (λ (l : Line). l.present) e),
-    λ low. grind (arith, nat_tests, is, low, ap (λ (l : Line). l.right) e, ap (λ (l : Line). l.present) e),
-  )
+  later_none just is = search (rules, nat_tests)
 
   full : nat_le 0 width ≡ true
   full = le-leb 0 width (omega arith)
 
   segment_by : (just : ℕ) → l.present ≡ just → 2 ≤ just → just ≤ 5 → FitsBefore width l → kept_fits width (lengthened_line pixels count l) ≡ nat_le pixels (room_for just l.left l.centre width)
-  segment_by just is' low' high' = each_just (λ just. l.present ≡ just → FitsBefore width l → kept_fits width (lengthened_line pixels count l) ≡ nat_le pixels (room_for just l.left l.centre width))
-      (λ is before. rw (is, (later_none 2 is).0 (omega arith), (later_none 2 is).1 (omega arith)) (and_true (fit pixels 0 0 width) (nat_le 0 width) full ∙ room_start pixels width))
-      (λ is before.
-      let right = (later_none 3 is).1 (omega arith) in
-      let earlier = rw (is, right) at before in
-      rw (is, right) (and_true (fit l.left pixels 0 width) (nat_le 0 width) full ∙ room_middle l.left pixels width (and_parts (fit l.left 0 0 width) (nat_le 0 width) earlier).0))
-      (λ is before.
-      let earlier = rw is at before in
-      rw is (and_true (fit l.left l.centre pixels width) (nat_le 0 width) full ∙ room_end l.left l.centre pixels width (and_parts (fit l.left l.centre 0 width) (nat_le 0 width) earlier).0))
-      (λ is before.
-      let earlier = rw is at before in
-      rw is (and_with (fit l.left l.centre l.right width) (nat_le pixels width) (and_parts (fit l.left l.centre l.right width) (nat_le 0 width) earlier).0))
-      just low' high' is'
+  segment_by just is' low' high' = search (rules, and_parts, each_just, full, later_none, room_end, room_middle, room_start)
 
   pub segment_room_fits : 2 ≤ l.present → l.present ≤ 5 → FitsBefore width l → kept_fits width (lengthened_line pixels count l) ≡ nat_le pixels (segment_room l width)
   segment_room_fits low high = segment_by l.present refl low high
@@ -201,7 +186,4 @@ module _ (sign : SignData) (items : List Meaning) (state : State) (st : IsStateO
 
 -- an area of no item has no limits yet
 pub limited_none : (state : State) → state.area ≡ area_sum [] → IsLimited state
-limited_none state none = record {
-  width = λ any. absurd (false≢true (sym (ap (λ (a : Area). a.group.line.any) none) ∙ any));
-  height = λ some. absurd (omega (arith, some, ap (λ (a : Area). a.present) none));
-}
+limited_none state none = search (rules, false≢true, present)

@@ -1,7 +1,7 @@
 -- The sums of a line after one more character.
-use Rattle.std.proofs.Common.{◌≡◌, ℕ, ◌+◌, ◌<◌, ◌≤◌, max, inl, inr, Bool, true, false, cond, ◌&&◌, ◌||◌, ◌==◌, List, [], ◌∷◌, ◌++◌, length, Option, Some, None, refl, sym, ap, ◌∙◌, arith, length-append}
+use Rattle.std.proofs.Common.{◌≡◌, ℕ, ◌+◌, ◌<◌, ◌≤◌, max, Bool, true, false, cond, ◌&&◌, ◌||◌, ◌==◌, List, [], ◌∷◌, ◌++◌, Option, Some, None, refl, sym, ap, ◌∙◌, arith, length-append, rules}
 use Rattle.std.specs.Prelude.{nat_lt}
-use Rattle.std.specs.List.{last_or, list_any, AllPass}
+use Rattle.std.specs.List.{list_any, AllPass}
 use Rattle.std.specs.Option.{unwrap_or, option_map, option_map_or}
 use Rattle.std.proofs.lemmas.Bool.{and_right, cases_eq, cases_lt, eq-eqb, false≢true, le-ltb, lt-ltb, ne_eqb, or_parts}
 use Rattle.std.proofs.lemmas.List.{append-nil}
@@ -10,7 +10,7 @@ use Rattle.std.proofs.lemmas.List.Folds.{list_any-append}
 use Rattle.multi_tag.specs.Just.{line_number}
 use Rattle.multi_meaning.specs.Words.{largest}
 use Rattle.multi_meaning.specs.Address.{Spot, is_glyph, segment}
-use Rattle.multi_meaning.specs.Line.{average, bearers, line_height, line_spacing, char_gap, width_of}
+use Rattle.multi_meaning.specs.Line.{average, bearers, char_gap, width_of}
 use Rattle.multi_meaning.specs.Offence.{clashes}
 use Rattle.multi_meaning.proofs.WordLemmas.{largest_most, largest_push, last_or_push, gap_before}
 use Rattle.multi_meaning.proofs.AreaLemmas.{filter_none}
@@ -23,7 +23,7 @@ use Rattle.multi_judge.specs.declared.line.Character.{Character}
 use Rattle.multi_judge.specs.declared.line.Segment.{Segment}
 use Rattle.multi_judge.specs.declared.line.Line.{Line}
 use Rattle.multi_judge.specs.Run.{kept_width}
-use Rattle.multi_judge.specs.Sums.{segment_sum, width_before, line_sum, line_sum_in, IsCharacter}
+use Rattle.multi_judge.specs.Sums.{segment_sum, width_before, line_sum, IsCharacter}
 
 -- the gap before one more character, from the spacing of the last one's font
 gap_if : (o : Option Spot) (s : Spot) → option_map_or (λ earlier. unwrap_or s.at.spacing (average earlier s.at.font.char_spacing)) (option_map (λ (t : Spot). t.at.font.char_spacing) o) 0 ≡ option_map_or (λ t. char_gap t s) o 0
@@ -40,37 +40,11 @@ passes s just g e = ap (λ b. b && (line_number s.at.line_just == just)) g ∙ e
 module _ (just : ℕ) (line : List Spot) (s : Spot) (c : Character) (is : IsCharacter s c) (own : line_number c.just ≡ just) where
   pub segment_own : (seg : Segment) (gap width : ℕ) → seg ≡ segment_sum just line → gap ≡ option_map_or (λ earlier. unwrap_or c.spacing (average earlier c.font.char_spacing)) seg.last 0 → width ≡ c.width
       → ◌≡◌ {A = Segment} (record { width = seg.width + (gap + width); count = seg.count + 1; last = Some c.font.char_spacing }) (segment_sum just (line ++ s ∷ []))
-  segment_own seg gap width e g w =
-      let own_part = segment just line in
-      let more : segment just (line ++ s ∷ []) ≡ own_part ++ s ∷ [] = filter_yes (λ t. is_glyph t && (line_number t.at.line_just == just)) line s (passes s just is.glyph (ap line_number (sym is.just) ∙ own)) in
-      let spaced : c.font.char_spacing ≡ s.at.font.char_spacing = ap (λ f. f.char_spacing) is.font in
-      let between : gap ≡ gap_before char_gap own_part s =
-      g ∙ ap (λ (seg : Segment). option_map_or (λ earlier. unwrap_or c.spacing (average earlier c.font.char_spacing)) seg.last 0) e
-      ∙ ap (λ o. option_map_or (λ earlier. unwrap_or o (average earlier c.font.char_spacing)) (segment_sum just line).last 0) is.spacing
-      ∙ ap (λ n. option_map_or (λ earlier. unwrap_or s.at.spacing (average earlier n)) (segment_sum just line).last 0) spaced
-      ∙ gap_if (last_or None own_part) s in
-      let grouped : seg.width + (gap + width) ≡ seg.width + gap + width = omega arith in
-      let wide : seg.width + (gap + width) ≡ width_of (segment just (line ++ s ∷ [])) =
-      grouped ∙ ap (λ (seg : Segment). seg.width + gap + width) e
-      ∙ ap (λ n. width_of own_part + n + width) between
-      ∙ ap (λ n. width_of own_part + gap_before char_gap own_part s + n) (w ∙ is.width)
-      ∙ sym (width_push own_part s)
-      ∙ ap width_of (sym more) in
-      let last : Some c.font.char_spacing ≡ option_map (λ (t : Spot). t.at.font.char_spacing) (last_or None (segment just (line ++ s ∷ []))) =
-      ap Some spaced
-      ∙ ap (option_map (λ (t : Spot). t.at.font.char_spacing)) (sym (last_or_push None own_part s))
-      ∙ ap (λ l. option_map (λ (t : Spot). t.at.font.char_spacing) (last_or None l)) (sym more) in
-      let counted : seg.count + 1 ≡ length (segment just (line ++ s ∷ [])) = omega (arith, ap (λ (seg : Segment). seg.count) e, ap length more, length-append own_part (s ∷ [])) in
-      same_segment (seg.width + (gap + width)) (width_of (segment just (line ++ s ∷ []))) (seg.count + 1) (length (segment just (line ++ s ∷ []))) (Some c.font.char_spacing) (option_map (λ (t : Spot). t.at.font.char_spacing) (last_or None (segment just (line ++ s ∷ [])))) wide counted last
+  segment_own seg gap width e g w = search (rules, filter_yes, gap_before, last_or_push, length-append, passes, same_segment, width_push)
 
 -- a segment after a character of another
 pub segment_other : (just : ℕ) (line : List Spot) (s : Spot) → (line_number s.at.line_just ≡ just → ⊥) → segment_sum just (line ++ s ∷ []) ≡ segment_sum just line
-segment_other just line s apart =
-    let same : segment just (line ++ s ∷ []) ≡ segment just line =
-    filter-append (λ t. is_glyph t && (line_number t.at.line_just == just)) line (s ∷ [])
-    ∙ ap (λ b. segment just line ++ cond b (s ∷ []) []) (and_right (is_glyph s) (line_number s.at.line_just == just) (ne_eqb (line_number s.at.line_just) just apart))
-    ∙ append-nil (segment just line) in
-    ap (λ l. let g : Segment = record { width = width_of l; count = length l; last = option_map (λ t. t.at.font.char_spacing) (last_or None l) } in g) same
+segment_other just line s apart = search (rules, and_right, append-nil, filter-append, ne_eqb)
 
 -- the largest number of a line of characters, after one more
 largest_glyph : (f : Spot → ℕ) (line : List Spot) (s : Spot) → AllPass is_glyph line → is_glyph s ≡ true → largest f (bearers (line ++ s ∷ [])) ≡ max (largest f (bearers line)) (f s)
@@ -92,17 +66,11 @@ or_true false = refl
 
 -- no character of a line is in a segment behind the one with the largest justification
 pub segment_behind : (just : ℕ) (line : List Spot) → largest (λ (t : Spot). line_number t.at.line_just) line < just → segment just line ≡ []
-segment_behind just line less =
-    filter_none (λ t. is_glyph t && (line_number t.at.line_just == just)) line
-    (All-weaker (λ (t : Spot). line_number t.at.line_just ≤ largest (λ (t : Spot). line_number t.at.line_just) line) (λ t. (is_glyph t && (line_number t.at.line_just == just)) ≡ false)
-    (λ t most. and_right (is_glyph t) (line_number t.at.line_just == just) (ne_eqb (line_number t.at.line_just) just (λ e. omega arith))) line (largest_most (λ t. line_number t.at.line_just) line))
+segment_behind just line less = search (rules, All-weaker, and_right, filter_none, largest_most, ne_eqb)
 
 -- what is kept of a part before the present one is its size, where no other part has any
 pub whole_before : (size : ℕ → ℕ) (present just : ℕ) → (present ≤ just → size just ≡ 0) → cond (nat_lt just present) (size just) 0 ≡ size just
-whole_before size present just none = elim (cases_lt just present) [
-  | inl before ↦ rw (lt-ltb just present before) refl
-  | inr behind ↦ rw (le-ltb just present behind) (sym (none behind))
-]
+whole_before size present just none = search (rules, cases_lt, le-ltb, lt-ltb)
 
 -- the widths of the segments, by what is kept of the line
 module _ (line : List Spot) (l : Line) (e : l ≡ line_sum line) where
@@ -121,10 +89,7 @@ module _ (line : List Spot) (l : Line) (e : l ≡ line_sum line) where
       (λ behind. ap width_of (none_of_later just (omega (arith, behind, other, most_is))))
 
   kept_is : (just w : ℕ) → w ≡ width_before (largest (λ (t : Spot). line_number t.at.line_just) line) just line → cond (just == l.present) l.part.width w ≡ width_of (segment just line)
-  kept_is just w is = elim (cases_eq just l.present) [
-    | inl own ↦ rw (eq-eqb just l.present own) (width_present just own)
-    | inr other ↦ rw (ne_eqb just l.present other) (width_other_of just w is other)
-  ]
+  kept_is just w is = search (rules, cases_eq, eq-eqb, ne_eqb, width_other_of, width_present)
 
   left_is : kept_width 2 l ≡ width_of (segment 2 line)
   left_is = kept_is 2 l.left (ap (λ (l : Line). l.left) e)
@@ -144,48 +109,21 @@ module _ (line : List Spot) (l : Line) (e : l ≡ line_sum line) where
   pub turned : (just : ℕ) → l.present ≤ just → (new : Line) → (just ≡ l.present → new ≡ l)
       → (l.present < just → (new.left ≡ kept_width 2 l) × (new.centre ≡ kept_width 3 l) × (new.right ≡ kept_width 4 l) × (new.part ≡ segment_sum 0 []))
       → (new.left ≡ width_before just 2 line) × (new.centre ≡ width_before just 3 line) × (new.right ≡ width_before just 4 line) × (new.part ≡ segment_sum just line)
-  turned just order new same next = elim (cases_lt l.present just) [
-    | inl later ↦
-        let (left, centre, right, part) = next later in
-        let whole = λ (j : ℕ). sym (whole_before (λ j. width_of (segment j line)) just j (λ behind. ap width_of (none_of_later j (omega (arith, behind, later))))) in
-        let empty = ap (λ (xs : List Spot). let g : Segment = record { width = width_of xs; count = length xs; last = option_map (λ t. t.at.font.char_spacing) (last_or None xs) } in g) (sym (none_of_later just later)) in
-        (left ∙ left_is ∙ whole 2, centre ∙ centre_is ∙ whole 3, right ∙ right_is ∙ whole 4, part ∙ empty)
-    | inr past ↦
-        let most : largest (λ (t : Spot). line_number t.at.line_just) line ≡ just = omega (arith, most_is, order, past) in
-        let all = same (omega (arith, order, past)) ∙ e ∙ ap (λ n. line_sum_in n line) most in
-        (ap (λ (l : Line). l.left) all, ap (λ (l : Line). l.centre) all, ap (λ (l : Line). l.right) all, ap (λ (l : Line). l.part) all)
-  ]
+  turned just order new same next = search (rules, cases_lt, centre_is, left_is, most_is, none_of_later, right_is, whole_before)
 
 -- a line after one more character
 module _ (line : List Spot) (s : Spot) (c : Character) (glyphs : AllPass is_glyph line) (is : IsCharacter s c) (l : Line) (e : l ≡ line_sum line) (order : l.present ≤ line_number c.just) where
   present_more : largest (λ (t : Spot). line_number t.at.line_just) (line ++ s ∷ []) ≡ line_number c.just
-  present_more =
-      let most : l.present ≡ largest (λ (t : Spot). line_number t.at.line_just) line = ap (λ (l : Line). l.present) e in
-      let more = largest_push (λ t. line_number t.at.line_just) line s in
-      omega (arith, most, more, ap line_number is.just)
+  present_more = search (rules, largest_push)
 
   width_other : (j : ℕ) → width_before (line_number c.just) j line ≡ width_before (line_number c.just) j (line ++ s ∷ [])
-  width_other j = elim (cases_lt j (line_number c.just)) [
-    | inl less ↦ ap (λ (g : Segment). cond (nat_lt j (line_number c.just)) g.width 0) (sym (segment_other j line s (λ h. omega (arith, ap line_number is.just, h))))
-    | inr most ↦ rw (le-ltb j (line_number c.just) most) refl
-  ]
+  width_other j = search (rules, cases_lt, le-ltb, segment_other)
 
   pub line_with : (r : Line) → r.present ≡ line_number c.just
       → r.left ≡ width_before (line_number c.just) 2 line → r.centre ≡ width_before (line_number c.just) 3 line → r.right ≡ width_before (line_number c.just) 4 line → r.part ≡ segment_sum (line_number c.just) (line ++ s ∷ [])
       → r.has_parts ≡ (l.has_parts || nat_lt (line_number c.just) 5) → r.height ≡ max l.height c.font.height → r.spacing ≡ max l.spacing c.font.line_spacing → r.any ≡ true
       → r ≡ line_sum (line ++ s ∷ [])
-  line_with r present left centre right part parts height spacing any =
-      let parts' : r.has_parts ≡ list_any (λ (t : Spot). nat_lt (line_number t.at.line_just) 5) (line ++ s ∷ []) =
-      parts ∙ ap (λ (l : Line). l.has_parts || nat_lt (line_number c.just) 5) e ∙ ap (λ n. (line_sum line).has_parts || nat_lt n 5) (ap line_number is.just) ∙ sym (any_more (λ t. nat_lt (line_number t.at.line_just) 5) line s) in
-      let height' : r.height ≡ line_height (line ++ s ∷ []) =
-      height ∙ ap (λ (l : Line). max l.height c.font.height) e ∙ ap (λ f. max (line_height line) f.height) is.font ∙ sym (largest_glyph (λ t. t.at.font.height) line s glyphs is.glyph) in
-      let spacing' : r.spacing ≡ line_spacing (line ++ s ∷ []) =
-      spacing ∙ ap (λ (l : Line). max l.spacing c.font.line_spacing) e ∙ ap (λ f. max (line_spacing line) f.line_spacing) is.font ∙ sym (largest_glyph (λ t. t.at.font.line_spacing) line s glyphs is.glyph) in
-      let any' : r.any ≡ list_any is_glyph (line ++ s ∷ []) =
-      any ∙ sym (or_true (list_any is_glyph line)) ∙ ap (λ b. list_any is_glyph line || b) (sym is.glyph) ∙ sym (any_more is_glyph line s) in
-      let whole : r ≡ line_sum_in (line_number c.just) (line ++ s ∷ []) =
-      rw (← left ∙ width_other 2, ← centre ∙ width_other 3, ← right ∙ width_other 4, ← part, ← parts', ← height', ← spacing', ← any', ← present) refl in
-      whole ∙ ap (λ n. line_sum_in n (line ++ s ∷ [])) (sym present_more)
+  line_with r present left centre right part parts height spacing any = search (rules, any_more, largest_glyph, present_more, width_other)
 
 -- a line clashes by its largest justification, or as one of its characters isn't full
 any_or : (n m : ℕ) (b : Bool) (line : List Spot) → list_any (λ (t : Spot). nat_lt n (line_number t.at.line_just) || (b && nat_lt (line_number t.at.line_just) m)) line ≡ (list_any (λ (t : Spot). nat_lt n (line_number t.at.line_just)) line || (b && list_any (λ (t : Spot). nat_lt (line_number t.at.line_just) m) line))
@@ -209,13 +147,7 @@ line_clashes line s =
 
 -- a character that clashes with none of its line isn't in a segment before the present one
 pub in_order : (line : List Spot) (s : Spot) (l : Line) → l ≡ line_sum line → list_any (clashes s) line ≡ false → l.present ≤ line_number s.at.line_just
-in_order line s l e none =
-    let present : l.present ≡ largest (λ (t : Spot). line_number t.at.line_just) line = ap (λ (l : Line). l.present) e in
-    let test : nat_lt (line_number s.at.line_just) (largest (λ (t : Spot). line_number t.at.line_just) line) ≡ false = (or_parts _ _ (sym (line_clashes line s) ∙ none)).0 in
-    elim (cases_lt (line_number s.at.line_just) l.present) [
-      | inl back ↦ absurd (false≢true (sym test ∙ lt-ltb (line_number s.at.line_just) (largest (λ (t : Spot). line_number t.at.line_just) line) (omega (arith, present))))
-      | inr on ↦ on
-    ]
+in_order line s l e none = search (rules, cases_lt, false≢true, line_clashes, lt-ltb, or_parts)
 
 -- a line of no character is that of none
 pub no_character : (line : List Spot) (sums : Line) → AllPass is_glyph line → sums ≡ line_sum line → sums.any ≡ false → line ≡ []

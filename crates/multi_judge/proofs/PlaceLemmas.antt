@@ -1,5 +1,5 @@
 -- The place of a character by the line table of its group, and how many ended lines a group has.
-use Rattle.std.proofs.Common.{◌≡◌, ℕ, ◌+◌, ◌-◌, ◌<◌, ◌≤◌, Bool, true, false, ◌&&◌, ◌==◌, length, take, List, [], ◌∷◌, ◌++◌, Some, refl, sym, ap, subst, ◌∙◌, arith}
+use Rattle.std.proofs.Common.{◌≡◌, ℕ, ◌+◌, ◌-◌, ◌<◌, ◌≤◌, Bool, true, false, ◌&&◌, ◌==◌, length, take, List, [], ◌∷◌, ◌++◌, Some, refl, sym, ap, subst, ◌∙◌, arith, rules}
 use Rattle.std.specs.Prelude.{slice_get, slice_index_or, if◌then◌else◌}
 use Rattle.std.specs.List.{list_any, count_by}
 use Rattle.std.proofs.lemmas.Bool.{eq-eqb, eqb-true}
@@ -26,7 +26,7 @@ use Rattle.multi_judge.specs.declared.line.Line.{Line}
 use Rattle.multi_judge.specs.declared.line.Segment.{Segment}
 use Rattle.multi_judge.specs.declared.table.CountedLine.{CountedLine}
 use Rattle.multi_judge.specs.State.{attributes_of}
-use Rattle.multi_judge.specs.Sums.{area_sum, group_sum, line_sum, segment_sum}
+use Rattle.multi_judge.specs.Sums.{area_sum, line_sum, segment_sum}
 use Rattle.multi_judge.specs.Table.{counted_line, table_of, width_in, column_in}
 use Rattle.multi_judge.proofs.AreaSumLemmas.{group_of_own}
 use Rattle.multi_judge.proofs.GroupSumLemmas.{present_push}
@@ -137,12 +137,4 @@ place_from before all spot a group lines line column row height at ended table t
 -- the present group of an area whose last item is this character, and its present line
 pub group_with : (before : List Spot) (spot : Spot) (area : Area) → is_glyph spot ≡ true → area ≡ area_sum (area_of spot before ++ spot ∷ []) → largest (λ (t : Spot). page_number t.at.page_just) (area_of spot before) ≤ page_number spot.at.page_just
     → (area.group.ended ≡ count_by is_break (group_of spot before)) × (area.group.line ≡ line_sum (line_before before spot ++ spot ∷ []))
-group_with before spot area glyph is order =
-    let page = page_number spot.at.page_just in
-    let all = area_of spot before ++ spot ∷ [] in
-    let seen : area.present ≡ largest (λ (t : Spot). page_number t.at.page_just) all = ap (λ (a : Area). a.present) is in
-    let present : page ≡ area.present = omega (arith, seen, largest_push (λ t. page_number t.at.page_just) (area_of spot before) spot, order) in
-    let group : area.group ≡ group_sum (group_of spot before ++ spot ∷ []) = group_of_own all area is page present ∙ ap group_sum (own_group page (area_of spot before) spot refl) in (
-      ap (λ (g : Group). g.ended) group ∙ ap length (ended_glyph (group_of spot before) spot glyph) ∙ ended_count (group_of spot before),
-      ap (λ (g : Group). g.line) group ∙ ap line_sum (present_push (group_of spot before) spot glyph),
-    )
+group_with before spot area glyph is order = search (rules, ended_count, ended_glyph, group_of_own, largest_push, own_group, present_push)

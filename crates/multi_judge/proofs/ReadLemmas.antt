@@ -1,5 +1,5 @@
 -- The verdict, from the items read so far and their state.
-use Rattle.std.proofs.Common.{◌≡◌, ℕ, ◌+◌, ◌^◌, ◌<◌, ◌≤◌, List, [], ◌∷◌, ◌++◌, length, drop, map, slice_get, inl, inr, Some, None, refl, sym, ap, subst, ◌∙◌, arith, append_assoc, append-nil}
+use Rattle.std.proofs.Common.{◌≡◌, ℕ, ◌+◌, ◌^◌, ◌<◌, ◌≤◌, List, [], ◌∷◌, ◌++◌, length, drop, map, slice_get, inl, inr, Some, None, refl, sym, ap, subst, ◌∙◌, arith, append_assoc, append-nil, rules}
 use Rattle.std.specs.List.{All}
 use Rattle.std.proofs.lemmas.Bool.{cases_lt}
 use Rattle.std.proofs.lemmas.Option.{slice_get-get_or}
@@ -16,11 +16,10 @@ use Rattle.sign_font.specs.Sign.{SignData}
 use Rattle.multi_meaning.specs.Address.{standing}
 use Rattle.multi_meaning.specs.Meaning.{Meaning, meaning}
 use Rattle.multi_meaning.specs.Offence.{offence}
-use Rattle.multi_meaning.specs.Times.{Times, cycle, ended_times, page_times, times_at}
+use Rattle.multi_meaning.specs.Times.{cycle, ended_times, page_times}
 use Rattle.multi_meaning.specs.Verdict.{Accepted, IsCycle, IsVerdict, Refused, broken, of_first, pages_of, verdict, verdict_on}
 use Rattle.multi_meaning.proofs.VerdictLemmas.{item_refused, length-meanings, offences_push, one_verdict}
 use Rattle.multi_meaning.proofs.WordLemmas.{none_more}
-use Rattle.multi_judge.specs.declared.attributes.Attributes.{Attributes}
 use Rattle.multi_judge.specs.declared.state.State.{State}
 use Rattle.multi_judge.specs.Judging.{ReadSoFar}
 use Rattle.multi_judge.specs.State.{IsLimited, IsReady, IsStateOf, IsUnfilledOf, attributes_of}
@@ -57,16 +56,7 @@ module _ (sign : SignData) (octets : List ℕ) (at : ℕ) (IsKept : List Meaning
 
     pub read_more : (IsNow : List Meaning → Type 0) → offence sign.line_fill sign (map meaning r.items) (meaning (item_of octets t)) ≡ None → IsNow (map meaning r.items ++ meaning (item_of octets t) ∷ [])
         → ReadSoFar sign octets (at + t.len) IsNow
-    read_more IsNow fine is = record {
-      items = r.items ++ item_of octets t ∷ [];
-      each = each_more;
-      front = sym regrouped ∙ ap (λ n. spell (r.items ++ item_of octets t ∷ []) ++ drop (n + t.len) octets) here;
-      place = omega (arith, r.place, stands.len, ap length (spell_push r.items (item_of octets t)), length-append (spell r.items) (spelling (item_of octets t)));
-      within = omega (arith, stands.within);
-      none = offences_push sign r.items (item_of octets t) None r.none fine;
-      is = subst IsNow (sym (map-append meaning r.items (item_of octets t ∷ []))) is;
-      few = omega (arith, r.few, stands.len, spelling_some (item_of octets t), length-append r.items (item_of octets t ∷ []));
-    }
+    read_more IsNow fine is = search (rules, each_more, length-append, map-append, offences_push, regrouped, spell_push, spelling_some)
 
     -- the item offends, whatever stands behind it
     pub refused_here : (code : ℕ) → offence sign.line_fill sign (map meaning r.items) (meaning (item_of octets t)) ≡ Some code → IsVerdict sign octets (Refused code at)
@@ -89,13 +79,7 @@ module _ (sign : SignData) (octets : List ℕ) (at : ℕ) (IsKept : List Meaning
   pub cycle_at_end : length octets ≡ at → (state : State) → state.cycle ≡ cycle (ended_times sign (map meaning r.items)) → state.attributes ≡ attributes_of (standing sign (map meaning r.items))
       → IsCycle sign octets (state.cycle + state.attributes.on + state.attributes.off)
   unfolding page_times
-  cycle_at_end end state times attributes =
-      let ms = map meaning r.items in
-      let on : state.attributes.on ≡ (standing sign ms).on = ap (λ (a : Attributes). a.on) attributes in
-      let off : state.attributes.off ≡ (standing sign ms).off = ap (λ (a : Attributes). a.off) attributes in
-      let all : cycle (ended_times sign ms ++ times_at (standing sign ms) ∷ []) ≡ cycle (ended_times sign ms) + cycle (times_at (standing sign ms) ∷ []) =
-      sum_by-append (λ (t : Times). t.on + t.off) (ended_times sign ms) (times_at (standing sign ms) ∷ []) in
-      (r.items, [], all_read end, omega (arith, all, on, off, times))
+  cycle_at_end end state times attributes = search (rules, all_read, sum_by-append)
 
   broken_cons : (items : List Item) (rest : List ℕ) → 1 ≤ length rest → broken items rest ≡ (3, length (spell items)) ∷ []
   broken_cons items [] h = absurd (omega arith)
@@ -104,13 +88,7 @@ module _ (sign : SignData) (octets : List ℕ) (at : ℕ) (IsKept : List Meaning
   -- a broken bracket
   pub refused_at_bracket : at < length octets → HasNoItem (drop at octets) → IsVerdict sign octets (Refused 3 at)
   unfolding verdict_on
-  refused_at_bracket before none =
-      let some : 1 ≤ length (drop at octets) = simp length-drop (omega arith) in (
-        r.items,
-        drop at octets,
-        record { each = r.each; spelled = r.front; ends = none },
-        ap (Refused 3) r.place ∙ sym (ap (λ l. of_first (pages_of (map meaning r.items)) (l ++ broken r.items (drop at octets))) r.none ∙ ap (of_first (pages_of (map meaning r.items))) (broken_cons r.items (drop at octets) some)),
-      )
+  refused_at_bracket before none = search (rules, length-drop, spelled)
 
 -- where lines aren't filled
 module _ (sign : SignData) (octets : List ℕ) (at : ℕ) (state : State) (r : ReadSoFar sign octets at (IsUnfilledOf sign state)) where

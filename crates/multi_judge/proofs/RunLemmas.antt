@@ -1,5 +1,5 @@
 -- A character that only lengthens its segment.
-use Rattle.std.proofs.Common.{◌≡◌, ℕ, ◌+◌, ◌*◌, ◌≤◌, Bool, true, false, cond, ◌<◌, ◌&&◌, ◌||◌, ◌==◌, inl, inr, List, [], ◌∷◌, ◌++◌, length, Some, None, refl, sym, ap, ◌∙◌, arith}
+use Rattle.std.proofs.Common.{◌≡◌, ℕ, ◌+◌, ◌*◌, ◌≤◌, Bool, true, false, cond, ◌<◌, ◌&&◌, ◌||◌, ◌==◌, inl, inr, List, [], ◌∷◌, ◌++◌, length, Some, None, refl, sym, ap, ◌∙◌, arith, rules}
 use Rattle.std.specs.Prelude.{nat_lt, if◌then◌else◌}
 use Rattle.std.specs.List.{All, AllPass, after_last, list_any}
 use Rattle.std.specs.Option.{option_map_or, unwrap_or}
@@ -41,11 +41,7 @@ kept_fits_is spots line width e known =
     rw (kept 2 (omega arith) (omega arith), kept 3 (omega arith) (omega arith), kept 4 (omega arith) (omega arith), kept 5 (omega arith) (omega arith)) refl
 
 pub kept_height_is : (spots : List Spot) (group : Group) → All IsPlacing spots → group ≡ group_sum spots → kept_height group ≡ height_of (lines_of spots)
-kept_height_is spots group placing e = by_any group.line.any refl
-  where
-    by_any : (b : Bool) → group.line.any ≡ b → kept_height group ≡ height_of (lines_of spots)
-    by_any true some = rw some (height_present spots placing group e some _ group.line.height refl refl)
-    by_any false none = rw none (height_ended spots placing group e none)
+kept_height_is spots group placing e = search (rules, height_ended, height_present)
 
 -- the height of the group with a page justification, by what is kept of the area: top 2, middle 3, bottom 4
 abbrev pub kept_group_height : ℕ → Area → ℕ
@@ -81,15 +77,7 @@ module _ (spots : List Spot) (area : Area) (e : area ≡ area_sum spots) (placin
   -- the area goes on to a later group, which has no item yet
   pub area_turned : (just : ℕ) → area.present < just → (new : Area) → new.present ≡ just → new.top ≡ kept_group_height 2 area → new.middle ≡ kept_group_height 3 area → new.group ≡ group_sum []
       → new ≡ area_sum_in just spots
-  area_turned just later new present top middle group =
-      let whole = λ (j : ℕ). sym (whole_before (λ j. height_of (lines_of (in_group j spots))) just j
-      (λ behind. ap (λ l. height_of (lines_of l)) (none_of_later_group spots area e j (omega (arith, behind, later))))) in
-      λ i. record {
-        present = present i;
-        top = (top ∙ top_is ∙ whole 2) i;
-        middle = (middle ∙ middle_is ∙ whole 3) i;
-        group = (group ∙ ap group_sum (sym (none_of_later_group spots area e just later))) i;
-      }
+  area_turned just later new present top middle group = search (rules, middle_is, none_of_later_group, top_is, whole_before)
 
 pub kept_area_fits : (spots : List Spot) (area : Area) (height : ℕ) → All IsPlacing spots → area ≡ area_sum spots → area.present ≤ 4
     → fit (kept_group_height 2 area) (kept_group_height 3 area) (kept_group_height 4 area) height ≡ area_fits height spots
@@ -138,22 +126,11 @@ area_lengthened xs s area page width count e glyph own present line =
 
 -- the area's numbers grow by no more than the segment's
 pub longer_below : (k width count : ℕ) (area : Area) → IsBelow k area → width ≤ k + 1024 → count ≤ k + 1024 → IsBelow (k + 1024) (lengthened_area width count area)
-longer_below k width count area below wide many = record {
-  top = omega (arith, below.top);
-  middle = omega (arith, below.middle);
-  group = lined_below k area.group (lengthened_line width count area.group.line) below.group (part_below k width count area.group.line below.group.line wide many);
-  known = below.known;
-  some = below.some;
-  bare = λ none. below.bare none;
-  empty = λ none. let e = below.empty none in record { top = e.top; middle = e.middle; ended = e.ended; closed = e.closed; last = e.last };
-}
+longer_below k width count area below wide many = search (rules, lined_below, part_below)
 
 -- a number below 5 isn't 5
 pub not_full : (n : ℕ) → ((n == 5) && nat_lt n 5) ≡ false
-not_full n = elim (cases_eq n 5) [
-  | inl five ↦ rw five refl
-  | inr other ↦ rw (ne_eqb n 5 other) refl
-]
+not_full n = search (rules, cases_eq, ne_eqb)
 
 -- ---- a character beside one with the same attributes
 
@@ -163,20 +140,11 @@ longer_by state gap cell = lengthened_area ((line_in_force state).part.width + (
 
 -- what stands behind a character still does when its segment is lengthened
 pub behind_stays : (state : State) (width count : ℕ) → IsBehindCharacter state → IsBehindCharacter (lengthened width count state)
-behind_stays state width count b = record {
-  group = b.group;
-  line = record { segment = b.line.segment; parts = b.line.parts; any = b.line.any; height = b.line.height; spacing = b.line.spacing; last = b.line.last };
-}
+behind_stays state width count b = search (rules)
 
 -- and the run goes on
 pub run_stays : (state : State) (gap width count : ℕ) → IsRun state gap → IsRun (lengthened width count state) gap
-run_stays state gap width count run = record {
-  behind = behind_stays state width count run.behind;
-  gap_is = run.gap_is;
-  narrow = run.narrow;
-  limited = record { width = run.limited.width; height = run.limited.height };
-  height = run.height;
-}
+run_stays state gap width count run = search (rules, behind_stays)
 
 module _ (state : State) (behind : IsBehindCharacter state) (gap : ℕ) (gap_is : gap ≡ unwrap_or state.attributes.spacing state.attributes.font.char_spacing) (cell : SizedCell) where
   pub area_beside : (xs : List Spot) (s : Spot) → All IsPlacing xs → state.area ≡ area_sum xs → IsCharacter s (character_of state.attributes cell.width) → s.at.page_just ≡ state.attributes.page_just → state.area.present ≤ page_number state.attributes.page_just

@@ -1,5 +1,5 @@
 -- The line table of a group: what one more `nl` adds to it, what its last line adds, and what is looked up in it.
-use Rattle.std.proofs.Common.{◌≡◌, ℕ, ◌+◌, ◌-◌, ◌<◌, Bool, true, false, length, take, List, [], ◌∷◌, ◌++◌, Option, Some, None, refl, sym, ap, ◌∙◌, suc, zero, arith}
+use Rattle.std.proofs.Common.{◌≡◌, ℕ, ◌+◌, ◌-◌, ◌<◌, Bool, true, false, length, take, List, [], ◌∷◌, ◌++◌, Option, Some, None, refl, sym, ap, ◌∙◌, suc, zero, arith, rules}
 use Rattle.std.specs.Prelude.{slice_get, slice_index_or}
 use Rattle.std.specs.List.{last_or, list_any, after_last, All}
 use Rattle.std.specs.Option.{option_map_or}
@@ -74,26 +74,12 @@ any_cut g b h = ap (list_any is_glyph) (sym (after_last_is is_break g)) ∙ h
 
 -- an open line with characters is the last line
 pub lines_open : (g : List Spot) → list_any is_glyph (after_last is_break g) ≡ true → lines_of g ≡ ended_lines g ++ after_last is_break g ∷ []
-lines_open g h =
-    let c = cut is_break g in
-    cut_behind_is is_break g
-    ∙ ap (λ l. c.closed ++ l) (part_some c.open' (any_cut g true h))
-    ∙ ap (λ l. l ++ c.open' ∷ []) (sym (ended_is is_break g))
-    ∙ ap (λ l. ended_lines g ++ l ∷ []) (sym (after_last_is is_break g))
+lines_open g h = search (rules, after_last_is, any_cut, cut, cut_behind_is, ended_is, part_some)
 
 -- else the ended lines are all
 pub lines_closed : (g : List Spot) → All IsPlacing g → list_any is_glyph (after_last is_break g) ≡ false → lines_of g ≡ ended_lines g
-lines_closed g placing h =
-    let c = cut is_break g in
-    cut_behind_is is_break g
-    ∙ ap (λ l. c.closed ++ l) (part_none c.open' (open_glyphs g placing) (any_cut g false h))
-    ∙ append-nil c.closed
-    ∙ sym (ended_is is_break g)
+lines_closed g placing h = search (rules, any_cut, append-nil, cut, cut_behind_is, ended_is, open_glyphs, part_none)
 
 -- the open line gives the last entry
 pub table_open : (g : List Spot) → list_any is_glyph (after_last is_break g) ≡ true → table_of (lines_of g) ≡ table_of (ended_lines g) ++ open_entry g (height_of (lines_of g)) ∷ []
-table_open g h =
-    let all = lines_open g h in
-    ap table_of all
-    ∙ table_push (ended_lines g) (after_last is_break g)
-    ∙ ap (λ n. table_of (ended_lines g) ++ open_entry g n ∷ []) (ap height_of (sym all))
+table_open g h = search (rules, lines_open, table_push)

@@ -1,5 +1,5 @@
 -- What a tag that places nothing makes of the state.
-use Rattle.std.proofs.Common.{◌≡◌, ℕ, ◌+◌, ◌-◌, ◌≤◌, true, false, cond, not, ◌==◌, ◌⊎◌, inl, inr, List, [], ◌∷◌, ◌++◌, Option, Some, None, refl, sym, ap, ◌∙◌, subst, arith}
+use Rattle.std.proofs.Common.{◌≡◌, ℕ, ◌+◌, ◌-◌, ◌≤◌, true, false, cond, not, ◌==◌, List, [], ◌∷◌, ◌++◌, Option, Some, None, refl, sym, ap, ◌∙◌, subst, arith, rules}
 use Rattle.std.specs.Option.{option_map, option_map_or, unwrap_or}
 use Rattle.std.proofs.lemmas.Bool.{cases_Bool}
 use Rattle.std.proofs.lemmas.Bool.Decides.{nat_tests}
@@ -107,18 +107,10 @@ judged-picked sign items state st pick info is agrees =
 
 module _ (sign : SignData) (x y w h : ℕ) where
   pub outside_across : (1 ≤ x → x ≤ sign.width → x - 1 + w ≤ sign.width → ⊥) → is_inside sign x y w h ≡ false
-  outside_across no_way = go (cases_Bool (is_inside sign x y w h))
-    where
-      go : (is_inside sign x y w h ≡ true) ⊎ (is_inside sign x y w h ≡ false) → is_inside sign x y w h ≡ false
-      go (inl e) = absurd (no_way (grind (arith, nat_tests)) (grind (arith, nat_tests)) (grind (arith, nat_tests)))
-      go (inr e) = e
+  outside_across no_way = search (rules, cases_Bool, nat_tests)
 
   pub outside_down : (1 ≤ y → y ≤ sign.height → y - 1 + h ≤ sign.height → ⊥) → is_inside sign x y w h ≡ false
-  outside_down no_way = go (cases_Bool (is_inside sign x y w h))
-    where
-      go : (is_inside sign x y w h ≡ true) ⊎ (is_inside sign x y w h ≡ false) → is_inside sign x y w h ≡ false
-      go (inl e) = absurd (no_way (grind (arith, nat_tests)) (grind (arith, nat_tests)) (grind (arith, nat_tests)))
-      go (inr e) = e
+  outside_down no_way = search (rules, cases_Bool, nat_tests)
 
   pub inside : 1 ≤ x → x ≤ sign.width → x - 1 + w ≤ sign.width → 1 ≤ y → y ≤ sign.height → y - 1 + h ≤ sign.height → is_inside sign x y w h ≡ true
   inside a b c d e f = grind (arith, nat_tests)

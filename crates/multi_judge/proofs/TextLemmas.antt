@@ -1,5 +1,5 @@
 -- A word and the space behind it, where lines are filled.
-use Rattle.std.proofs.Common.{◌≡◌, ℕ, ◌+◌, ◌-◌, ◌*◌, ◌^◌, ◌<◌, ◌≤◌, List, length, take, drop, slice_get, true, Option, Some, sym, ap, ◌∙◌, arith}
+use Rattle.std.proofs.Common.{◌≡◌, ℕ, ◌+◌, ◌-◌, ◌*◌, ◌^◌, ◌<◌, ◌≤◌, List, length, take, drop, slice_get, true, Option, Some, sym, ap, ◌∙◌, arith, rules}
 use Rattle.std.specs.List.{All}
 use Rattle.multi_token.specs.Counted.{Counted, RisesBetween, charged}
 use Rattle.multi_token.specs.Spelling.{IsPlain}
@@ -42,18 +42,7 @@ module _ (sign : SignData) (cells : FontData) (octets : List ℕ) (at : ℕ) (ru
 
   -- the word, where it ends
   pub word_ended : length octets < 2 ^ 32 → (next : Option ℕ) → next ≡ slice_get octets (at + len) → IsAt sign octets (at + len) next (IsFilledFor sign kept) behind
-  word_ended small next octet =
-      let fewest = rises.1 in
-      let few = rises.2 in
-      let least = text.behind.least in
-      let most = text.behind.most in
-      record {
-        so_far = taken.0;
-        octet = octet;
-        same = ap (λ (s : Counted). s.octets) rises.3 ∙ text.behind.same;
-        least = omega (arith, steps, fewest, least, within, small);
-        most = omega (arith, steps, few, most, within, small);
-      }
+  word_ended small next octet = search (rules, steps, taken)
 
   -- the word and the space behind it
   pub word_spaced : length octets < 2 ^ 32 → slice_get octets (at + len) ≡ Some 32 → (width : ℕ) → Some width ≡ width_numbered cells 32 → IsWithin 1 64 width → run.gap + width ≤ run.left - pixels

@@ -1,11 +1,12 @@
-use Rattle.std.proofs.Common.{◌≡◌, None, Some, Option, ℕ, Bool, cond, refl, true, false, subst, sym, ◌∙◌}
+use Rattle.std.proofs.lemmas.Grind.{common_steps}
+use Rattle.std.proofs.Common.{◌≡◌, None, Some, Option, ℕ, Bool, cond, refl, true, false, subst, sym, rules, arith}
 use Rattle.sign_font.specs.declared.parts.LineFill.{LineFill}
 use Rattle.multi_meaning.specs.Meaning.{Shows}
 use Rattle.multi_meaning.specs.Offence.{offence}
 use Rattle.multi_meaning.proofs.OrderlyLemmas.{unsized_if}
 use Rattle.multi_judge.specs.declared.pass.Pass.{Pass}
 use Rattle.multi_judge.specs.Passed.{PassesCharacter}
-use Rattle.multi_judge.specs.Run.{IsBehindCharacter, is_within}
+use Rattle.multi_judge.specs.Run.{IsBehindCharacter}
 use Rattle.multi_judge.proofs.PassedLemmas.{plain_passed}
 use Rattle.multi_judge.proofs.PassLemmas.{is_false, is_true, known_judged, state_judged}
 use Rattle.multi_judge.proofs.pass.Pass.pass_cell.Goals as goal
@@ -16,11 +17,7 @@ fits_if true e = refl
 fits_if false e = cc
 
 pub returns-then-this-ne0-clause-passed : goal.returns-then-this-ne0-clause-passed
-returns-then-this-ne0-clause-passed g c =
-    subst (λ w. PassesCharacter w c.args.number c.args.width c.args.self.now c.put_filled.new.self c.put_filled.result) (sym (is_true g.row.WORDS c.if-this-ne0.true))
-    (λ sign items is own fine.
-    let put = c.put_filled.ensures.put sign items is own (unsized_if sign.line_fill sign items (Shows c.args.number) fine true refl) in
-    (put.passed (fits_if (is_within c.put_filled.new.self.state) (sym put.size ∙ fine)), λ off. absurd cc))
+returns-then-this-ne0-clause-passed g c = first_of (search (rules, is_true, unsized_if), grind (arith, common_steps, is_true, unsized_if))
 
 pub returns-else-this-ne0-clause-passed : goal.returns-else-this-ne0-clause-passed
 returns-else-this-ne0-clause-passed g c =

@@ -1,20 +1,12 @@
-use Rattle.std.proofs.Common.{◌≡◌, ◌++◌, [], ◌∷◌, refl, ap, ◌∙◌, arith}
+use Rattle.std.proofs.lemmas.Grind.{common_steps}
+use Rattle.std.proofs.Common.{◌≡◌, ◌++◌, [], ◌∷◌, refl, ap, ◌∙◌, arith, rules}
 use Rattle.std.specs.Prelude.{◌==◌, if◌then◌else◌}
 use Rattle.multi_judge.specs.Table.{TableLines, group_lines, split_lines}
 use Rattle.multi_judge.proofs.SplitLemmas.{each_group, pushed_middle, pushed_top}
 use Rattle.multi_judge.proofs.table.LineTable.push.Goals as goal
 
 pub returns-in-2 : goal.returns-in-2
-returns-in-2 c = record {
-  pushed = λ just known.
-      let last = rw c.in-2.is at c.requires.last in
-      let none3 = ap (λ (t : TableLines). t.middle) c.self.view_is ∙ last 3 (omega arith) (omega arith) in
-      let none4 = ap (λ (t : TableLines). t.bottom) c.self.view_is ∙ last 4 (omega arith) (omega arith) in
-      let s = c.self.inside in
-      let new = split_lines c.push.new.self.items c.len-self-inside.result c.len-self-inside-in-2.result in
-      let (top, middle, bottom) = pushed_top s.lines.items s.middle s.bottom c.self.invariant c.args.line c.push.new.self.items c.push.ensures.items c.len-self-inside.result c.len-self-inside-in-2.result c.len-self-inside.ensures.value c.len-self-inside-in-2.ensures.value none3 none4 in
-      rw (c.in-2.is, ← c.self.view_is) (each_group (λ just. group_lines just new ≡ (if just == 2 then group_lines just (split_lines s.lines.items s.middle s.bottom) ++ c.args.line ∷ [] else group_lines just (split_lines s.lines.items s.middle s.bottom))) top middle bottom just known.0 known.1);
-}
+returns-in-2 c = first_of (search (rules, each_group, pushed_top), grind (arith, common_steps, each_group, pushed_top))
 
 pub returns-in-3 : goal.returns-in-3
 returns-in-3 c = record {
