@@ -1,5 +1,5 @@
 -- The lines that the table has while an area is read.
-use Rattle.std.proofs.Common.{◌≡◌, ◌≢◌, ℕ, ◌+◌, ◌<◌, ◌≤◌, Bool, true, false, cond, ◌==◌, inl, inr, length, List, [], ◌∷◌, ◌++◌, refl, sym, ap, ◌∙◌, arith, ◌&&◌, subst, append-nil}
+use Rattle.std.proofs.Common.{◌≡◌, ℕ, ◌+◌, ◌<◌, ◌≤◌, Bool, true, false, cond, ◌==◌, inl, inr, length, List, [], ◌∷◌, ◌++◌, refl, sym, ap, ◌∙◌, arith, ◌&&◌, subst, append-nil}
 use Rattle.std.specs.Prelude.{nat_lt, if◌then◌else◌}
 use Rattle.std.specs.List.{All, after_last, list_any}
 use Rattle.std.proofs.lemmas.Bool.{cases_eq, cases_lt, eq-eqb, le-ltb, lt-ltb, ne_eqb}
@@ -20,7 +20,7 @@ use Rattle.multi_judge.specs.Table.{group_lines, line_count, table_of, line_entr
 use Rattle.multi_judge.proofs.AreaSumLemmas.{group_behind, group_of_own}
 use Rattle.multi_judge.proofs.PlaceLemmas.{ended_most}
 use Rattle.multi_judge.proofs.SplitLemmas.{each_group}
-use Rattle.multi_judge.proofs.TableLemmas.{lines_closed, lines_open, open_entry, table_length, table_open, table_push}
+use Rattle.multi_judge.proofs.TableLemmas.{lines_closed, lines_open, open_entry, table_length, table_push}
 use Rattle.std.proofs.lemmas.List.Elements.{filter-append}
 
 -- ONE MORE LINE
