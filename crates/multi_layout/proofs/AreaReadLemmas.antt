@@ -250,9 +250,9 @@ module _ {words : Bool} {sign : SignData} (sound : IsSound sign) {items : List I
         let group = group_of_own area_more new.state.area new_state.area page (sym b.present) in
         let height : new.state.area.group.closed ≡ height_of (ended_lines (in_group page area_more)) = ap (λ (g : Group). g.closed) group in
         known_more lines'
-        (known_pushed page area area_more b.others (characters ++ own_line.1 ∷ []) entry lines lines' low_page high_page own_line.5
+        (known_pushed page area area_more b.others (characters ++ own_line.1 ∷ []) lines low_page high_page own_line.5 r.known entry lines'
         (made characters own_line.2 ∙ ap (line_entry characters) height ∙ sym (entry_ended characters own_line.1 (height_of (ended_lines (in_group page area_more))) own_line.4))
-        (subst (λ n. Pushed n entry lines lines') b.present pushed) r.known)
+        (subst (λ n. Pushed n entry lines lines') b.present pushed))
 
 -- A TAG
 

@@ -19,7 +19,7 @@ use Rattle.multi_meaning.specs.Verdict.{IsVerdict, Refused, pages_of}
 use Rattle.multi_meaning.proofs.OffenceLemmas.{offence-faulty}
 use Rattle.multi_layout.specs.kept.Told.{IsRefused, IsTold}
 use Rattle.multi_judge.specs.Judging.{IsAt, IsBehind, ReadSoFar}
-use Rattle.multi_judge.proofs.ReadLemmas.{nothing_read, read_more, refused_at_bracket, refused_here, accepted_at_end, at_end, cycle_at_end}
+use Rattle.multi_judge.proofs.ReadLemmas.{read_more, refused_at_bracket, refused_here, accepted_at_end, at_end, cycle_at_end}
 use Rattle.multi_judge.specs.declared.pass.Pass.{Pass}
 use Rattle.multi_judge.specs.PassState.{IsPassOf}
 use Rattle.multi_judge.specs.State.{attributes_of, whole_times}
@@ -27,19 +27,6 @@ use Rattle.multi_meaning.specs.Address.{standing}
 use Rattle.multi_meaning.specs.Times.{cycle, ended_times}
 use Rattle.multi_judge.proofs.FilledJudgedLemmas.{attributes_here}
 use Rattle.multi_judge.proofs.FilledReadLemmas.{kept_pages, kept_times}
-
--- the first octet is read
-pub first_read : (sign : SignData) (source : Counted) (IsKept : List Meaning → Type 0) → IsKept [] → source.steps ≡ 0 → (next : Option ℕ) (read : Counted) → next ≡ slice_get source.octets 0 → read ≡ charged source 1
-    → IsAt sign source.octets 0 next IsKept read
-first_read sign source IsKept is fresh next read octet step =
-    let steps : read.steps ≡ (charged source 1).steps = ap (λ (s : Counted). s.steps) step in
-    record {
-      so_far = nothing_read sign source.octets IsKept is;
-      octet = octet;
-      same = ap (λ (s : Counted). s.octets) step;
-      least = omega (arith, steps, fresh);
-      most = omega (arith, steps, fresh);
-    }
 
 module _ (sign : SignData) (octets : List ℕ) (at first : ℕ) (IsKept : List Meaning → Type 0) (source : Counted) (i : IsAt sign octets at (Some first) IsKept source) (short : length octets < 2 ^ 32) where
   here : slice_get octets at ≡ Some first

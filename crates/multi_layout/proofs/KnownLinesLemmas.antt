@@ -1,5 +1,5 @@
 -- The lines that the table has while an area is read.
-use Rattle.std.proofs.Common.{◌≡◌, ◌≢◌, ℕ, ◌+◌, ◌<◌, ◌≤◌, Bool, true, false, cond, ◌==◌, inl, inr, length, List, [], ◌∷◌, ◌++◌, refl, sym, ap, ◌∙◌, arith, ◌&&◌, subst, append-nil}
+use Rattle.std.proofs.Common.{◌≡◌, ℕ, ◌+◌, ◌<◌, ◌≤◌, Bool, true, false, cond, ◌==◌, inl, inr, length, List, [], ◌∷◌, ◌++◌, refl, sym, ap, ◌∙◌, arith, ◌&&◌, subst, append-nil}
 use Rattle.std.specs.Prelude.{nat_lt, if◌then◌else◌}
 use Rattle.std.specs.List.{All, after_last, list_any}
 use Rattle.std.proofs.lemmas.Bool.{cases_eq, cases_lt, eq-eqb, le-ltb, lt-ltb, ne_eqb}
@@ -20,7 +20,7 @@ use Rattle.multi_judge.specs.Table.{group_lines, line_count, table_of, line_entr
 use Rattle.multi_judge.proofs.AreaSumLemmas.{group_behind, group_of_own}
 use Rattle.multi_judge.proofs.PlaceLemmas.{ended_most}
 use Rattle.multi_judge.proofs.SplitLemmas.{each_group}
-use Rattle.multi_judge.proofs.TableLemmas.{lines_closed, lines_open, open_entry, table_length, table_open, table_push}
+use Rattle.multi_judge.proofs.TableLemmas.{lines_closed, lines_open, open_entry, table_length, table_push}
 use Rattle.std.proofs.lemmas.List.Elements.{filter-append}
 
 -- ONE MORE LINE
@@ -29,14 +29,40 @@ use Rattle.std.proofs.lemmas.List.Elements.{filter-append}
 abbrev pub Pushed : ℕ → CountedLine → LineTable → LineTable → Type 0
 Pushed page_just line old new = (just : ℕ) → (2 ≤ just) × (just ≤ 4) → group_lines just new ≡ (if just == page_just then group_lines just old ++ line ∷ [] else group_lines just old)
 
-module _ (page_just : ℕ) (line : CountedLine) (old new : LineTable) (pushed : Pushed page_just line old new) where
-  -- its own group has it
-  pushed_own : 2 ≤ page_just → page_just ≤ 4 → group_lines page_just new ≡ group_lines page_just old ++ line ∷ []
-  pushed_own least most = pushed page_just (least, most) ∙ ap (λ b. if b then group_lines page_just old ++ line ∷ [] else group_lines page_just old) (eq-eqb page_just page_just refl)
+-- a sum over the groups is less where one group's is
+less_total : (f g : ℕ → ℕ) (p : ℕ) → 2 ≤ p → p ≤ 4 → f 2 ≤ g 2 → f 3 ≤ g 3 → f 4 ≤ g 4 → f p < g p → f 2 + f 3 + f 4 < g 2 + g 3 + g 4
+less_total f g p low high two three four = each_group (λ p. f p < g p → f 2 + f 3 + f 4 < g 2 + g 3 + g 4) (λ h. omega arith) (λ h. omega arith) (λ h. omega arith) p low high
 
-  -- the others stay
-  pushed_other : (just : ℕ) → 2 ≤ just → just ≤ 4 → just ≢ page_just → group_lines just new ≡ group_lines just old
-  pushed_other just least most other = pushed just (least, most) ∙ ap (λ b. if b then group_lines just old ++ line ∷ [] else group_lines just old) (ne_eqb just page_just other)
+-- one more line of one group is known
+module _ (old new : ℕ → List (List Spot)) (own : ℕ) (others : (just : ℕ) → (just ≡ own → ⊥) → new just ≡ old just) (line : List Spot) (more : new own ≡ old own ++ line ∷ []) (low : 2 ≤ own) (high : own ≤ 4)
+    (table : LineTable) (has : (just : ℕ) → 2 ≤ just → just ≤ 4 → group_lines just table ≡ table_of (old just)) where
+  -- it is put into the table
+  lines_pushed : (entry : CountedLine) (table' : LineTable) → entry ≡ line_entry line (height_of (new own)) → Pushed own entry table table' → (just : ℕ) → 2 ≤ just → just ≤ 4 → group_lines just table' ≡ table_of (new just)
+  lines_pushed entry table' is pushed just least most = elim (cases_eq just own) [
+    | inl same ↦ ap (λ n. group_lines n table') same ∙ here ∙ ap (λ n. table_of (new n)) (sym same)
+    | inr differ ↦
+        pushed just (least, most) ∙ ap (λ b. cond b (group_lines just table ++ entry ∷ []) (group_lines just table)) (ne_eqb just own differ)
+        ∙ has just least most ∙ ap table_of (sym (others just differ))
+  ]
+    where
+      here : group_lines own table' ≡ table_of (new own)
+      here =
+          pushed own (low, high) ∙ ap (λ b. cond b (group_lines own table ++ entry ∷ []) (group_lines own table)) (eq-eqb own own refl)
+          ∙ ap (λ l. l ++ entry ∷ []) (has own low high)
+          ∙ ap (λ (e : CountedLine). table_of (old own) ++ e ∷ []) (is ∙ ap (λ l. line_entry line (height_of l)) more)
+          ∙ sym (table_push (old own) line) ∙ ap table_of (sym more)
+
+  -- and there is room for it
+  lines_room : (area : List Spot) → ((just : ℕ) → length (new just) ≤ length (lines_of (in_group just area))) → HasRoom area → line_count table < 128
+  lines_room area all room =
+      let g = λ (just : ℕ). length (lines_of (in_group just area)) in
+      let count = λ (just : ℕ) (low : 2 ≤ just) (high : just ≤ 4). ap length (has just low high) ∙ table_length (old just) in
+      let less : length (old own) < g own = omega (arith, ap length more, length_push (old own) line, all own) in
+      let each : (just : ℕ) → length (old just) ≤ g just = λ just. elim (cases_eq just own) [
+        | inl same ↦ subst (λ n. length (old n) ≤ g n) (sym same) (omega (arith, less))
+        | inr differ ↦ omega (arith, ap length (others just differ), all just)
+      ] in
+      omega (arith, room, count 2 (omega arith) (omega arith), count 3 (omega arith) (omega arith), count 4 (omega arith) (omega arith), less_total (λ just. length (old just)) g own low high (each 2) (each 3) (each 4) less)
 
 -- KNOWN LINES
 
@@ -79,16 +105,6 @@ module _ (area : List Spot) (table : LineTable) where
   pub behind_empty : (present : ℕ) → largest (λ (t : Spot). page_number t.at.page_just) area ≤ present → 2 ≤ present → HasKnown present area table → (just : ℕ) → present < just → just ≤ 4 → group_lines just table ≡ []
   behind_empty present on some has just behind high = has just (omega arith) high ∙ ap table_of (known_none present just area (group_behind just area (omega arith)))
 
-  -- how many the table has
-  pub table_count : (present : ℕ) → HasKnown present area table → line_count table ≡ length (known_lines present 2 area) + length (known_lines present 3 area) + length (known_lines present 4 area)
-  table_count present has =
-      let count = λ (just : ℕ) (low : 2 ≤ just) (high : just ≤ 4). ap length (has just low high) ∙ table_length (known_lines present just area) in
-      omega (arith, count 2 (omega arith) (omega arith), count 3 (omega arith) (omega arith), count 4 (omega arith) (omega arith))
-
--- a sum over the groups is less where one group's is
-pub less_total : (f g : ℕ → ℕ) (p : ℕ) → 2 ≤ p → p ≤ 4 → f 2 ≤ g 2 → f 3 ≤ g 3 → f 4 ≤ g 4 → f p < g p → f 2 + f 3 + f 4 < g 2 + g 3 + g 4
-less_total f g p low high two three four = each_group (λ p. f p < g p → f 2 + f 3 + f 4 < g 2 + g 3 + g 4) (λ h. omega arith) (λ h. omega arith) (λ h. omega arith) p low high
-
 -- THE LAST LINE OF THE PRESENT GROUP
 
 module _ (area : List Spot) (a : Area) (e : a ≡ area_sum area) where
@@ -101,6 +117,13 @@ module _ (area : List Spot) (a : Area) (e : a ≡ area_sum area) where
   any_is : (b : Bool) → a.group.line.any ≡ b → list_any is_glyph (after_last is_break (in_group a.present area)) ≡ b
   any_is b any = ap (λ (g : Group). g.line.any) (sym group_is) ∙ any
 
+  -- those of the other groups are known as before
+  known_next : (just : ℕ) → (just ≡ a.present → ⊥) → known_lines (a.present + 1) just area ≡ known_lines a.present just area
+  known_next just other = elim (cases_lt just a.present) [
+    | inl less ↦ known_before (a.present + 1) just area (omega arith) ∙ sym (known_before a.present just area less)
+    | inr more ↦ let behind = group_behind just area (omega (arith, present_is, more, other)) in known_none (a.present + 1) just area behind ∙ sym (known_none a.present just area behind)
+  ]
+
   -- where it has none, its lines are known
   pub nothing_left : All IsPlacing area → (old : LineTable) → a.group.line.any ≡ false → HasKnown a.present area old → HasKnown (a.present + 1) area old
   nothing_left placing old none has just low high =
@@ -109,40 +132,30 @@ module _ (area : List Spot) (a : Area) (e : a ≡ area_sum area) where
             known_from a.present just area (omega arith)
             ∙ sym (lines_closed (in_group just area) (placing_group just area placing) (ap (λ n. list_any is_glyph (after_last is_break (in_group n area))) own ∙ any_is false none))
             ∙ sym (known_before (a.present + 1) just area (omega arith))
-        | inr other ↦ elim (cases_lt just a.present) [
-          | inl less ↦ known_before a.present just area less ∙ sym (known_before (a.present + 1) just area (omega arith))
-          | inr more ↦ let behind = group_behind just area (omega (arith, present_is, more, other)) in known_none a.present just area behind ∙ sym (known_none (a.present + 1) just area behind)
-        ]
+        | inr other ↦ sym (known_next just other)
       ])
 
   module _ (some : a.group.line.any ≡ true) (low : 2 ≤ a.present) (high : a.present ≤ 4) (old : LineTable) (has : HasKnown a.present area old) where
+    abbrev spots : List Spot
+    spots = in_group a.present area
+
+    all_known : known_lines (a.present + 1) a.present area ≡ lines_of spots
+    all_known = known_before (a.present + 1) a.present area (omega arith)
+
+    with_last : known_lines (a.present + 1) a.present area ≡ known_lines a.present a.present area ++ after_last is_break spots ∷ []
+    with_last = all_known ∙ lines_open spots (any_is true some) ∙ ap (λ l. l ++ after_last is_break spots ∷ []) (sym (known_from a.present a.present area (omega arith)))
+
     -- with it they are known
-    pub last_known : (new : LineTable) (line : CountedLine) → line ≡ open_entry (in_group a.present area) (height_of (lines_of (in_group a.present area))) → Pushed a.present line old new → HasKnown (a.present + 1) area new
-    last_known new line is pushed just least most = elim (cases_eq just a.present) [
-      | inl own ↦
-          let spots = in_group a.present area in
-          let here : group_lines a.present new ≡ table_of (lines_of spots) =
-          pushed_own a.present line old new pushed low high
-          ∙ ap (λ l. l ++ line ∷ []) (has a.present low high ∙ ap table_of (known_from a.present a.present area (omega arith)))
-          ∙ ap (λ (entry : CountedLine). table_of (ended_lines spots) ++ entry ∷ []) is
-          ∙ sym (table_open spots (any_is true some)) in
-          ap (λ n. group_lines n new) own ∙ here ∙ ap (λ n. table_of (lines_of (in_group n area))) (sym own) ∙ ap table_of (sym (known_before (a.present + 1) just area (omega arith)))
-      | inr other ↦
-          pushed_other a.present line old new pushed just least most other ∙ has just least most ∙ ap table_of (elim (cases_lt just a.present) [
-            | inl less ↦ known_before a.present just area less ∙ sym (known_before (a.present + 1) just area (omega arith))
-            | inr more ↦ let behind = group_behind just area (omega (arith, present_is, more, other)) in known_none a.present just area behind ∙ sym (known_none (a.present + 1) just area behind)
-          ])
-    ]
+    pub last_known : (new : LineTable) (line : CountedLine) → line ≡ open_entry spots (height_of (lines_of spots)) → Pushed a.present line old new → HasKnown (a.present + 1) area new
+    last_known new line is =
+        lines_pushed (λ j. known_lines a.present j area) (λ j. known_lines (a.present + 1) j area) a.present known_next (after_last is_break spots) with_last low high old has line new
+        (is ∙ ap (λ l. open_entry spots (height_of l)) (sym all_known))
 
     -- there is room for it
     pub last_room : HasRoom area → line_count old < 128
-    last_room room =
-        let f = λ (just : ℕ). length (known_lines a.present just area) in
-        let g = λ (just : ℕ). length (lines_of (in_group just area)) in
-        let spots = in_group a.present area in
-        let less : f a.present < g a.present =
-        omega (arith, ap length (known_from a.present a.present area (omega arith)), ap length (lines_open spots (any_is true some)), length_push (ended_lines spots) (after_last is_break spots)) in
-        omega (arith, room, table_count area old a.present has, less_total f g a.present low high (known_most a.present 2 area) (known_most a.present 3 area) (known_most a.present 4 area) less)
+    last_room =
+        lines_room (λ j. known_lines a.present j area) (λ j. known_lines (a.present + 1) j area) a.present known_next (after_last is_break spots) with_last low high old has area
+        (λ j. known_most (a.present + 1) j area)
 
 -- WHERE LINES ARE FILLED
 
@@ -177,33 +190,14 @@ module _ (just : ℕ) (old new : List Spot) (others : (j : ℕ) → (j ≡ just 
   ]))
 
   -- one is, and it is put into the table
-  pub known_pushed : (line : List Spot) (entry : CountedLine) (table table' : LineTable) → 2 ≤ just → just ≤ 4 → ended_lines (in_group just new) ≡ ended_lines (in_group just old) ++ line ∷ []
-      → entry ≡ line_entry line (height_of (ended_lines (in_group just new))) → Pushed just entry table table' → HasKnown just old table → HasKnown just new table'
-  known_pushed line entry table table' low high more is pushed has = λ j least most. elim (cases_eq j just) [
-    | inl own ↦ ap (λ n. group_lines n table') own ∙ here ∙ ap (λ n. table_of (known_lines just n new)) (sym own)
-    | inr differ ↦
-        pushed j (least, most) ∙ ap (λ b. cond b (group_lines j table ++ entry ∷ []) (group_lines j table)) (ne_eqb j just differ)
-        ∙ has j least most ∙ ap table_of (sym (other_known j differ))
-  ]
-    where
-      here : group_lines just table' ≡ table_of (known_lines just just new)
-      here =
-          let lines = ended_lines (in_group just old) in
-          pushed just (low, high) ∙ ap (λ b. cond b (group_lines just table ++ entry ∷ []) (group_lines just table)) (eq-eqb just just refl)
-          ∙ ap (λ l. l ++ entry ∷ []) (has just low high ∙ ap table_of (own_known old))
-          ∙ ap (λ (e : CountedLine). table_of lines ++ e ∷ []) (is ∙ ap (λ l. line_entry line (height_of l)) more)
-          ∙ sym (table_push lines line)
-          ∙ ap table_of (sym more ∙ sym (own_known new))
+  module _ (line : List Spot) (table : LineTable) (low : 2 ≤ just) (high : just ≤ 4) (more : ended_lines (in_group just new) ≡ ended_lines (in_group just old) ++ line ∷ []) (has : HasKnown just old table) where
+    with_line : known_lines just just new ≡ known_lines just just old ++ line ∷ []
+    with_line = own_known new ∙ more ∙ ap (λ l. l ++ line ∷ []) (sym (own_known old))
 
-  -- and there is room for it
-  pub pushed_room : (line : List Spot) (table : LineTable) → 2 ≤ just → just ≤ 4 → ended_lines (in_group just new) ≡ ended_lines (in_group just old) ++ line ∷ [] → HasKnown just old table
-      → HasRoom new → line_count table < 128
-  pushed_room line table low high more has room =
-      let f = λ (j : ℕ). length (known_lines just j old) in
-      let g = λ (j : ℕ). length (lines_of (in_group j new)) in
-      let less : f just < g just = omega (arith, ap length (own_known old), ap length more, length_push (ended_lines (in_group just old)) line, ended_most (in_group just new)) in
-      let each : (j : ℕ) → f j ≤ g j = λ j. elim (cases_eq j just) [
-        | inl own ↦ subst (λ n. f n ≤ g n) (sym own) (omega (arith, less))
-        | inr differ ↦ omega (arith, known_most just j old, ap (λ l. length (lines_of l)) (others j differ))
-      ] in
-      omega (arith, room, table_count old table just has, less_total f g just low high (each 2) (each 3) (each 4) less)
+    pub known_pushed : (entry : CountedLine) (table' : LineTable) → entry ≡ line_entry line (height_of (ended_lines (in_group just new))) → Pushed just entry table table' → HasKnown just new table'
+    known_pushed entry table' is =
+        lines_pushed (λ j. known_lines just j old) (λ j. known_lines just j new) just other_known line with_line low high table has entry table' (is ∙ ap (λ l. line_entry line (height_of l)) (sym (own_known new)))
+
+    -- and there is room for it
+    pub pushed_room : HasRoom new → line_count table < 128
+    pushed_room = lines_room (λ j. known_lines just j old) (λ j. known_lines just j new) just other_known line with_line low high table has new (λ j. known_most just j new)

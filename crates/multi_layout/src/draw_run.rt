@@ -7,7 +7,6 @@ ghost use Rattle.sign_font.specs.declared.parts.LineFill.TheVariants.{Off};
 ghost use Rattle.multi_layout.specs.kept.AreaDrawing.{IsFilledBy};
 ghost use Rattle.multi_judge.specs.Run.{IsBehindCharacter};
 ghost use Rattle.multi_layout.specs.kept.RunDrawing.{DrawsRun, IsReadBehind, IsRunDrawn, cursor_behind, octets_read};
-ghost use Rattle.multi_layout.specs.Pages.{IsSized};
 
 use crate::bracket::is_bracket;
 use crate::cursor::Cursor;
@@ -34,7 +33,6 @@ pub(crate) fn draw_run(
     requires apart { cursor.old.state.attributes.line_just ≢ Full }
     requires low { place.column ≤ 2 ^ 63 }
     requires known { (page : ℕ) × IsRunDrawn sign.now source.old.octets layer page read.now place cursor.old plane.old }
-    requires size { IsSized plane.old sign.now }
     ensures drawn { DrawsRun sign.now source.old.octets layer read.now place cursor.old cursor.new plane.old plane.new }
     ensures next { IsReadBehind source.old.octets cursor.new.at read.now.end result }
     ensures steps { RisesBetween source.old source.new 0 (9 * (cursor.new.at - cursor.old.at) + octets_read result) }
@@ -67,7 +65,6 @@ fn draw_beside(
     requires on { IsBehindCharacter cursor.now.state }
     requires place { (cursor.now.state.attributes.line_just ≢ Full) × (place.column ≤ 2 ^ 63) }
     requires known { (page : ℕ) × IsRunDrawn sign.now source.old.octets layer page read.now place cursor.now plane.old }
-    requires size { IsSized plane.old sign.now }
     ensures drawn { DrawsRun sign.now source.old.octets layer read.now place cursor.now
         (cursor_behind cursor.now place.column result.1 result.0) plane.old plane.new }
     ensures next { IsReadBehind source.old.octets result.0 read.now.end result.2 }

@@ -11,7 +11,6 @@ mod checked;
 mod cursor;
 mod draw;
 mod draw_run;
-mod fault;
 mod next_page;
 mod pages;
 mod paint;
@@ -20,7 +19,6 @@ mod times;
 mod verdict;
 
 pub use checked::Checked;
-pub use fault::Fault;
 pub use multi_meaning::{
     Shown, SyntaxError, broken_bracket_stands, keeps_breaks, one_verdict, refusal_stands,
     smaller_fits,
@@ -28,4 +26,4 @@ pub use multi_meaning::{
 pub use next_page::NextPage;
 pub use pages::{PageView, Pages};
 pub use read::AreaLines;
-pub use verdict::{Judge, Offence, check, check_with};
+pub use verdict::{Fault, Judge, Offence, check, check_with};

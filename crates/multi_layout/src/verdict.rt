@@ -13,7 +13,6 @@ ghost use Rattle.multi_judge.specs.PassState.{IsPassOf, fill_of};
 
 use crate::bracket::{is_bracket, read_spelled};
 use crate::checked::{Checked, Told};
-use crate::fault::Fault;
 use crate::pages::draw_told;
 use crate::read::AreaLines;
 use multi_judge::{Pass, State, Terms, judge_run};
@@ -28,6 +27,15 @@ use std::marker::Model;
 pub struct Offence {
     pub error: SyntaxError,
     pub at: usize,
+}
+
+/// A refused string: the number of its first error (NTCIP 1203 v03, dmsMultiSyntaxError), the offset of the
+/// first octet of the item that offends (dmsMultiSyntaxErrorPosition), and the source that was handed in.
+#[derive(Drop)]
+pub struct Fault<'a> {
+    pub code: u8,
+    pub at: usize,
+    pub source: Source<'a>,
 }
 
 /// Whether a sign accepts a string by the sign's own defaults. Everything else is as [`check_with`] says.

@@ -2,9 +2,6 @@ use Rattle.std.proofs.Common.{arith}
 use Rattle.multi_layout.proofs.DrawLemmas.{low_between}
 use Rattle.multi_layout.proofs.draw_run.draw_run.Goals as goal
 
-pub returns-in-Words-clause-drawn : goal.returns-in-Words-clause-drawn
-returns-in-Words-clause-drawn c = λ page r. r.so
-
 pub lengthen-requires-clause-width : goal.lengthen-requires-clause-width
 lengthen-requires-clause-width c =
     let (page, r) = c.requires.known in

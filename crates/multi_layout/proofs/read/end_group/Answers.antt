@@ -1,4 +1,4 @@
-use Rattle.std.proofs.Common.{◌+◌, refl, ap, ◌∙◌, arith}
+use Rattle.std.proofs.Common.{rules, ◌+◌, refl, ap, ◌∙◌, arith}
 use Rattle.std.specs.List.{after_last}
 use Rattle.multi_meaning.specs.Address.{in_group, is_break}
 use Rattle.multi_meaning.proofs.GroupLemmas.{placing_group}
@@ -8,30 +8,24 @@ use Rattle.multi_layout.proofs.KnownLinesLemmas.{behind_empty, known_later, last
 use Rattle.multi_judge.proofs.TableLemmas.{open_entry}
 use Rattle.multi_layout.proofs.read.end_group.Goals as goal
 
-pub of-requires-clause-narrow : goal.of-requires-clause-narrow
-of-requires-clause-narrow c =
+pub of-requires : goal.of-requires
+of-requires c =
     let area = c.args.area.now in
     let (spots, placing, sum, known, room, narrow) = c.requires.known in
-    (after_last is_break (in_group area.present spots), own_line spots area sum, (narrow area.present (c.requires.below.some c.if-group.true) c.requires.below.known).0)
-
-pub of-requires-clause-low : goal.of-requires-clause-low
-of-requires-clause-low c =
-    let area = c.args.area.now in
-    let (spots, placing, sum, known, room, narrow) = c.requires.known in
-    let tall = (narrow area.present (c.requires.below.some c.if-group.true) c.requires.below.known).1 in
+    let (wide, tall) = narrow area.present (c.requires.below.some c.if-group.true) c.requires.below.known in
     let height = c.height.ensures.sum (in_group area.present spots) (placing_group area.present spots placing) (group_of_own spots area sum area.present refl) in
-    omega (arith, tall, height)
+    record { known = search rules; narrow = (after_last is_break (in_group area.present spots), own_line spots area sum, wide); low = omega (arith, tall, height) }
 
-pub push-requires-clause-room : goal.push-requires-clause-room
-push-requires-clause-room c =
+pub push-requires : goal.push-requires
+push-requires c =
+    let area = c.args.area.now in
     let (spots, placing, sum, known, room, narrow) = c.requires.known in
-    last_room spots c.args.area.now sum c.if-group.true (c.requires.below.some c.if-group.true) c.requires.below.known c.args.lines.now known room
-
-pub push-requires-clause-last : goal.push-requires-clause-last
-push-requires-clause-last c =
-    let (spots, placing, sum, known, room, narrow) = c.requires.known in
-    let present = ap (λ (a : Area). a.present) sum in
-    behind_empty spots c.args.lines.now c.args.area.now.present (omega (arith, present)) (c.requires.below.some c.if-group.true) known
+    let some = c.requires.below.some c.if-group.true in
+    record {
+      known = search rules;
+      room = last_room spots area sum c.if-group.true some c.requires.below.known c.args.lines.now known room;
+      last = behind_empty spots c.args.lines.now area.present (omega (arith, ap (λ (a : Area). a.present) sum)) some known;
+    }
 
 pub returns-then-group : goal.returns-then-group
 returns-then-group c = record {

@@ -1,13 +1,10 @@
 use Rattle.std.proofs.Common.{rules, ◌+◌, length, slice_get, sym, ap, subst, ◌∙◌, arith}
 use Rattle.multi_layout.specs.kept.Passing.{IsPageSkipped}
-use Rattle.multi_layout.proofs.LocateLemmas.{in_page, in_page_in, in_page_text, met_in, next_in, page_more, page_over, passed_last, set_here, stands_there}
+use Rattle.multi_layout.proofs.LocateLemmas.{in_page_in, in_page_text, met_in, next_in, page_more, page_over, passed_last, set_here}
 use Rattle.multi_layout.proofs.PageDrawLemmas.{if_same}
 use Rattle.multi_layout.proofs.SkipLemmas.{ready_there}
-use Rattle.multi_layout.proofs.WalkLemmas.{no_steps, same_octets, steps_of, steps_then, steps_within, within}
+use Rattle.multi_layout.proofs.WalkLemmas.{same_octets, steps_of, steps_then, steps_within, within}
 use Rattle.multi_layout.proofs.cursor.Cursor.pass_page.Goals as goal
-
-pub loop-first-init : goal.loop-first-init
-loop-first-init c = record { way = in_page c.requires; on = omega arith; steps = no_steps c.args.source.now }
 
 pub meet-requires : goal.meet-requires
 meet-requires c =
@@ -35,12 +32,6 @@ loop-first-preserved-in-Setting c =
       on = omega (arith, i.on);
       steps = steps_within start (steps_then start (steps_then start i.steps (steps_of c.loop-first.source c.read.ensures.step)) c.in-Setting.ensures.steps) (omega arith) (omega (arith, i.on, c.in-Setting.ensures.some));
     }
-
-pub skip-requires : goal.skip-requires
-skip-requires c =
-    let met = same_octets c.in-Item.ensures.steps.3 in
-    let s = met_in (in_page_in (met ∙ same_octets c.read.ensures.step ∙ same_octets c.loop-first.invariant.steps.3) c.loop-first.invariant.way) c.meet.new.state c.in-Item.ensures.met.0 in
-    stands_there s c.in-Item.next (next_in (sym met) c.in-Item.ensures.met.1)
 
 pub returns-then-ends_page-clause-passed : goal.returns-then-ends_page-clause-passed
 returns-then-ends_page-clause-passed c =
