@@ -38,7 +38,7 @@ use Rattle.multi_meaning.proofs.CutLemmas.{cut_with_item}
 
 -- the line of an item is one of the lines of its group
 pub line_is_there : (g rest : List Spot) (s : Spot) → count_by is_break g < length (lines_of (g ++ s ∷ rest))
-line_is_there g rest s = omega (arith, closed_count g, ap length (cut_with_item is_break g s rest), length-append {A = List Spot})
+line_is_there g rest s = omega (arith, closed_count g, ap length (cut_with_item is_break g s rest).2, length-append {A = List Spot})
 
 -- HOW MANY LINES
 
