@@ -63,6 +63,4 @@ module _ {page height : ℕ} {old : Area} {most : ℕ} {reached : Bool} {new : A
 -- a group behind the present one has no line yet
 pub nothing_yet : (old group : List Spot) (just width : ℕ) → in_group just old ≡ filled (Some width) group → (a : Area) → a ≡ area_sum old → a.present < just
     → ◌≡◌ {A = Option Split} None (split_sum (after_last is_break (filled (Some width) group)))
-nothing_yet old group just width before a e later =
-    let none : filled (Some width) group ≡ [] = sym before ∙ group_behind just old (omega (arith, ap (λ (a : Area). a.present) e, later)) in
-    ap (λ l. split_sum (after_last is_break l)) (sym none)
+nothing_yet old group just width before a e later = first_of (search (rules, before, group_behind), grind (arith, before, group_behind))

@@ -34,9 +34,7 @@ empty_area (s ∷ area) e =
 
 -- an area that stays in its present group
 pub area_stays : (area : List Spot) (just : ℕ) (a : Area) → a ≡ area_sum area → just ≤ a.present → a.present ≤ just → a ≡ area_sum_in just area
-area_stays area just a e low high =
-    let same : largest (λ (t : Spot). page_number t.at.page_just) area ≡ just = omega (arith, ap (λ (a : Area). a.present) e) in
-    e ∙ ap (λ n. area_sum_in n area) same
+area_stays area just a e low high = first_of (search (rules), grind (arith))
 
 -- an area after one more item of the present group
 pub area_with : (area : List Spot) (s : Spot) (just : ℕ) → page_number s.at.page_just ≡ just → (a : Area) → a ≡ area_sum area → a.present ≤ just
@@ -75,9 +73,7 @@ back before s page_just most page e = ap (λ n. nat_lt n most) (sym page) ∙ ap
 -- an item conflicts if its group is before the present one, or it is a character that clashes with one on the present line of its group
 pub conflict_is : (before : List Spot) (s : Spot) (page_just present : ℕ) → page_number s.at.page_just ≡ page_just → present ≡ largest (λ t. page_number t.at.page_just) (area_of s before)
     → conflicts before s ≡ (nat_lt page_just present || (is_glyph s && list_any (clashes s) (after_last is_break (in_group page_just (area_of s before)))))
-conflict_is before s page_just present page e =
-    ap (λ b. b || (is_glyph s && list_any (clashes s) (line_before before s))) (sym (back before s page_just present page e))
-    ∙ ap (λ n. nat_lt page_just present || (is_glyph s && list_any (clashes s) (after_last is_break (in_group n (area_of s before))))) page
+conflict_is before s page_just present page e = first_of (search (rules, back), grind (arith, back))
 
 pub conflicts_character : (before : List Spot) (s : Spot) (page_just present : ℕ) → is_glyph s ≡ true → page_number s.at.page_just ≡ page_just → present ≡ largest (λ t. page_number t.at.page_just) (area_of s before)
     → (nat_lt page_just present || list_any (clashes s) (after_last is_break (in_group page_just (area_of s before)))) ≡ conflicts before s
@@ -91,9 +87,7 @@ no_back before s page_just present page e none = ltb-false page_just present (or
 -- and clashes with none on the present line of its group, if it is a character
 pub no_clash : (before : List Spot) (s : Spot) (page_just : ℕ) → is_glyph s ≡ true → page_number s.at.page_just ≡ page_just → conflicts before s ≡ false
     → list_any (clashes s) (after_last is_break (in_group page_just (area_of s before))) ≡ false
-no_clash before s page_just g page none =
-    ap (λ b. b && list_any (clashes s) (after_last is_break (in_group page_just (area_of s before)))) (sym g)
-    ∙ (or_parts _ _ (sym (conflict_is before s page_just (largest (λ t. page_number t.at.page_just) (area_of s before)) page refl) ∙ none)).1
+no_clash before s page_just g page none = first_of (search (rules, conflict_is, or_parts), grind (arith, conflict_is, or_parts))
 
 -- a character on a line with this clash, if its group is the present one
 clash_by : (before : List Spot) (s : Spot) (page_just present : ℕ) (clash : Bool) → present ≡ largest (λ (t : Spot). page_number t.at.page_just) (area_of s before)

@@ -1,5 +1,5 @@
 -- The sums of a group whose present line is another.
-use Rattle.std.proofs.Common.{◌≡◌, true, List, [], ◌∷◌, ◌++◌, ap, ◌∙◌, rules}
+use Rattle.std.proofs.Common.{◌≡◌, true, List, [], ◌∷◌, ◌++◌, ap, ◌∙◌, rules, arith}
 use Rattle.std.specs.List.{after_last, AllPass}
 use Rattle.std.proofs.lemmas.List.Elements.{All-cons, All-append}
 use Rattle.multi_meaning.specs.Address.{Spot, is_break, is_glyph}
@@ -16,9 +16,7 @@ all_glyphs before x behind h e k = All-append (λ x. is_glyph x ≡ true) before
 
 -- nothing stands behind what ends a line
 pub none_behind : (group : List Spot) (b : Spot) → is_break b ≡ true → after_last is_break (group ++ b ∷ []) ≡ []
-none_behind group b e =
-    after_last_is is_break (group ++ b ∷ [])
-    ∙ ap (λ (c : Cut Spot). c.open') (cut_push is_break group b ∙ ap (λ t. cut_if is_break t (cut is_break group) b) e)
+none_behind group b e = first_of (search (rules, Cut, after_last_is, cut, cut_if, cut_push), grind (arith, Cut, after_last_is, cut, cut_if, cut_push))
 
 -- a group whose present line is empty, with characters behind it
 pub relined : (front line : List Spot) → after_last is_break front ≡ [] → AllPass is_glyph line → ◌≡◌ {A = Group} (record (group_sum front) { line = line_sum line }) (group_sum (front ++ line))

@@ -154,23 +154,7 @@ module _ {width : ℕ} {group : List Spot} {s : Spot} {character : Character} {s
     -- it stands on the open line, and no line is ended
     on_line : filled (Some width) (group ++ s ∷ []) ≡ old ++ s ∷ [] → (split : Option Split) → split ≡ split_sum (open' ++ s ∷ [])
         → Joined width group s (with_line self grown) split None
-    on_line is split parts =
-        search (
-          rules,
-          after_last_is,
-          all_is,
-          append_assoc,
-          ended_ends,
-          ended_glyph,
-          ends_open,
-          fits,
-          fits_behind,
-          glyphs_more,
-          line_is,
-          lined_anew,
-          open_line_glyphs,
-          present_push,
-        )
+    on_line is split parts = first_of (search (rules, after_last_is, all_is, append_assoc, ended_ends, ended_glyph, ends_open, fits, fits_behind, glyphs_more, line_is, lined_anew, open_line_glyphs, present_push), grind (arith, after_last_is, all_is, append_assoc, ended_ends, ended_glyph, ends_open, fits, fits_behind, glyphs_more, line_is, lined_anew, open_line_glyphs, present_push))
 
     -- since it fits
     pub stands_there : nat_le grown.part.width most ≡ true → (split : Option Split) → split ≡ split_sum (open' ++ s ∷ [])

@@ -1,5 +1,5 @@
 -- A character behind some items, where lines are filled: its error, by the items as they are laid out with it.
-use Rattle.std.proofs.Common.{◌≡◌, ℕ, Bool, false, not, ◌&&◌, ◌||◌, ◌==◌, nat_lt, List, [], ◌∷◌, ◌++◌, Some, None, refl, sym, ap, subst, ◌∙◌, append-nil}
+use Rattle.std.proofs.Common.{◌≡◌, ℕ, Bool, false, not, ◌&&◌, ◌||◌, ◌==◌, nat_lt, List, [], ◌∷◌, ◌++◌, Some, None, refl, sym, ap, subst, ◌∙◌, append-nil, rules, arith}
 use Rattle.std.specs.List.{after_last, list_any}
 use Rattle.std.proofs.lemmas.Bool.{eq-eqb}
 use Rattle.multi_tag.specs.Just.{page_number}
@@ -53,9 +53,7 @@ module _ (sign : SignData) (items : List Meaning) (number : ℕ) (cell : CellDat
   pub conflicts_by : (state : State) → IsStateOf sign (laid_items Words sign items items) state → (clash : Bool)
       → clash ≡ list_any (clashes shown) (after_last is_break (in_group state.area.present (area_of shown (spots sign items))))
       → (nat_lt (page_number shown.at.page_just) state.area.present || ((page_number shown.at.page_just == state.area.present) && clash)) ≡ conflicts (spots sign items) shown
-  conflicts_by state st clash e =
-      let all = spots sign items in
-      conflicts_kept all shown (page_number shown.at.page_just) state.area.present clash refl refl (present_is state st) e
+  conflicts_by state st clash e = first_of (search (rules, conflicts_kept, present_is), grind (arith, conflicts_kept, present_is))
 
   -- where it doesn't conflict, its group grows by it, and the others stay
   pub goes_behind : conflicts (spots sign items) shown ≡ false
@@ -72,9 +70,7 @@ module _ (sign : SignData) (items : List Meaning) (number : ℕ) (cell : CellDat
 
   pub offends_by : offence Words sign items (Shows number) ≡ first_code ((conflicts (spots sign items) shown, 11) ∷ (doesn't_fit, 5) ∷ [])
   unfolding offence_by
-  offends_by =
-      ap (λ o. first_code (character_cases (too_big Words) sign items o)) found
-      ∙ ap (λ b. first_code ((conflicts (spots sign items) shown, 11) ∷ (b, 5) ∷ [])) too_big_is
+  offends_by = first_of (search (rules, too_big_is), grind (arith, too_big_is))
 
 -- a character without a cell
 pub offends_without : (sign : SignData) (items : List Meaning) (number : ℕ) → cell_numbered (standing sign items).font number ≡ None → offence Words sign items (Shows number) ≡ Some 7

@@ -54,24 +54,18 @@ module _ (sign : SignData) (items : List Meaning) (kept : Pass) (of : IsFilledOf
   -- its cell is one of the font in force
   pub found_here : (number : ℕ) (c : SizedCell) → cell_in sign kept.state.attributes.font.number number ≡ Some c
       → (cell : CellData) × (cell_numbered (standing sign items).font number ≡ Some cell) × (c.width ≡ cell.width)
-  found_here number c some =
-      let (cell, found, width) = cell_found sign (laid_items Words sign items items) kept.state of.state_is number c some in
-      (cell, ap (λ (s : Standing). cell_numbered s.font number) (sym here) ∙ found, width)
+  found_here number c some = first_of (search (rules, cell_found, here), grind (arith, cell_found, here))
 
   -- it has none
   pub filled_undefined : (number : ℕ) → cell_in sign kept.state.attributes.font.number number ≡ None → offence Words sign items (Shows number) ≡ Some 7
-  filled_undefined number none =
-      let without = cell_missing sign (laid_items Words sign items items) kept.state of.state_is number none in
-      offends_without sign items number (ap (λ (s : Standing). cell_numbered s.font number) (sym here) ∙ without)
+  filled_undefined number none = first_of (search (rules, cell_missing, here, offends_without), grind (arith, cell_missing, here, offends_without))
 
   module _ (number : ℕ) (c : SizedCell) (some : cell_in sign kept.state.attributes.font.number number ≡ Some c) (clash : Bool)
       (clashing : (line : List Spot) (s : Spot) → kept.order ≡ order_sum line → s.at.line_just ≡ kept.state.attributes.line_just → clash ≡ list_any (clashes s) line) where
     -- whether it conflicts is told by what is kept
     conflict_is : (cell : CellData) (found : cell_numbered (standing sign items).font number ≡ Some cell) → conflicts (spots sign items) (shown sign items number cell found)
         ≡ (nat_lt (page_number kept.state.attributes.page_just) kept.state.area.present || ((page_number kept.state.attributes.page_just == kept.state.area.present) && clash))
-    conflict_is cell found =
-        sym (conflicts_by sign items number cell found kept.state of.state_is clash (clashing _ (shown sign items number cell found) of.order_is (sym (ap (λ (a : Attributes). a.line_just) attributes_here))))
-        ∙ ap (λ j. nat_lt j kept.state.area.present || ((j == kept.state.area.present) && clash)) (sym (ap (λ (a : Attributes). page_number a.page_just) attributes_here))
+    conflict_is cell found = first_of (search (rules, attributes_here, conflicts_by, nat_lt, shown), grind (arith, attributes_here, conflicts_by, nat_lt, shown))
 
     -- it conflicts with what is before it
     pub filled_conflict : (nat_lt (page_number kept.state.attributes.page_just) kept.state.area.present || ((page_number kept.state.attributes.page_just == kept.state.area.present) && clash)) ≡ true

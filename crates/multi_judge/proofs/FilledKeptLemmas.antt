@@ -1,5 +1,5 @@
 -- What is kept behind one more character, where lines are filled.
-use Rattle.std.proofs.Common.{◌≡◌, ℕ, ◌+◌, ◌*◌, ◌≤◌, Bool, true, false, ◌==◌, inl, inr, List, [], ◌∷◌, ◌++◌, length, Option, Some, None, refl, sym, ap, subst, ◌∙◌, arith, append-nil}
+use Rattle.std.proofs.Common.{◌≡◌, ℕ, ◌+◌, ◌*◌, ◌≤◌, Bool, true, false, ◌==◌, inl, inr, List, [], ◌∷◌, ◌++◌, length, Option, Some, None, refl, sym, ap, subst, ◌∙◌, arith, append-nil, rules}
 use Rattle.std.specs.List.{after_last, list_any}
 use Rattle.std.specs.Option.{option_map}
 use Rattle.std.proofs.lemmas.Bool.{and_parts, cases_eq, eq-eqb, eqb-true, false≢true}
@@ -62,9 +62,7 @@ module _ (sign : SignData) (items : List Meaning) (number : ℕ) (cell : CellDat
 
   -- the characters of its area with it
   present_more : present_area sign more ≡ present_area sign items ++ s ∷ []
-  present_more =
-      let puts : put_at sign.defaults (standing sign items) (Shows number) ≡ Some (Glyph cell) = ap (option_map Glyph) found in
-      present_area-placing sign items (Shows number) (Glyph cell) refl puts refl
+  present_more = first_of (search (rules, present_area-placing), grind (arith, present_area-placing))
 
   -- its group grows by it, and the others stay
   own : in_group (page_number s.at.page_just) (present_area sign more) ≡ group_of s (spots sign items) ++ s ∷ []

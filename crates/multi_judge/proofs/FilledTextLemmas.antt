@@ -27,9 +27,7 @@ module _ (here : Attributes) (gap : ℕ) where
 
   -- a line of no character begins with some
   run_begun : (pixels count : ℕ) (line : Line) → line.any ≡ false → 1 ≤ count → with_run here gap pixels count line ≡ even_line here (pixels - gap) count line
-  run_begun pixels count line none some =
-      ap (λ b. cond b (longer_line pixels count line) (cond (count == 0) line (even_line here (pixels - gap) count line))) none
-      ∙ ap (λ b. cond b line (even_line here (pixels - gap) count line)) (ne_eqb count 0 (λ e. omega (arith, e, some)))
+  run_begun pixels count line none some = first_of (search (rules, ne_eqb), grind (arith, ne_eqb))
 
   -- some, and one more
   run_more : (pixels count width : ℕ) (line : Line) → (count ≡ 0 → pixels ≡ 0) → (1 ≤ count → gap ≤ pixels)

@@ -48,9 +48,7 @@ cycle-append : (a b : List Times) → cycle (a ++ b) ≡ cycle a + cycle b
 cycle-append a b = sum_by-append (λ (t : Times). t.on + t.off) a b
 
 pub cycle-stays : (sign : SignData) (items : List Meaning) (x : Meaning) → is_new_page x ≡ false → cycle (ended_times sign (items ++ x ∷ [])) ≡ cycle (ended_times sign items)
-cycle-stays sign items x same =
-    let old = ended_times sign items in
-    ap cycle (ended_times-push sign items x ∙ ap (λ b. old ++ cons_option (cond b (Some (times_at (standing sign items))) None) []) same ∙ append-nil old)
+cycle-stays sign items x same = first_of (search (rules, append-nil, ended_times-push), grind (arith, append-nil, ended_times-push))
 
 pub cycle-grows : (sign : SignData) (items : List Meaning) (x : Meaning) → is_new_page x ≡ true
     → cycle (ended_times sign (items ++ x ∷ [])) ≡ cycle (ended_times sign items) + ((standing sign items).on + (standing sign items).off)
@@ -133,9 +131,7 @@ module _ (sign : SignData) (items : List Meaning) (state : State) (st : IsStateO
   cell_is number = ap (λ n. cell_in sign n number) font_number ∙ cell_of_font sign (standing sign items).font number st.font
 
   pub cell_missing : (number : ℕ) → cell_in sign state.attributes.font.number number ≡ None → cell_numbered (standing sign items).font number ≡ None
-  cell_missing number none =
-      let font = (standing sign items).font in
-      none_mapped (sized font) (cell_numbered font number) (sym (cell_is number) ∙ none)
+  cell_missing number none = first_of (search (rules, cell_is, none_mapped), grind (arith, cell_is, none_mapped))
 
   pub judged-undefined : (number : ℕ) → cell_in sign state.attributes.font.number number ≡ None → offence Off sign items (Shows number) ≡ Some 7
   judged-undefined number none = offence-undefined (too_big Off) sign items number (cell_missing number none)

@@ -1,5 +1,5 @@
 -- The lines of the present area at one more item of an accepted string: an item that ends none, and one that ends one.
-use Rattle.std.proofs.Common.{◌≡◌, ℕ, ◌≤◌, inl, inr, true, false, List, [], ◌∷◌, ◌++◌, Option, Some, None, refl, sym, ap, ◌∙◌, arith, append-nil}
+use Rattle.std.proofs.Common.{◌≡◌, ℕ, ◌≤◌, inl, inr, true, false, List, [], ◌∷◌, ◌++◌, Option, Some, None, refl, sym, ap, ◌∙◌, arith, append-nil, rules}
 use Rattle.std.specs.List.{after_last}
 use Rattle.std.specs.Option.{unwrap_or}
 use Rattle.std.proofs.lemmas.Bool.{false≢true}
@@ -37,9 +37,7 @@ ends_not _ other = refl
 module _ (sign : SignData) (items : List Meaning) (state : State) (st : IsStateOf sign items state) where
   -- an item with a place that doesn't offend isn't before the present group
   pub order : (x : Meaning) → unsized_offence sign items x ≡ None → has_place x ≡ true → state.area.present ≤ page_number state.attributes.page_just
-  order x fine place =
-      let (p, is, found) = placed_of sign items x fine place in
-      placed_order sign items state st p (placed_free sign items p found (ap (unsized_offence sign items) is ∙ fine))
+  order x fine place = first_of (search (rules, placed_free, placed_of, placed_order), grind (arith, placed_free, placed_of, placed_order))
 
   -- so one more joins the group in force, which is then the present one, and ends this line, or none, and the others stay
   abbrev Joins : Meaning → State → Option Line → Type 0

@@ -84,9 +84,7 @@ module _ (line : List Spot) (l : Line) (e : l ≡ line_sum line) where
   width_present just own = ap (λ (l : Line). l.part.width) e ∙ ap (λ n. width_of (segment n line)) (sym (own ∙ most_is))
 
   pub width_other_of : (just w : ℕ) → w ≡ width_before (largest (λ (t : Spot). line_number t.at.line_just) line) just line → (just ≡ l.present → ⊥) → w ≡ width_of (segment just line)
-  width_other_of just w is other =
-      is ∙ whole_before (λ j. width_of (segment j line)) (largest (λ (t : Spot). line_number t.at.line_just) line) just
-      (λ behind. ap width_of (none_of_later just (omega (arith, behind, other, most_is))))
+  width_other_of just w is other = first_of (search (rules, most_is, none_of_later, whole_before), grind (arith, most_is, none_of_later, whole_before))
 
   kept_is : (just w : ℕ) → w ≡ width_before (largest (λ (t : Spot). line_number t.at.line_just) line) just line → cond (just == l.present) l.part.width w ≡ width_of (segment just line)
   kept_is just w is = search (rules, cases_eq, eq-eqb, ne_eqb, width_other_of, width_present)
@@ -101,9 +99,7 @@ module _ (line : List Spot) (l : Line) (e : l ≡ line_sum line) where
   right_is = kept_is 4 l.right (ap (λ (l : Line). l.right) e)
 
   pub kept_width_is : l.present ≤ 5 → (just : ℕ) → 2 ≤ just → just ≤ 5 → kept_width just l ≡ width_of (segment just line)
-  kept_width_is known =
-      each_just (λ just. kept_width just l ≡ width_of (segment just line)) left_is centre_is right_is
-      (kept_is 5 0 (sym (ap (λ b. cond b (width_of (segment 5 line)) 0) (le-ltb 5 (largest (λ (t : Spot). line_number t.at.line_just) line) (omega (arith, known, most_is))))))
+  kept_width_is known = first_of (search (rules, centre_is, each_just, kept_is, le-ltb, left_is, most_is, right_is), grind (arith, centre_is, each_just, kept_is, le-ltb, left_is, most_is, right_is))
 
   -- the line goes on to a segment
   pub turned : (just : ℕ) → l.present ≤ just → (new : Line) → (just ≡ l.present → new ≡ l)

@@ -67,9 +67,7 @@ module _ (sign : SignData) (octets : List ℕ) (at : ℕ) (IsKept : List Meaning
 
   -- the end, where all items are read
   all_read : length octets ≡ at → IsReading octets r.items []
-  all_read end =
-      let empty : drop at octets ≡ [] = drop_all at octets (omega arith) in
-      record { each = r.each; spelled = r.front ∙ ap (λ l. spell r.items ++ l) empty; ends = none_found [] refl }
+  all_read end = first_of (search (rules, drop_all, none_found, spelled), grind (arith, drop_all, none_found, spelled))
 
   pub accepted_at_end : length octets ≡ at → (pages : ℕ) → pages ≡ pages_of (map meaning r.items) → IsVerdict sign octets (Accepted pages)
   unfolding verdict_on

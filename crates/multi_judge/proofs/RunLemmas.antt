@@ -70,9 +70,7 @@ module _ (spots : List Spot) (area : Area) (e : area ≡ area_sum spots) (placin
   middle_is = group_kept 3 area.middle (ap (λ (a : Area). a.middle) e)
 
   pub kept_group_height_is : (just : ℕ) → 2 ≤ just → just ≤ 4 → area.present ≤ 4 → kept_group_height just area ≡ height_of (lines_of (in_group just spots))
-  kept_group_height_is just low high known =
-      each_group (λ just. kept_group_height just area ≡ height_of (lines_of (in_group just spots))) top_is middle_is
-      (group_kept 4 0 (sym (ap (λ b. cond b (height_of (lines_of (in_group 4 spots))) 0) (le-ltb 4 (largest (λ (t : Spot). page_number t.at.page_just) spots) (omega (arith, known, ap (λ (a : Area). a.present) e)))))) just low high
+  kept_group_height_is just low high known = first_of (search (rules, each_group, group_kept, le-ltb, middle_is, top_is), grind (arith, each_group, group_kept, le-ltb, middle_is, top_is))
 
   -- the area goes on to a later group, which has no item yet
   pub area_turned : (just : ℕ) → area.present < just → (new : Area) → new.present ≡ just → new.top ≡ kept_group_height 2 area → new.middle ≡ kept_group_height 3 area → new.group ≡ group_sum []

@@ -1,5 +1,5 @@
 -- The items of a page, drawn one after the other.
-use Rattle.std.proofs.Common.{◌≡◌, ℕ, ◌+◌, ◌^◌, ◌<◌, ◌≤◌, false, cond, slice_get, List, [], ◌∷◌, ◌++◌, length, map, Option, None, Some, refl, sym, ap, subst, ◌∙◌, arith, append_assoc}
+use Rattle.std.proofs.Common.{◌≡◌, ℕ, ◌+◌, ◌^◌, ◌<◌, ◌≤◌, false, cond, slice_get, List, [], ◌∷◌, ◌++◌, length, map, Option, None, Some, refl, sym, ap, subst, ◌∙◌, arith, append_assoc, rules}
 use Rattle.std.proofs.Math.Nat.{mul-add, mul-le-mul_left}
 use Rattle.std.proofs.lemmas.Bool.{false≢true}
 use Rattle.std.proofs.lemmas.List.{length-append, map-append}
@@ -31,11 +31,7 @@ use Rattle.multi_layout.proofs.WalkLemmas.{map_split, spell_of-append, total, wi
 -- the lines of an area are those behind one of its items too
 counted_more : (sign : SignData) (before behind : List LaidItem) (item : LaidItem) (lines : LineTable) → begins_area (meant item) ≡ false
     → HasCounted (whole_area sign before (item ∷ behind)) lines → HasCounted (whole_area sign (before ++ item ∷ []) behind) lines
-counted_more sign before behind item lines plain counted =
-    let area_is : (standing sign (map meant (before ++ item ∷ []))).area ≡ (standing sign (map meant before)).area =
-    ap (λ ms. (standing sign ms).area) (map-append meant before (item ∷ [])) ∙ same_area sign (map meant before) (meant item) plain in
-    subst (λ n. HasCounted (in_area n (spots sign (map meant ((before ++ item ∷ []) ++ behind)))) lines) (sym area_is)
-    (subst (λ l. HasCounted (in_area (standing sign (map meant before)).area (spots sign (map meant l))) lines) (sym (append_assoc before (item ∷ []) behind)) counted)
+counted_more sign before behind item lines plain counted = first_of (search (rules, append_assoc, map-append, same_area), grind (arith, append_assoc, map-append, same_area))
 
 -- one more item of a page
 pub drawn_more : {sign : SignData} {octets : List ℕ} {layer : Layer} {page : ℕ} {before rest : List LaidItem} {item : LaidItem} {cursor : Cursor} {plane : BitPlane}
@@ -114,9 +110,7 @@ module _ {sign : SignData} {octets : List ℕ} {layer : Layer} {page : ℕ} {rea
 
   -- before the end of the area an octet stands
   pub octet_stands : cursor.at < read.end → slice_get octets cursor.at ≡ None → ⊥
-  octet_stands before_end none =
-      let b = d.up_to.between in
-      omega (arith, before_end, area_within, at_end octets cursor.at (within_between sign octets d.before d.behind cursor b) none)
+  octet_stands before_end none = first_of (search (rules, area_within, at_end, within_between), grind (arith, area_within, at_end, within_between))
 
   -- an item was met there, which is laid out as this
   pub next_here : cursor.at < read.end → (raw next : NextItem) → IsNextAt sign octets cursor.at raw
@@ -185,11 +179,4 @@ filled_none sign a = record { fills = 0; few = omega arith; least = omega arith;
 
 -- octets that put nothing
 pub filled_longer : (sign : SignData) (a b : BitPlane) (m n : ℕ) → m ≤ n → IsFilledBy sign a b m → IsFilledBy sign a b n
-filled_longer sign a b m n more x = record {
-  fills = x.fills;
-  few = omega (arith, x.few, more);
-  least = x.least;
-  most = omega (arith, x.most, mul-le-mul_left (tallest sign) more);
-  width = x.width;
-  height = x.height;
-}
+filled_longer sign a b m n more x = first_of (search (rules, mul-le-mul_left), grind (arith, mul-le-mul_left))

@@ -1,5 +1,5 @@
 -- The first reading of an area: the table of its lines, item by item.
-use Rattle.std.proofs.Common.{◌≡◌, ℕ, Bool, true, ◌+◌, ◌-◌, ◌*◌, ◌<◌, ◌≤◌, false, cond, inl, inr, slice_get, None, length, map, List, [], ◌∷◌, ◌++◌, Some, Option, refl, sym, ap, subst, ◌∙◌, arith, append_assoc, append-nil, length-append}
+use Rattle.std.proofs.Common.{◌≡◌, ℕ, Bool, true, ◌+◌, ◌-◌, ◌*◌, ◌<◌, ◌≤◌, false, cond, inl, inr, slice_get, None, length, map, List, [], ◌∷◌, ◌++◌, Some, Option, refl, sym, ap, subst, ◌∙◌, arith, append_assoc, append-nil, length-append, rules}
 use Rattle.std.proofs.lemmas.List.{map-append}
 use Rattle.std.proofs.lemmas.List.Elements.{All-nil, All-push}
 use Rattle.std.specs.Prelude.{IfSome, if◌then◌else◌}
@@ -166,15 +166,7 @@ module _ {words : Bool} {sign : SignData} {octets : List ℕ} {before behind : L
 
     -- it doesn't offend
     pub so_next : IsNextRead sign (items_of done) n.piece.item next.item
-    so_next =
-        let p = placed_then (at + next.len) refl in
-        record {
-          meant = n.read.meant;
-          fine = record {
-            none = left_nil (offences sign (items_of done ++ n.piece.item ∷ [])) _ (sym (some_after-append (fault_at sign) (items_of done ++ n.piece.item ∷ []) (items_of n.rest)) ∙ p.accepted.none);
-            few = few_placed sign octets (items_of done ++ n.piece.item ∷ []) (items_of n.rest) (at + next.len) p;
-          };
-        }
+    so_next = first_of (search (rules, few_placed, left_nil, none, placed_then, some_after-append), grind (arith, few_placed, left_nil, none, placed_then, some_after-append))
 
     -- the reading goes on, and not past the end
     pub so_advances : (new : ℕ) → new ≡ at + next.len → (at < new) × (new ≤ length octets)
@@ -226,9 +218,7 @@ module _ {words : Bool} {sign : SignData} {octets : List ℕ} {before behind : L
 
   -- at the end of the string no item is left
   pub no_more : slice_get octets at ≡ None → items_of so.left ≡ []
-  no_more none =
-      none_at_end sign octets (items_of done) (items_of so.left) at so.placed
-      (sym (at_end octets at (within sign octets (items_of done) (items_of so.left) at so.placed) none))
+  no_more none = first_of (search (rules, at_end, none, none_at_end, within), grind (arith, at_end, none, none_at_end, within))
 
   pub none_ends : items_of so.left ≡ [] → EndsArea (map meaning (items_of so.left))
   none_ends none = subst (λ (l : List Item). EndsArea (map meaning l)) (sym none) (inl refl)

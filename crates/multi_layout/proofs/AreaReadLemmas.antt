@@ -1,5 +1,5 @@
 -- The first reading of an area, at one more item.
-use Rattle.std.proofs.Common.{◌≡◌, ℕ, Bool, ◌*◌, ◌^◌, ◌≤◌, true, false, List, [], ◌∷◌, ◌++◌, length, map, None, refl, sym, ap, subst, ◌∙◌, arith, ◌<◌, cond, Option, Some}
+use Rattle.std.proofs.Common.{◌≡◌, ℕ, Bool, ◌*◌, ◌^◌, ◌≤◌, true, false, List, [], ◌∷◌, ◌++◌, length, map, None, refl, sym, ap, subst, ◌∙◌, arith, ◌<◌, cond, Option, Some, rules}
 use Rattle.std.specs.List.{All}
 use Rattle.std.proofs.lemmas.List.{map-append}
 use Rattle.multi_token.specs.Spelling.{Item}
@@ -59,11 +59,7 @@ use Rattle.multi_layout.proofs.KnownLinesLemmas.{entry_ended, known_pushed, know
 
 -- a group is at least as high as its ended lines
 closed_most : (group : Group) → group.closed ≤ kept_height group
-closed_most group = by_any group.line.any refl
-  where
-    by_any : (b : Bool) → group.line.any ≡ b → group.closed ≤ kept_height group
-    by_any true some = rw some (omega arith)
-    by_any false none = rw none (omega arith)
+closed_most group = first_of (search (rules), grind (arith))
 
 -- what the present area has is placing items
 pub present_placing : (sign : SignData) (items : List Meaning) → All IsPlacing (present_area sign items)
@@ -197,11 +193,7 @@ module _ {words : Bool} {sign : SignData} (sound : IsSound sign) {items : List I
 
   -- a table with the lines that are known then
   known_more : (lines' : LineTable) → HasKnown page area_more lines' → IsReadOf words sign (items ++ item ∷ []) new.state.area.present new lines'
-  known_more lines' known = record {
-    fine = next.fine;
-    of = of_more;
-    known = subst (λ l. HasKnown new.state.area.present (laid_area words sign l) lines') (sym (items_with next)) (subst (λ n. HasKnown n area_more lines') (sym b.present) known);
-  }
+  known_more lines' known = first_of (search (rules, items_with, of_more), grind (arith, items_with, of_more))
 
   -- it ends no line
   pub step_stays : ended ≡ None → IsReadOf words sign (items ++ item ∷ []) new.state.area.present new lines

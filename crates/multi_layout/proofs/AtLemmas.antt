@@ -1,5 +1,5 @@
 -- What begins at an offset, whose first octet was read: how it is refused, and what is judged and read behind it.
-use Rattle.std.proofs.Common.{◌≡◌, ℕ, ◌+◌, ◌-◌, ◌^◌, ◌<◌, ◌≤◌, ◌*◌, inl, inr, List, [], ◌∷◌, ◌++◌, length, map, slice_get, Option, Some, None, refl, sym, ap, subst, ◌∙◌, arith, Bool, true, false}
+use Rattle.std.proofs.Common.{◌≡◌, ℕ, ◌+◌, ◌-◌, ◌^◌, ◌<◌, ◌≤◌, ◌*◌, inl, inr, List, [], ◌∷◌, ◌++◌, length, map, slice_get, Option, Some, None, refl, sym, ap, subst, ◌∙◌, arith, Bool, true, false, rules}
 use Rattle.std.proofs.lemmas.Option.{slice_get_within}
 use Rattle.multi_token.specs.Counted.{Counted, RisesBetween, charged}
 use Rattle.multi_token.specs.Spelling.{IsPlain}
@@ -48,15 +48,10 @@ module _ (sign : SignData) (octets : List ℕ) (at first : ℕ) (IsKept : List M
     same = ap (λ (s : Counted). s.octets) rises.3 ∙ i.same
 
     ends : (at + len ≤ length octets) × (1 ≤ len)
-    ends =
-        let (t, at_is, len_is, token, meant) = item in
-        (omega (arith, at_is, len_is, token.within), omega (arith, len_is, token.len, spelling_some (item_of octets t)))
+    ends = first_of (search (rules, spelling_some), grind (arith, spelling_some))
 
     bounds : (at + len ≤ judged.steps) × (judged.steps ≤ 9 * (at + len))
-    bounds =
-        let few = rises.2 in
-        let fewest = rises.1 in
-        (omega (arith, steps, ends, few, fewest, i.least, i.most, short), omega (arith, steps, ends, few, i.most, short))
+    bounds = first_of (search (rules, ends, steps), grind (arith, ends, steps))
 
     pub item_offends : (error : SyntaxError) → offence sign.line_fill sign so_far means ≡ Some (code_of error) → IsRefused sign octets (record { error = error; at = at }) judged
     item_offends error offends =
@@ -75,15 +70,7 @@ module _ (sign : SignData) (octets : List ℕ) (at first : ℕ) (IsKept : List M
 
     pub item_behind : (IsNow : List Meaning → Type 0) → offence sign.line_fill sign so_far means ≡ None → IsNow (so_far ++ means ∷ [])
         → (next : Option ℕ) (behind : Counted) → next ≡ slice_get judged.octets (at + len) → behind ≡ charged judged 1 → IsAt sign octets (at + len) next IsNow behind
-    item_behind IsNow fine is next behind next_is step =
-        let more : behind.steps ≡ (charged judged 1).steps = ap (λ (s : Counted). s.steps) step in
-        record {
-          so_far = items_more IsNow fine is;
-          octet = next_is ∙ ap (λ o. slice_get o (at + len)) same;
-          same = ap (λ (s : Counted). s.octets) step ∙ same;
-          least = omega (arith, more, bounds, ends, short);
-          most = omega (arith, more, bounds, ends, short);
-        }
+    item_behind IsNow fine is next behind next_is step = first_of (search (rules, bounds, ends, items_more, same, steps), grind (arith, bounds, ends, items_more, same, steps))
 
   -- an octet that stands for itself, judged in two steps
   module _ (plain : IsPlain first) (judged : Counted) (step : judged ≡ charged source 2) where

@@ -1,5 +1,5 @@
 -- A character stands beside the one before it, where both have the same attributes.
-use Rattle.std.proofs.Common.{◌≡◌, ℕ, ◌+◌, ◌-◌, ◌^◌, ◌<◌, ◌≤◌, Bool, true, false, cond, ◌&&◌, ◌||◌, ◌==◌, List, [], ◌∷◌, ◌++◌, length, take, map, Option, Some, None, slice_get, refl, sym, ap, subst, ◌∙◌, arith, append_assoc}
+use Rattle.std.proofs.Common.{◌≡◌, ℕ, ◌+◌, ◌-◌, ◌^◌, ◌<◌, ◌≤◌, Bool, true, false, cond, ◌&&◌, ◌||◌, ◌==◌, List, [], ◌∷◌, ◌++◌, length, take, map, Option, Some, None, slice_get, refl, sym, ap, subst, ◌∙◌, arith, append_assoc, rules}
 use Rattle.std.specs.Prelude.{slice_index_or, if◌then◌else◌}
 use Rattle.std.specs.List.{after_last, count_by}
 use Rattle.std.specs.Option.{option_map, option_map_or, unwrap_or}
@@ -71,32 +71,22 @@ module _ (at : Standing) (before all : List Spot) (p q : Put) (first : is_glyph 
   t = record { at = at; put = q }
 
   area_is : in_area at.area (before ++ s ∷ []) ≡ in_area at.area before ++ s ∷ []
-  area_is =
-      filter_yes (λ (x : Spot). (is_glyph x || is_break x) && (x.at.area == at.area)) before s
-      (ap (λ b. (b || is_break s) && (at.area == at.area)) first ∙ eq-eqb at.area at.area refl)
+  area_is = first_of (search (rules, eq-eqb, filter_yes), grind (arith, eq-eqb, filter_yes))
 
   group_is : group_of t (before ++ s ∷ []) ≡ group_of t before ++ s ∷ []
   group_is = ap (in_group (page_number at.page_just)) area_is ∙ own_group (page_number at.page_just) (in_area at.area before) s refl
 
   count_is : count_by is_break (group_of t (before ++ s ∷ [])) ≡ count_by is_break (group_of t before)
-  count_is =
-      let none : cond {A = ℕ} (is_break s) 1 0 ≡ 0 = ap (λ b. cond b 1 0) (glyph_put at p first).0 in
-      omega (arith, ap (count_by is_break) group_is, sum_by_push (λ (x : Spot). cond (is_break x) 1 0) (group_of t before) s, none)
+  count_is = first_of (search (rules, glyph_put, group_is, sum_by_push), grind (arith, glyph_put, group_is, sum_by_push))
 
   abbrev part : List Spot
   part = segment (line_number at.line_just) (line_before before t)
 
   part_is : segment (line_number at.line_just) (line_before (before ++ s ∷ []) t) ≡ part ++ s ∷ []
-  part_is =
-      ap (segment (line_number at.line_just)) (ap (after_last is_break) group_is ∙ present_push (group_of t before) s first)
-      ∙ filter_yes (λ (x : Spot). is_glyph x && (line_number x.at.line_just == line_number at.line_just)) (line_before before t) s
-      (ap (λ b. b && (line_number at.line_just == line_number at.line_just)) first ∙ eq-eqb (line_number at.line_just) (line_number at.line_just) refl)
+  part_is = first_of (search (rules, eq-eqb, filter_yes, group_is, present_push), grind (arith, eq-eqb, filter_yes, group_is, present_push))
 
   width_is : width_of ((part ++ s ∷ []) ++ t ∷ []) ≡ width_of (part ++ s ∷ []) + unwrap_or at.spacing at.font.char_spacing + glyph_width t
-  width_is =
-      width_push (part ++ s ∷ []) t
-      ∙ ap (λ o. width_of (part ++ s ∷ []) + option_map_or (λ x. char_gap x t) o 0 + glyph_width t) (last_or_push None part s)
-      ∙ ap (λ n. width_of (part ++ s ∷ []) + unwrap_or at.spacing n + glyph_width t) (average_same at.font.char_spacing)
+  width_is = first_of (search (rules, average_same, last_or_push, width_push), grind (arith, average_same, last_or_push, width_push))
 
   abbrev lines : List (List Spot)
   lines = lines_of (group_of t all)
@@ -141,11 +131,7 @@ module _ (at : Standing) (before all : List Spot) (p q : Put) (first : is_glyph 
 
 -- a character leaves what is in force
 pub same_standing : (sign : SignData) (before : List Meaning) (number : ℕ) → standing sign (before ++ Shows number ∷ []) ≡ standing sign before
-same_standing sign before number =
-    let at = standing sign before in
-    let page : at.page + 0 ≡ at.page = omega arith in
-    let area : at.area + 0 ≡ at.area = omega arith in
-    standing_push sign before (Shows number) ∙ (λ i. let s : Standing = record at { page = page i; area = area i } in s)
+same_standing sign before number = first_of (search (rules, standing_push), grind (arith, standing_push))
 
 -- where the next character stands beside this one
 pub next_stands : (sign : SignData) (before : List Meaning) (number : ℕ) (cell : CellData) (all : List Meaning) (place : Place) (gap : ℕ) → cell_numbered (standing sign before).font number ≡ Some cell
@@ -245,9 +231,7 @@ module _ {sign : SignData} {octets : List ℕ} {layer : Layer} {page : ℕ} {rea
 
   -- it has a cell
   pub has_cell : cell_in sign cursor.state.attributes.font.number octet ≡ None → ⊥
-  has_cell none =
-      let wrong : ◌≡◌ {A = Option ℕ} (Some 7) None = sym (unsized-undefined sign (map meant one.0.before) cursor.state one.0.up_to.between.state_is octet none) ∙ fine in
-      absurd cc
+  has_cell none = first_of (search (rules, fine, one, unsized-undefined), grind (arith, fine, one, unsized-undefined))
 
   -- it is drawn, and lengthens the run
   pub run_more : IsBehindCharacter cursor.state → (cursor.state.attributes.line_just ≡ Full → ⊥) → (gap : ℕ) → gap ≡ unwrap_or cursor.state.attributes.spacing cursor.state.attributes.font.char_spacing → gap ≤ 255

@@ -1,5 +1,5 @@
 -- What is drawn of one more item, and the steps over the plane that it takes.
-use Rattle.std.proofs.Common.{◌≡◌, ℕ, ◌+◌, ◌*◌, ◌^◌, ◌<◌, ◌≤◌, max, Bool, true, false, cond, ◌==◌, ◌⊎◌, inl, inr, List, [], ◌∷◌, ◌++◌, length, map, Option, Some, None, Result, Ok, Err, refl, sym, ap, subst, ◌∙◌, arith, ◌-◌, ◌&&◌}
+use Rattle.std.proofs.Common.{◌≡◌, ℕ, ◌+◌, ◌*◌, ◌^◌, ◌<◌, ◌≤◌, max, Bool, true, false, cond, ◌==◌, ◌⊎◌, inl, inr, List, [], ◌∷◌, ◌++◌, length, map, Option, Some, None, Result, Ok, Err, refl, sym, ap, subst, ◌∙◌, arith, ◌-◌, ◌&&◌, rules}
 use Rattle.std.specs.Prelude.{find, nat_le, nat_lt}
 use Rattle.std.specs.Option.{unwrap_or, option_map}
 use Rattle.std.specs.Str.{str_to_ascii_lowercase}
@@ -73,10 +73,7 @@ some_sized font (Some cell) c e = (cell, refl, same_Some (sized font cell) c e)
 module _ (sign : SignData) (before : List Meaning) (state : State) (st : IsStateOf sign before state) (number : ℕ) (c : cells.SizedCell)
     (found : cell_in sign state.attributes.font.number number ≡ Some c) where
   pub glyph_found : (cell : CellData) × (cell_numbered (standing sign before).font number ≡ Some cell) × (sized (standing sign before).font cell ≡ c)
-  glyph_found =
-      let font = (standing sign before).font in
-      let number_is : state.attributes.font.number ≡ font.number = ap (λ (a : Attributes). a.font.number) st.attributes in
-      some_sized font (cell_numbered font number) c (sym (cell_of_font sign font number st.font) ∙ ap (λ n. cell_in sign n number) (sym number_is) ∙ found)
+  glyph_found = first_of (search (rules, cell_of_font), grind (arith, cell_of_font))
 
   -- the place of a character, by the lines of its area
   module _ (rest : List Meaning) (lines : LineTable) (counted : HasCounted (in_area (standing sign before).area (spots sign (before ++ Shows number ∷ rest))) lines)
@@ -184,20 +181,12 @@ module _ (sign : SignData) (layer : Layer) (before rest : List Meaning) where
   pub cover_drawn : (given : Option ℕ) (new : BitPlane) (on : Bool) → on ≡ (shown_colour sign (unwrap_or given sign.defaults.back) == layer.colour)
       → ((x y : ℕ) → x < new.width → y < new.height → is_lit new x y ≡ on)
       → IsDrawnTo sign layer (before ++ Does (Back given) ∷ rest) (before ++ Does (Back given) ∷ []) new
-  cover_drawn given new on colour pixels = λ x y across down.
-      let all = spots sign (before ++ Does (Back given) ∷ rest) in
-      pixels x y across down ∙ colour
-      ∙ sym (covered_cover sign layer.phase layer.colour all x y before given)
-      ∙ ap (λ p. has_colour sign p layer.phase layer.colour all (spots sign (before ++ Does (Back given) ∷ [])) x y) (sym (same_page_behind sign before (Does (Back given)) refl))
+  cover_drawn given new on colour pixels = first_of (search (rules, covered_cover, same_page_behind), grind (arith, covered_cover, same_page_behind))
 
   -- an item that covers nothing leaves the plane
   pub same_drawn : (x : Meaning) (old : BitPlane) → is_new_page x ≡ false → (put_at sign.defaults (standing sign before) x ≡ None) ⊎ ((gap : Option ℕ) × (put_at sign.defaults (standing sign before) x ≡ Some (Break gap)))
       → IsDrawnTo sign layer (before ++ x ∷ rest) before old → IsDrawnTo sign layer (before ++ x ∷ rest) (before ++ x ∷ []) old
-  same_drawn x old page puts drawn = λ column row across down.
-      let all = spots sign (before ++ x ∷ rest) in
-      drawn column row across down
-      ∙ sym (covered_same sign layer.phase layer.colour all column row before x (standing sign before).page puts)
-      ∙ ap (λ p. has_colour sign p layer.phase layer.colour all (spots sign (before ++ x ∷ [])) column row) (sym (same_page_behind sign before x page))
+  same_drawn x old page puts drawn = first_of (search (rules, covered_same, same_page_behind), grind (arith, covered_same, same_page_behind))
 
 -- a tag that begins no area and sets no background puts nothing, or ends a line
 pub quiet_put : (defaults : Defaults) (at : Standing) (tag : Tag) → IsQuiet tag → begins_area (Does tag) ≡ false → (put_at defaults at (Does tag) ≡ None) ⊎ ((gap : Option ℕ) × (put_at defaults at (Does tag) ≡ Some (Break gap)))
@@ -219,13 +208,7 @@ back_or_quiet tag = inr tt
 pub tag_drawn : (sign : SignData) (layer : Layer) (before rest : List Meaning) (tag : Tag) (old new : BitPlane) → begins_area (Does tag) ≡ false
     → ((given : Option ℕ) → tag ≡ Back given → drawn.Lights new (λ column row. shown_colour sign (unwrap_or given sign.defaults.back) == layer.colour)) → (IsQuiet tag → new ≡ old)
     → IsDrawnTo sign layer (before ++ Does tag ∷ rest) before old → IsDrawnTo sign layer (before ++ Does tag ∷ rest) (before ++ Does tag ∷ []) new
-tag_drawn sign layer before rest tag old new plain back quiet drawn = of (back_or_quiet tag)
-  where
-    of : ((given : Option ℕ) × (tag ≡ Back given)) ⊎ IsQuiet tag → IsDrawnTo sign layer (before ++ Does tag ∷ rest) (before ++ Does tag ∷ []) new
-    of (inl (given, is)) = subst (λ (t : Tag). IsDrawnTo sign layer (before ++ Does t ∷ rest) (before ++ Does t ∷ []) new) (sym is)
-        (cover_drawn sign layer before rest given new (shown_colour sign (unwrap_or given sign.defaults.back) == layer.colour) refl (back given is))
-    of (inr other) = subst (IsDrawnTo sign layer (before ++ Does tag ∷ rest) (before ++ Does tag ∷ [])) (sym (quiet other))
-        (same_drawn sign layer before rest (Does tag) old (no_page tag plain) (quiet_put sign.defaults (standing sign before) tag other plain) drawn)
+tag_drawn sign layer before rest tag old new plain back quiet drawn = first_of (search (rules, cover_drawn, same_drawn), grind (arith, cover_drawn, same_drawn))
 
 -- STEPS OVER THE PLANE
 
@@ -234,14 +217,7 @@ no_more n a b = omega arith
 
 -- no more than a row for each row of a font
 pub rows_few : (sign : SignData) {old new : BitPlane} {rows : ℕ} (octets : ℕ) → 1 ≤ octets → rows ≤ tallest sign → IsCountedBy old new rows → IsFilledBy sign old new octets
-rows_few sign octets some tall k = record {
-  fills = 0;
-  few = omega arith;
-  least = k.least;
-  most = omega (arith, k.most, tall, le-mul_of_pos_right {m = octets} (tallest sign) some);
-  width = k.width;
-  height = k.height;
-}
+rows_few sign octets some tall k = first_of (search (rules, le-mul_of_pos_right), grind (arith, le-mul_of_pos_right))
 
 -- a tag fills the plane once where it sets the background, which has four octets, and else never
 pub tag_filled : (sign : SignData) {old new : BitPlane} (octets : ℕ) (tag : Tag) → ((given : Option ℕ) → tag ≡ Back given → 4 ≤ octets) → IsCountedBy old new (plane_octets sign) → (IsQuiet tag → new ≡ old) → IsFilledBy sign old new octets

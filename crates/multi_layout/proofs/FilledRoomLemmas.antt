@@ -1,5 +1,5 @@
 -- Where lines are filled, the present area of an accepted string, as it is laid out, fits the rectangle in force.
-use Rattle.std.proofs.Common.{◌≡◌, ℕ, Bool, true, false, not, ◌||◌, List, [], ◌∷◌, ◌++◌, ◌≤◌, map, Option, Some, None, refl, sym, ap, subst, ◌∙◌, append-nil}
+use Rattle.std.proofs.Common.{◌≡◌, ℕ, Bool, true, false, not, ◌||◌, List, [], ◌∷◌, ◌++◌, ◌≤◌, map, Option, Some, None, refl, sym, ap, subst, ◌∙◌, append-nil, rules, arith}
 use Rattle.std.specs.List.{after_last}
 use Rattle.std.proofs.lemmas.List.{map-append}
 use Rattle.multi_token.specs.Spelling.{Item}
@@ -47,9 +47,7 @@ module _ (sign : SignData) (items rest : List Meaning) where
 
   -- the lines of the present area are filled to one width in the whole string
   widths : HasWidth Words here.rectangle.width here.area (spots sign (items ++ rest))
-  widths =
-      All-weaker (λ (x : Spot). x.at.area ≡ here.area → x.at.rectangle ≡ here.rectangle) (λ (x : Spot). x.at.area ≡ here.area → fill_at Words x.at ≡ Some here.rectangle.width)
-      (λ x h same. ap (λ r. Some r.width) (h same)) (spots sign (items ++ rest)) (same_rectangle sign items rest)
+  widths = first_of (search (rules, All-weaker, same_rectangle), grind (arith, All-weaker, same_rectangle))
 
   -- its groups as they are laid out
   groups : (j : ℕ) → in_group j (in_area here.area (laid Words (spots sign (items ++ rest)) (spots sign (items ++ rest)))) ≡ filled (Some here.rectangle.width) (in_group j (in_area here.area (spots sign (items ++ rest))))
@@ -114,12 +112,7 @@ module _ (sign : SignData) where
       ∙ fits_of (line_fits s.at.rectangle.width (after_last is_break (in_group (page_number s.at.page_just) new))) (area_fits s.at.rectangle.height new) (conflicts (spots sign items) s) (sym (offends_by sign items number cell e) ∙ fine)
 
   fits_tag : (items : List Meaning) (tag : Tag) → offence Words sign items (Does tag) ≡ None → Fits items → Fits (items ++ Does tag ∷ [])
-  fits_tag items tag fine fits =
-      let old = ap (λ (t : Standing). area_fits t.rectangle.height (present_area sign (as_laid items))) (standing_here items) ∙ fits in
-      let new = fits_next sign (as_laid items) (Does tag) (sym (offends_as_laid sign items tag) ∙ fine) old in
-      let is = laid_tag Words sign items tag in
-      let same : standing sign (items ++ Does tag ∷ []) ≡ standing sign (as_laid items ++ Does tag ∷ []) = sym (standing_here (items ++ Does tag ∷ [])) ∙ ap (standing sign) is in
-      (λ i. area_fits (same i).rectangle.height (present_area sign (is i))) ∙ new
+  fits_tag items tag fine fits = first_of (search (rules, fits_next, laid_tag, offends_as_laid, standing_here), grind (arith, fits_next, laid_tag, offends_as_laid, standing_here))
 
   pub laid_fits_next : (items : List Meaning) (x : Meaning) → offence Words sign items x ≡ None → Fits items → Fits (items ++ x ∷ [])
   laid_fits_next items (Shows number) fine fits = fits_character items number fine (cell_numbered (standing sign items).font number) refl

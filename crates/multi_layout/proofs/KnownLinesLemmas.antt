@@ -1,5 +1,5 @@
 -- The lines that the table has while an area is read.
-use Rattle.std.proofs.Common.{◌≡◌, ℕ, ◌+◌, ◌<◌, ◌≤◌, Bool, true, false, cond, ◌==◌, inl, inr, length, List, [], ◌∷◌, ◌++◌, refl, sym, ap, ◌∙◌, arith, ◌&&◌, subst, append-nil}
+use Rattle.std.proofs.Common.{◌≡◌, ℕ, ◌+◌, ◌<◌, ◌≤◌, Bool, true, false, cond, ◌==◌, inl, inr, length, List, [], ◌∷◌, ◌++◌, refl, sym, ap, ◌∙◌, arith, ◌&&◌, subst, append-nil, rules}
 use Rattle.std.specs.Prelude.{nat_lt, if◌then◌else◌}
 use Rattle.std.specs.List.{All, after_last, list_any}
 use Rattle.std.proofs.lemmas.Bool.{cases_eq, cases_lt, eq-eqb, le-ltb, lt-ltb, ne_eqb}
@@ -38,31 +38,11 @@ module _ (old new : ℕ → List (List Spot)) (own : ℕ) (others : (just : ℕ)
     (table : LineTable) (has : (just : ℕ) → 2 ≤ just → just ≤ 4 → group_lines just table ≡ table_of (old just)) where
   -- it is put into the table
   lines_pushed : (entry : CountedLine) (table' : LineTable) → entry ≡ line_entry line (height_of (new own)) → Pushed own entry table table' → (just : ℕ) → 2 ≤ just → just ≤ 4 → group_lines just table' ≡ table_of (new just)
-  lines_pushed entry table' is pushed just least most = elim (cases_eq just own) [
-    | inl same ↦ ap (λ n. group_lines n table') same ∙ here ∙ ap (λ n. table_of (new n)) (sym same)
-    | inr differ ↦
-        pushed just (least, most) ∙ ap (λ b. cond b (group_lines just table ++ entry ∷ []) (group_lines just table)) (ne_eqb just own differ)
-        ∙ has just least most ∙ ap table_of (sym (others just differ))
-  ]
-    where
-      here : group_lines own table' ≡ table_of (new own)
-      here =
-          pushed own (low, high) ∙ ap (λ b. cond b (group_lines own table ++ entry ∷ []) (group_lines own table)) (eq-eqb own own refl)
-          ∙ ap (λ l. l ++ entry ∷ []) (has own low high)
-          ∙ ap (λ (e : CountedLine). table_of (old own) ++ e ∷ []) (is ∙ ap (λ l. line_entry line (height_of l)) more)
-          ∙ sym (table_push (old own) line) ∙ ap table_of (sym more)
+  lines_pushed entry table' is pushed just least most = first_of (search (rules, cases_eq, eq-eqb, ne_eqb, table_push), grind (arith, cases_eq, eq-eqb, ne_eqb, table_push))
 
   -- and there is room for it
   lines_room : (area : List Spot) → ((just : ℕ) → length (new just) ≤ length (lines_of (in_group just area))) → HasRoom area → line_count table < 128
-  lines_room area all room =
-      let g = λ (just : ℕ). length (lines_of (in_group just area)) in
-      let count = λ (just : ℕ) (low : 2 ≤ just) (high : just ≤ 4). ap length (has just low high) ∙ table_length (old just) in
-      let less : length (old own) < g own = omega (arith, ap length more, length_push (old own) line, all own) in
-      let each : (just : ℕ) → length (old just) ≤ g just = λ just. elim (cases_eq just own) [
-        | inl same ↦ subst (λ n. length (old n) ≤ g n) (sym same) (omega (arith, less))
-        | inr differ ↦ omega (arith, ap length (others just differ), all just)
-      ] in
-      omega (arith, room, count 2 (omega arith) (omega arith), count 3 (omega arith) (omega arith), count 4 (omega arith) (omega arith), less_total (λ just. length (old just)) g own low high (each 2) (each 3) (each 4) less)
+  lines_room area all room = first_of (search (rules, cases_eq, length_push, less_total, table_length), grind (arith, cases_eq, length_push, less_total, table_length))
 
 -- KNOWN LINES
 
@@ -75,27 +55,16 @@ module _ (present just : ℕ) (area : List Spot) where
 
   -- a group without items has none
   pub known_none : in_group just area ≡ [] → known_lines present just area ≡ []
-  known_none none = ap (λ l. cond (nat_lt just present) (lines_of l) (ended_lines l)) none ∙ either (nat_lt just present)
-    where
-      either : (b : Bool) → cond b (lines_of []) (ended_lines []) ≡ []
-      either true = refl
-      either false = refl
+  known_none none = first_of (search (rules), grind (arith))
 
   -- no more are known than there are
   pub known_most : length (known_lines present just area) ≤ length (lines_of (in_group just area))
-  known_most = elim (cases_lt just present) [
-    | inl less ↦ omega (arith, ap length (known_before less))
-    | inr most ↦ omega (arith, ap length (known_from most), ended_most (in_group just area))
-  ]
+  known_most = first_of (search (rules, cases_lt, ended_most, known_before, known_from), grind (arith, cases_lt, ended_most, known_before, known_from))
 
 module _ (area : List Spot) (table : LineTable) where
   -- behind the groups that have items it doesn't matter which is the present one
   pub known_later : (n m : ℕ) → largest (λ (t : Spot). page_number t.at.page_just) area < n → largest (λ (t : Spot). page_number t.at.page_just) area < m → HasKnown n area table → HasKnown m area table
-  known_later n m first second has just low high =
-      has just low high ∙ ap table_of (elim (cases_lt (largest (λ (t : Spot). page_number t.at.page_just) area) just) [
-        | inl behind ↦ known_none n just area (group_behind just area behind) ∙ sym (known_none m just area (group_behind just area behind))
-        | inr within ↦ known_before n just area (omega arith) ∙ sym (known_before m just area (omega arith))
-      ])
+  known_later n m first second has just low high = first_of (search (rules, cases_lt, group_behind, known_before, known_none), grind (arith, cases_lt, group_behind, known_before, known_none))
 
   -- behind them all, all lines are known
   pub counted_at_end : (n : ℕ) → largest (λ (t : Spot). page_number t.at.page_just) area < n → largest (λ (t : Spot). page_number t.at.page_just) area ≤ 4 → HasKnown n area table → HasCounted area table
@@ -119,21 +88,11 @@ module _ (area : List Spot) (a : Area) (e : a ≡ area_sum area) where
 
   -- those of the other groups are known as before
   known_next : (just : ℕ) → (just ≡ a.present → ⊥) → known_lines (a.present + 1) just area ≡ known_lines a.present just area
-  known_next just other = elim (cases_lt just a.present) [
-    | inl less ↦ known_before (a.present + 1) just area (omega arith) ∙ sym (known_before a.present just area less)
-    | inr more ↦ let behind = group_behind just area (omega (arith, present_is, more, other)) in known_none (a.present + 1) just area behind ∙ sym (known_none a.present just area behind)
-  ]
+  known_next just other = first_of (search (rules, cases_lt, group_behind, known_before, known_none, present_is), grind (arith, cases_lt, group_behind, known_before, known_none, present_is))
 
   -- where it has none, its lines are known
   pub nothing_left : All IsPlacing area → (old : LineTable) → a.group.line.any ≡ false → HasKnown a.present area old → HasKnown (a.present + 1) area old
-  nothing_left placing old none has just low high =
-      has just low high ∙ ap table_of (elim (cases_eq just a.present) [
-        | inl own ↦
-            known_from a.present just area (omega arith)
-            ∙ sym (lines_closed (in_group just area) (placing_group just area placing) (ap (λ n. list_any is_glyph (after_last is_break (in_group n area))) own ∙ any_is false none))
-            ∙ sym (known_before (a.present + 1) just area (omega arith))
-        | inr other ↦ sym (known_next just other)
-      ])
+  nothing_left placing old none has just low high = first_of (search (rules, any_is, cases_eq, known_before, known_from, known_next, lines_closed, placing_group), grind (arith, any_is, cases_eq, known_before, known_from, known_next, lines_closed, placing_group))
 
   module _ (some : a.group.line.any ≡ true) (low : 2 ≤ a.present) (high : a.present ≤ 4) (old : LineTable) (has : HasKnown a.present area old) where
     abbrev spots : List Spot
@@ -161,19 +120,7 @@ module _ (area : List Spot) (a : Area) (e : a ≡ area_sum area) where
 
 -- what ends a line adds nothing to its entry
 pub entry_ended : (line : List Spot) (s : Spot) (bottom : ℕ) → is_break s ≡ true → line_entry (line ++ s ∷ []) bottom ≡ line_entry line bottom
-entry_ended line s bottom breaks = λ i. record {
-  left = width_of (same 2 i);
-  centre = width_of (same 3 i);
-  right = width_of (same 4 i);
-  full = width_of (same 5 i);
-  characters = length (same 5 i);
-  bottom = bottom;
-}
-  where
-    same : (j : ℕ) → segment j (line ++ s ∷ []) ≡ segment j line
-    same j =
-        filter-append (λ t. is_glyph t && (line_number t.at.line_just == j)) line (s ∷ [])
-        ∙ ap (λ b. segment j line ++ cond b (s ∷ []) []) (ap (λ b. b && (line_number s.at.line_just == j)) (break_put s.at s.put breaks)) ∙ append-nil (segment j line)
+entry_ended line s bottom breaks = first_of (search (rules, append-nil, break_put, filter-append), grind (arith, append-nil, break_put, filter-append))
 
 module _ (just : ℕ) (old new : List Spot) (others : (j : ℕ) → (j ≡ just → ⊥) → in_group j new ≡ in_group j old) where
   own_known : (area : List Spot) → known_lines just just area ≡ ended_lines (in_group just area)
@@ -184,10 +131,7 @@ module _ (just : ℕ) (old new : List Spot) (others : (j : ℕ) → (j ≡ just 
 
   -- no line is ended
   pub known_unchanged : ended_lines (in_group just new) ≡ ended_lines (in_group just old) → (table : LineTable) → HasKnown just old table → HasKnown just new table
-  known_unchanged same table has = λ j least most. has j least most ∙ ap table_of (sym (elim (cases_eq j just) [
-    | inl own ↦ ap (λ n. known_lines just n new) own ∙ own_known new ∙ same ∙ sym (own_known old) ∙ ap (λ n. known_lines just n old) (sym own)
-    | inr differ ↦ other_known j differ
-  ]))
+  known_unchanged same table has = first_of (search (rules, cases_eq, other_known, own_known), grind (arith, cases_eq, other_known, own_known))
 
   -- one is, and it is put into the table
   module _ (line : List Spot) (table : LineTable) (low : 2 ≤ just) (high : just ≤ 4) (more : ended_lines (in_group just new) ≡ ended_lines (in_group just old) ++ line ∷ []) (has : HasKnown just old table) where

@@ -1,5 +1,5 @@
 -- What is shown at a time of the cycle, from page to page.
-use Rattle.std.proofs.Common.{◌≡◌, ℕ, ◌+◌, ◌-◌, ◌<◌, ◌≤◌, true, false, cond, List, [], ◌∷◌, ◌++◌, length, map, slice_get, Some, None, refl, sym, ap, subst, ◌∙◌, inl, inr, arith, append-nil}
+use Rattle.std.proofs.Common.{◌≡◌, ℕ, ◌+◌, ◌-◌, ◌<◌, ◌≤◌, true, false, cond, List, [], ◌∷◌, ◌++◌, length, map, slice_get, Some, None, refl, sym, ap, subst, ◌∙◌, inl, inr, arith, append-nil, rules}
 use Rattle.std.proofs.lemmas.List.{map-append}
 use Rattle.multi_token.specs.Spelling.{Item}
 use Rattle.multi_token.proofs.ReadingLemmas.{spelling_some}
@@ -236,15 +236,9 @@ module _ {sign : SignData} {octets : List ℕ} {start behind : Cursor} (p : IsPa
   -- where it is over another page begins behind it, at the time or before
   pub page_behind : IsShownIn start.state behind.state.attributes time None → time < cycle (page_times sign (meanings octets))
       → (behind.state.pages ≡ start.state.pages + 1) × (start.at < behind.at) × (behind.state.cycle ≤ time) × IsAtPage sign octets behind
-  page_behind over below = elim p.ends [
-    | inl last ↦ absurd (omega (arith, over, below, p.begins, ap cycle (p.times ∙ ap (λ l. p.earlier ++ times_of behind.state.attributes ∷ l) last.1) ∙ cycle_push p.earlier (times_of behind.state.attributes)))
-    | inr more ↦ (more.0, more.1, omega (arith, over, more.2), more.3)
-  ]
+  page_behind over below = first_of (search (rules, cycle_push), grind (arith, cycle_push))
 
 -- before the last page another begins behind it
 pub page_follows : {sign : SignData} {octets : List ℕ} {start behind : Cursor} → IsPageSkipped sign octets start behind → start.state.pages < pages_of (meanings octets)
     → (behind.state.pages ≡ start.state.pages + 1) × (start.at < behind.at) × IsAtPage sign octets behind
-page_follows p more = elim p.ends [
-  | inl last ↦ absurd (omega (arith, last.2, more))
-  | inr next ↦ (next.0, next.1, next.3)
-]
+page_follows p more = first_of (search (rules), grind (arith))

@@ -1,5 +1,5 @@
 -- The areas of a page, drawn one after the other.
-use Rattle.std.proofs.Common.{◌≡◌, ℕ, ◌+◌, ◌-◌, ◌<◌, ◌≤◌, Bool, true, false, cond, ◌==◌, inl, inr, List, [], ◌∷◌, ◌++◌, map, None, Some, refl, sym, ap, subst, ◌∙◌, arith, append-nil}
+use Rattle.std.proofs.Common.{◌≡◌, ℕ, ◌+◌, ◌-◌, ◌<◌, ◌≤◌, Bool, true, false, cond, ◌==◌, inl, inr, List, [], ◌∷◌, ◌++◌, map, None, Some, refl, sym, ap, subst, ◌∙◌, arith, append-nil, rules}
 use Rattle.std.specs.List.{count_by}
 use Rattle.std.proofs.Math.Nat.{mul-add, mul-le-mul_left}
 use Rattle.std.proofs.lemmas.Bool.{eq-eqb}
@@ -61,9 +61,7 @@ page_of sign items = refl
 module _ {sign : SignData} {octets : List ℕ} {before behind : List LaidItem} {cursor : Cursor} (b : IsBetween sign octets before behind cursor) where
   -- the pieces mean what the string is laid out as
   all_laid : map meant (before ++ behind) ≡ laid_out sign (meanings octets)
-  all_laid =
-      b.laid ∙ ap (laid_meanings sign) (map-append (λ (p : LaidItem). p.item) before behind)
-      ∙ ap (laid_out sign) (same_meanings sign octets (items_of before ++ items_of behind) b.placed.accepted)
+  all_laid = first_of (search (rules, map-append, same_meanings), grind (arith, map-append, same_meanings))
 
   -- and have its pages
   pub pages_left : cursor.state.pages + count_by is_new_page (map meant behind) ≡ pages_of (meanings octets)

@@ -1,5 +1,5 @@
 -- The pages of an accepted string, one after the other.
-use Rattle.std.proofs.Common.{◌≡◌, ℕ, ◌+◌, ◌-◌, ◌*◌, ◌/◌, ◌^◌, ◌<◌, ◌≤◌, inl, inr, Bool, true, false, cond, List, [], ◌∷◌, length, map, refl, sym, ap, subst, ◌∙◌, arith}
+use Rattle.std.proofs.Common.{◌≡◌, ℕ, ◌+◌, ◌-◌, ◌*◌, ◌/◌, ◌^◌, ◌<◌, ◌≤◌, inl, inr, Bool, true, false, cond, List, [], ◌∷◌, length, map, refl, sym, ap, subst, ◌∙◌, arith, rules}
 use Rattle.std.specs.Prelude.{◌==◌}
 use Rattle.std.specs.List.{All}
 use Rattle.std.proofs.lemmas.Bool.{ne_eqb, cases_eq, eq-eqb}
@@ -133,17 +133,10 @@ module _ (old : PagesState) (start next : NextPage) (u : IsUnderWay old start.cu
 
     -- only the last page of the string ends with no other
     extra : (n : ℕ) → cond (next.cursor.state.pages == start.cursor.state.pages) n 0 ≤ cond (old.next + 1 == page_count old.string) n 0
-    extra n = elim (cases_eq (old.next + 1) (page_count old.string)) [
-      | inl last ↦ omega (arith, at_most (next.cursor.state.pages == start.cursor.state.pages) n, ap {B = ℕ} (λ b. cond b n 0) (eq-eqb (old.next + 1) (page_count old.string) last))
-      | inr other ↦
-          let further = (begins_next (omega (arith, more, other))).1 in
-          omega (arith, ap {B = ℕ} (λ b. cond b n 0) (ne_eqb next.cursor.state.pages start.cursor.state.pages (λ e. omega (arith, e, further, (u.begins more).1))))
-    ]
+    extra n = first_of (search (rules, begins_next, cases_eq, eq-eqb, ne_eqb), grind (arith, begins_next, cases_eq, eq-eqb, ne_eqb))
 
     rows : tallest old.string.sign * next.cursor.at ≡ tallest old.string.sign * start.cursor.at + tallest old.string.sign * (next.cursor.at - start.cursor.at)
-    rows =
-        let sum : next.cursor.at ≡ start.cursor.at + (next.cursor.at - start.cursor.at) = omega (arith, on.0) in
-        ap (λ n. tallest old.string.sign * n) sum ∙ mul-add (tallest old.string.sign) start.cursor.at (next.cursor.at - start.cursor.at)
+    rows = first_of (search (rules, mul-add), grind (arith, mul-add))
 
     still : IsUnderWay (moved on.2.0) next.cursor
     still = record {

@@ -1,5 +1,5 @@
 -- The pieces of an accepted string: what each of its items is laid out as.
-use Rattle.std.proofs.Common.{◌≡◌, ℕ, Bool, true, false, cond, inl, inr, List, [], ◌∷◌, ◌++◌, map, Option, Some, None, refl, sym, ap, subst, ◌∙◌, arith, append-nil}
+use Rattle.std.proofs.Common.{◌≡◌, ℕ, Bool, true, false, cond, inl, inr, List, [], ◌∷◌, ◌++◌, map, Option, Some, None, refl, sym, ap, subst, ◌∙◌, arith, append-nil, rules}
 use Rattle.std.specs.Option.{option_map}
 use Rattle.std.proofs.lemmas.List.{map-append}
 use Rattle.multi_token.specs.Spelling.{Item}
@@ -77,10 +77,7 @@ module _ {sign : SignData} {octets : List ℕ} {before rest : List LaidItem} {pi
   all_split = ap (map meaning) (map-append (λ (p : LaidItem). p.item) before (piece ∷ rest)) ∙ map-append meaning (items_of before) (piece.item ∷ items_of rest)
 
   pub unfilled_meant : sign.line_fill ≡ Off → meant piece ≡ meaning piece.item
-  unfilled_meant off =
-      laid_here sign before rest piece b.laid
-      ∙ ap (λ setting. laid_item setting sign (map meaning (items_of (before ++ piece ∷ rest))) (map meaning (items_of before)) (meaning piece.item)) off
-      ∙ unfilled_item sign (map meaning (items_of (before ++ piece ∷ rest))) (map meaning (items_of before)) (map meaning (items_of rest)) (meaning piece.item) all_split
+  unfilled_meant off = first_of (search (rules, all_split, laid_here, unfilled_item), grind (arith, all_split, laid_here, unfilled_item))
 
   pub unplaced_meant : has_place (meaning piece.item) ≡ false → meant piece ≡ meaning piece.item
   unplaced_meant = unplaced_laid sign before rest piece b.laid
@@ -155,11 +152,7 @@ placed_begins _ e = cc
 
 pub plain_laid : (sign : SignData) (before rest : List LaidItem) (piece : LaidItem) → map meant (before ++ piece ∷ rest) ≡ laid_meanings sign (items_of (before ++ piece ∷ rest))
     → begins_area (meaning piece.item) ≡ false → begins_area (meant piece) ≡ false
-plain_laid sign before rest piece laid plain = of (has_place (meaning piece.item)) refl
-  where
-    of : (b : Bool) → has_place (meaning piece.item) ≡ b → begins_area (meant piece) ≡ false
-    of false e = ap begins_area (unplaced_laid sign before rest piece laid e) ∙ plain
-    of true e = placed_begins (meant piece) (ap has_place (laid_here sign before rest piece laid) ∙ laid_placed sign.line_fill sign _ _ (meaning piece.item) e)
+plain_laid sign before rest piece laid plain = first_of (search (rules, laid_here, unplaced_laid), grind (arith, laid_here, unplaced_laid))
 
 -- a piece that places nothing is its item
 pub itself : {sign : SignData} {octets : List ℕ} {before rest : List LaidItem} {piece : LaidItem} {cursor : Cursor} → IsBetween sign octets before (piece ∷ rest) cursor → has_place (meant piece) ≡ false

@@ -1,5 +1,5 @@
 -- A setting only changes what is in force: it offends behind any items just where it does behind none.
-use Rattle.std.proofs.Common.{◌≡◌, ℕ, Bool, true, false, List, [], ◌∷◌, ◌++◌, map, Some, None, Err, Ok, refl, sym, ap, subst, ◌∙◌}
+use Rattle.std.proofs.Common.{◌≡◌, ℕ, Bool, true, false, List, [], ◌∷◌, ◌++◌, map, Some, None, Err, Ok, refl, sym, ap, subst, ◌∙◌, rules, arith}
 use Rattle.std.proofs.lemmas.Bool.{false≢true}
 use Rattle.multi_token.specs.Spelling.{Item}
 use Rattle.multi_tag.specs.declared.tag.Tag.{Tag}
@@ -47,9 +47,7 @@ setting_fine sign octets before behind at p next (item, rest, is, read) tag mean
 
 -- it doesn't happen that it offends
 pub never_refused : (sign : SignData) (tag : Tag) (new : State) → ((items : List Meaning) → offence Off sign items (Does tag) ≡ None) → (error : SyntaxError) (items : List Meaning) → IsJudged sign items (Does tag) (Err error) new → ⊥
-never_refused sign tag new fine error items judged =
-    let wrong : Some (code_of error) ≡ None = sym judged ∙ fine items in
-    cc
+never_refused sign tag new fine error items judged = first_of (search (rules), grind (arith))
 
 -- it begins no area, ends no line, has no place, begins no line and puts nothing
 pub setting_is : (tag : Tag) → is_setting (Does tag) ≡ true → (begins_area (Does tag) ≡ false) × (ends_line (Does tag) ≡ false) × (has_place (Does tag) ≡ false) × (begins_line tag ≡ false)

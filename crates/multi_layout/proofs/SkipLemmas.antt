@@ -1,5 +1,5 @@
 -- The items of a string that place nothing: they alone tell what is in force, and the pages and their times.
-use Rattle.std.proofs.Common.{◌≡◌, ℕ, ◌+◌, ◌*◌, ◌≤◌, Bool, true, false, cond, not, inl, inr, List, [], ◌∷◌, ◌++◌, length, map, Some, None, refl, sym, ap, subst, ◌∙◌, arith, append-nil, suc, ◌^◌, ◌<◌, drop, slice_get}
+use Rattle.std.proofs.Common.{◌≡◌, ℕ, ◌+◌, ◌*◌, ◌≤◌, Bool, true, false, cond, not, inl, inr, List, [], ◌∷◌, ◌++◌, length, map, Some, None, refl, sym, ap, subst, ◌∙◌, arith, append-nil, suc, ◌^◌, ◌<◌, drop, slice_get, rules}
 use Rattle.std.specs.Prelude.{nat_lt}
 use Rattle.std.specs.List.{cons_option, count_by, All}
 use Rattle.std.proofs.lemmas.List.{length-append, map-append}
@@ -35,15 +35,7 @@ use Rattle.multi_judge.proofs.RunReadLemmas.{behind_first}
 -- where the present area is empty, the state is that of all items with these pages, times and values in force
 pub state_moved : (sign : SignData) (one other : List Meaning) (state : State) → standing sign one ≡ standing sign other → ended_times sign one ≡ ended_times sign other → pages_of one ≡ pages_of other
     → length one ≤ length other → present_area sign one ≡ [] → present_area sign other ≡ [] → IsStateOf sign one state → IsStateOf sign other state
-state_moved sign one other state here times pages long none none' st = record {
-  pages = st.pages ∙ pages;
-  times = st.times ∙ ap cycle times;
-  attributes = st.attributes ∙ ap attributes_of here;
-  area = st.area ∙ ap area_sum (none ∙ sym none');
-  font = subst (λ (s : Standing). font_numbered sign s.font.number ≡ Some s.font) here st.font;
-  below = below_more (1024 * length one) (1024 * length other) state.area (omega (arith, long)) st.below;
-  short = st.short;
-}
+state_moved sign one other state here times pages long none none' st = first_of (search (rules, below_more), grind (arith, below_more))
 
 -- ONE MORE ITEM
 

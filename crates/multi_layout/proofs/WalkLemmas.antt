@@ -1,5 +1,5 @@
 -- The next item of an accepted string.
-use Rattle.std.proofs.Common.{◌≡◌, ℕ, true, false, ◌+◌, ◌^◌, ◌<◌, ◌≤◌, inl, inr, List, [], ◌∷◌, ◌++◌, length, drop, take, map, slice_get, Some, None, refl, sym, ap, subst, ◌∙◌, arith, append_assoc, append-nil}
+use Rattle.std.proofs.Common.{◌≡◌, ℕ, true, false, ◌+◌, ◌^◌, ◌<◌, ◌≤◌, inl, inr, List, [], ◌∷◌, ◌++◌, length, drop, take, map, slice_get, Some, None, refl, sym, ap, subst, ◌∙◌, arith, append_assoc, append-nil, rules}
 use Rattle.std.specs.List.{All, cons_option}
 use Rattle.std.proofs.Math.Seq.{drop-append_seam, take-append_seam}
 use Rattle.std.proofs.lemmas.List.{length-append, map-append}
@@ -52,10 +52,7 @@ few (x ∷ items) = omega (arith, few items, spelling_some x, length-append (spe
 module _ (sign : SignData) (octets : List ℕ) (before behind : List Item) (at : ℕ) (p : IsPlaced sign octets before behind at) where
   -- what stands from the offset on
   pub ahead : drop at octets ≡ spell behind
-  ahead =
-      ap (λ n. drop n octets) p.place
-      ∙ ap (drop (length (spell before))) (p.accepted.spelled ∙ spell-append before behind)
-      ∙ drop-append_seam (spell before) (spell behind)
+  ahead = first_of (search (rules, drop-append_seam, spell-append), grind (arith, drop-append_seam, spell-append))
 
   pub total : length octets ≡ length (spell before) + length (spell behind)
   total = ap length (p.accepted.spelled ∙ spell-append before behind) ∙ length-append (spell before) (spell behind)
@@ -135,25 +132,15 @@ no_steps a = (0, omega arith, omega arith, sym (charged-zero a))
 module _ (sign : SignData) (octets : List ℕ) (before rest : List Item) (item : Item) (at : ℕ) (p : IsPlaced sign octets before (item ∷ rest) at) where
   -- it doesn't offend
   pub none_offends : offence sign.line_fill sign (map meaning before) (meaning item) ≡ None
-  none_offends =
-      let later = some_after-append (fault_at sign) before (item ∷ rest) in
-      let none = right_nil (offences sign before) _ (sym later ∙ p.accepted.none) in
-      let here = none_of (fault_at sign (before ++ []) item) _ none in
-      let at : fault_at sign before item ≡ None = ap (λ l. fault_at sign l item) (sym (append-nil before)) ∙ here in
-      none_mapped (λ code. (code, length (spell before))) (offence sign.line_fill sign (map meaning before) (meaning item)) at
+  none_offends = first_of (search (rules, append-nil, none_mapped, none_of, right_nil, some_after-append), grind (arith, append-nil, none_mapped, none_of, right_nil, some_after-append))
 
   -- and so it is no tag with an error
   pub never_faulty : (code : ℕ) → meaning item ≡ Faulty code → ⊥
-  never_faulty code e =
-      let wrong : Some code ≡ None = sym (offence-faulty (too_big sign.line_fill) sign (map meaning before) code) ∙ ap (offence sign.line_fill sign (map meaning before)) (sym e) ∙ none_offends in
-      absurd cc
+  never_faulty code e = first_of (search (rules, none_offends, offence-faulty), grind (arith, none_offends, offence-faulty))
 
   -- behind it the rest stands
   pub placed_more : (new : ℕ) → new ≡ at + length (spelling item) → IsPlaced sign octets (before ++ item ∷ []) rest new
-  placed_more new to = record {
-    accepted = subst (IsAccepted sign octets) (sym (append_assoc before (item ∷ []) rest)) p.accepted;
-    place = omega (arith, to, p.place, ap length (spell-append before (item ∷ [])), length-append (spell before) (spell (item ∷ [])), ap length (append-nil (spelling item)));
-  }
+  placed_more new to = first_of (search (rules, append-nil, append_assoc, length-append, spell-append), grind (arith, append-nil, append_assoc, length-append, spell-append))
 
   pub room : at + length (spelling item) ≤ length octets
   room = omega (arith, p.place, ap length (p.accepted.spelled ∙ spell-append before (item ∷ rest)), length-append (spell before) (spell (item ∷ rest)), length-append (spelling item) (spell rest))
