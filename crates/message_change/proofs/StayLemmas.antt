@@ -14,7 +14,7 @@ use Rattle.multi_meaning.specs.Meaning.{Meaning, meanings}
 use Rattle.multi_meaning.specs.Picture.{in_plane, pixel_at, shown_colour, thing_at, things, things_among}
 use Rattle.multi_meaning.specs.Place.{place_of}
 use Rattle.multi_meaning.specs.Times.{Times, cycle, page_times, shown, shown_within}
-use Rattle.multi_meaning.proofs.PixelLemmas.{all_same, pick, picked}
+use Rattle.multi_meaning.proofs.DrawnLemmas.{all_same, pick, picked}
 use Rattle.multi_meaning.proofs.TimesLemmas.{cycle_within, shown_always, shown_modulo}
 use Rattle.message_change.specs.Change.{IsBefore, IsSamePage, Stays, change_at, change_of, change_within, flashes_left, page_flashes, sooner, times_left}
 use Rattle.message_change.proofs.FlashLemmas.{before_all, before_both, mod_on, steady}

@@ -14,7 +14,7 @@ use Rattle.multi_meaning.specs.Times.{Times, cycle, ended_times, page_times, tim
 use Rattle.multi_meaning.specs.Verdict.{Accepted, IsCycle, IsVerdict}
 use Rattle.multi_meaning.proofs.StandingLemmas.{standing_push}
 use Rattle.multi_meaning.proofs.TimesLemmas.{cycle_push, ended_count, times_are, times_are_all, times_count}
-use Rattle.multi_meaning.proofs.AcceptedLemmas.{accepted_is, cycle_is}
+use Rattle.multi_meaning.proofs.VerdictLemmas.{accepted_is, cycle_is}
 use Rattle.multi_meaning.proofs.WordLemmas.{some_after_push}
 use Rattle.message_change.specs.Change.{change_at, change_of, change_within, flash_left, flash_on, flashes_left, is_shown, page_flashes, part_left, sooner, times_left}
 use Rattle.message_change.specs.declared.walk.Walk.{Walk}

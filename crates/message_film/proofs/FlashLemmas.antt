@@ -26,11 +26,11 @@ use Rattle.sign_font.specs.Sign.{SignData}
 use Rattle.multi_meaning.specs.Attributes.{given_flash}
 use Rattle.multi_meaning.specs.declared.attributes.FlashTimes.{FlashTimes}
 use Rattle.multi_meaning.specs.Meaning.{Meaning, meaning, meaning_of_tag, meanings}
-use Rattle.multi_meaning.proofs.MeaningLemmas.{meaning-tag}
+use Rattle.multi_meaning.proofs.ItemAtLemmas.{meaning-tag}
 use Rattle.message_film.specs.Period.{Allows, Divides, EndsFlashes, IsCommonTime, IsFlashPeriod, IsPeriod, PlaysFor, flash_time, times_of}
 use Rattle.multi_meaning.specs.Times.{cycle}
 use Rattle.multi_meaning.specs.Verdict.{Accepted, IsCycle, IsVerdict, broken, of_first, offences, pages_of, verdict_on}
-use Rattle.multi_meaning.proofs.AcceptedLemmas.{cycle_is}
+use Rattle.multi_meaning.proofs.VerdictLemmas.{cycle_is}
 use Rattle.multi_meaning.proofs.TimesLemmas.{times_count}
 use Rattle.message_film.proofs.PeriodLemmas
 

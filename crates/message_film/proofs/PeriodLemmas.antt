@@ -18,7 +18,7 @@ use Rattle.multi_meaning.specs.Picture.{in_plane, is_lit_at, pixel_at, shown_col
 use Rattle.multi_meaning.specs.Place.{place_of}
 use Rattle.multi_meaning.specs.Times.{cycle, shown_at, shown_within}
 use Rattle.multi_meaning.specs.Words.{each_after, some_after}
-use Rattle.multi_meaning.proofs.PixelLemmas.{all_same, pick, picked}
+use Rattle.multi_meaning.proofs.DrawnLemmas.{all_same, pick, picked}
 use Rattle.multi_meaning.proofs.TimesLemmas.{shown_always, shown_modulo}
 use Rattle.page_picture.specs.Shown.{shown_colour_at}
 use Rattle.message_film.specs.Moving.{seen_points}

@@ -3,7 +3,7 @@ use Rattle.std.proofs.Common.{◌≡◌, ℕ, ◌<◌, ◌≤◌, ◌^◌, List,
 use Rattle.sign_font.specs.Sign.{SignData}
 use Rattle.multi_meaning.specs.Meaning.{meanings}
 use Rattle.multi_meaning.specs.Verdict.{Accepted, IsVerdict, pages_of}
-use Rattle.multi_meaning.proofs.AcceptedLemmas.{accepted_is}
+use Rattle.multi_meaning.proofs.VerdictLemmas.{accepted_is}
 use Rattle.message_picture.specs.declared.draw.DrawFault.TheVariants.{NoPage}
 use Rattle.message_picture.specs.declared.view.Moment.{Moment}
 use Rattle.message_picture.specs.declared.view.Moment.TheVariants.{Page}

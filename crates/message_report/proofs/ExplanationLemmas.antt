@@ -8,8 +8,7 @@ use Rattle.std.specs.List.{flat_map}
 use Rattle.sign_font.specs.Sign.{SignData}
 use Rattle.multi_meaning.specs.Meaning.{meanings}
 use Rattle.multi_meaning.specs.Verdict.{Accepted, IsVerdict, Verdict, pages_of, verdict}
-use Rattle.multi_meaning.proofs.AcceptedLemmas.{accepted_is}
-use Rattle.multi_meaning.proofs.VerdictLemmas.{one_verdict}
+use Rattle.multi_meaning.proofs.VerdictLemmas.{accepted_is, one_verdict}
 use Rattle.octet_text.proofs.TextLemmas.{grown}
 use Rattle.message_report.specs.Words.{GrowsByLine, GrowsInLine, IsOneLine}
 use Rattle.message_report.specs.declared.format.Telling.{Telling}

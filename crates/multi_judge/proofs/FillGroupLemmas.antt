@@ -1,43 +1,44 @@
--- The sums of a filled group at one more character, in each case that filling tells apart.
-use Rattle.std.proofs.Common.{◌≡◌, ◌≤◌, inl, inr, ℕ, Bool, true, false, cond, not, ◌&&◌, ◌==◌, arith, List, [], ◌∷◌, ◌++◌, Option, Some, None, refl, sym, ap, subst, ◌∙◌, append_assoc, append-nil, rules}
-use Rattle.std.specs.List.{after_last, list_any, All, AllPass}
-use Rattle.std.specs.Option.{option_map}
-use Rattle.std.specs.Prelude.{nat_le}
-use Rattle.std.proofs.lemmas.Bool.{and_from, and_parts, false≢true}
-use Rattle.std.proofs.lemmas.List.Sums.{sum_by-append}
-use Rattle.multi_tag.specs.Just.{line_number}
-use Rattle.multi_meaning.specs.Line.{char_gap, glyph_width, width_of}
+-- The sums around the last space of a line, at one more character.
+use Rattle.multi_judge.proofs.Common.{◌≡◌, true, false, List, [], ◌∷◌, ◌++◌, Option, Some, None, sym, ap, subst, ◌∙◌, rules, arith, ◌≤◌, inl, inr, ℕ, Bool, cond, not, ◌&&◌, ◌==◌, refl, append_assoc, append-nil, or_parts, and_from, and_parts, false≢true, AllPass, list_any, after_last, All, option_map, list_any-append, nat_le, sum_by-append, All-nil, All-cons, All-head, All-tail, Spot, is_glyph, is_break, segment, CutAt, is_space, filled, clashes, le_test, open_line, open_line_is, cut_with, none_mapped, Cut, after_last_is, smaller_fits, ended_break, ended_glyph, line_number, char_gap, glyph_width, width_of, fit, line_fits, IsPlacing, ended_lines, Split, Character, Line, split_sum, EndsLine, IsCharacter, line_sum, IsBreak, group_sum, Group, PutsCharacter, FitsBefore, IsMost, segment_room}
+use Rattle.multi_meaning.specs.Filling.{cut_at_last, longer, dropped}
+use Rattle.multi_meaning.proofs.FillLemmas.{word_begins, word_grows, broken_line, breaks, drops, stands, stays, LaidAll, LaidAs, filled_laid, ended, ended_ends, ends_open, open_line_glyphs, filled_is}
+use Rattle.multi_meaning.proofs.WordLemmas.{is_cut, All-around}
+use Rattle.multi_meaning.proofs.GroupLemmas.{glyphs_around}
 use Rattle.multi_meaning.specs.Words.{successive}
-use Rattle.multi_meaning.proofs.FillLemmas.{le_test}
-use Rattle.multi_meaning.proofs.FitLemmas.{smaller_fits}
-use Rattle.std.proofs.lemmas.List.Elements.{All-nil, All-cons, All-head, All-tail}
-use Rattle.multi_meaning.proofs.WordLemmas.{All-around, none_mapped}
-use Rattle.multi_meaning.specs.Address.{Spot, is_break, is_glyph, segment}
-use Rattle.multi_meaning.specs.Fit.{fit, line_fits}
-use Rattle.multi_meaning.specs.Filling.{cut_at_last, dropped, filled, is_space}
-use Rattle.multi_meaning.specs.Offence.{clashes}
-use Rattle.multi_meaning.specs.kept.Present.{IsPlacing, ended_lines}
-use Rattle.multi_meaning.proofs.FilledEndedLemmas.{broken_line}
-use Rattle.multi_meaning.proofs.EndedLemmas.{ended_break, ended_glyph}
-use Rattle.multi_meaning.proofs.FilledSumLemmas.{breaks, drops, stands, stays, word_grows}
-use Rattle.multi_meaning.proofs.FillListLemmas.{is_cut}
-use Rattle.multi_meaning.proofs.CutLemmas.{Cut}
-use Rattle.multi_meaning.proofs.LaidSpotLemmas.{LaidAll, LaidAs, filled_laid}
-use Rattle.multi_meaning.proofs.LaidLemmas.{ended, ended_ends, ends_open, open_line, open_line_glyphs, open_line_is, filled_is, cut_with}
-use Rattle.multi_meaning.proofs.BehindLemmas.{after_last_is}
-use Rattle.multi_judge.specs.declared.area.Group.{Group}
-use Rattle.multi_judge.specs.declared.fill.Split.{Split}
-use Rattle.multi_judge.specs.declared.line.Character.{Character}
-use Rattle.multi_judge.specs.declared.line.Line.{Line}
-use Rattle.multi_judge.specs.Adding.{PutsCharacter}
-use Rattle.multi_judge.specs.FillSums.{BreaksGroup, EndsLine, parts_sum, split_sum}
-use Rattle.multi_judge.specs.Run.{FitsBefore}
-use Rattle.multi_judge.specs.State.{IsMost, segment_room}
-use Rattle.multi_judge.specs.Sums.{IsBreak, IsCharacter, group_sum, line_sum}
-use Rattle.multi_judge.proofs.BreakLemmas.{all_glyphs, none_behind, relined}
-use Rattle.multi_judge.proofs.FillSplitLemmas.{parts_of, split_none}
+use Rattle.multi_judge.specs.FillSums.{parts_sum, BreaksGroup}
+use Rattle.multi_judge.proofs.JudgedLemmas.{some_mapped}
+use Rattle.multi_judge.proofs.LineSumLemmas.{all_glyphs, none_behind, relined, present_push}
 use Rattle.multi_judge.proofs.LimitLemmas.{fits_behind, none_before, told_behind}
-use Rattle.multi_judge.proofs.GroupSumLemmas.{present_push}
+
+-- what doesn't clash with a line doesn't with its end
+pub no_clash_behind : (s : Spot) (xs : List Spot) (x : Spot) (ys : List Spot) → list_any (clashes s) (xs ++ x ∷ ys) ≡ false → list_any (clashes s) ys ≡ false
+no_clash_behind s xs x ys e = (or_parts _ _ (or_parts _ _ (sym (list_any-append (clashes s) xs (x ∷ ys)) ∙ e)).1).1
+
+-- a line with a space has parts around it, and what doesn't clash with the line doesn't with the last one
+pub parts_of : (line : List Spot) (s : Spot) (split : Split) → AllPass is_glyph line → list_any (clashes s) line ≡ false → Some split ≡ split_sum line
+    → (c : CutAt Spot) × (cut_at_last is_space line ≡ Some c) × (parts_sum c ≡ split) × AllPass is_glyph c.before × AllPass is_glyph c.behind × (list_any (clashes s) c.behind ≡ false)
+parts_of line s split glyphs apart o =
+    let (c, found, same) = some_mapped parts_sum (cut_at_last is_space line) split (sym o) in
+    let parts = sym same in
+    let at = is_cut is_space line c found in
+    let (before, behind) = glyphs_around c.before c.item c.behind (subst (AllPass is_glyph) at.parts glyphs) in
+    (c, found, parts, before, behind, no_clash_behind s c.before c.item c.behind (subst (λ l. list_any (clashes s) l ≡ false) at.parts apart))
+
+pub split_space : (line : List Spot) (s : Spot) (character : Character) → IsCharacter s character → is_space s ≡ true → (before none : Line) → before ≡ line_sum line → none ≡ line_sum []
+    → ◌≡◌ {A = Option Split} (Some (record { before = before; font = character.font; behind = none })) (split_sum (line ++ s ∷ []))
+split_space line s character is h before none e n = search (rules, word_begins)
+
+split_if : (line : List Spot) (s : Spot) (o : Option (CutAt Spot)) → is_space s ≡ false → cut_at_last is_space line ≡ o → split_sum (line ++ s ∷ []) ≡ option_map parts_sum (option_map (longer (s ∷ [])) o)
+split_if line s o w e = ap (option_map parts_sum) (word_grows line s o w e)
+
+pub split_none : (line : List Spot) (s : Spot) → is_space s ≡ false → None ≡ split_sum line → ◌≡◌ {A = Option Split} None (split_sum (line ++ s ∷ []))
+split_none line s w o = sym (split_if line s None w (none_mapped parts_sum (cut_at_last is_space line) (sym o)))
+
+pub split_word : (line : List Spot) (s : Spot) (character : Character) → AllPass is_glyph line → IsCharacter s character → is_space s ≡ false → list_any (clashes s) line ≡ false
+    → (split : Split) (more : Line) → Some split ≡ split_sum line
+    → ((l : List Spot) (t : Spot) → AllPass is_glyph l → IsCharacter t character → split.behind ≡ line_sum l → list_any (clashes t) l ≡ false → more ≡ line_sum (l ++ t ∷ []))
+    → ◌≡◌ {A = Option Split} (Some (record { before = split.before; font = split.font; behind = more })) (split_sum (line ++ s ∷ []))
+split_word line s character glyphs is w apart split more o grows = grind (arith, parts_of, split_if)
 
 -- a segment is as wide as what stands behind its first character, or wider
 wider : (x : Spot) (line : List Spot) → width_of line ≤ width_of (x ∷ line)

@@ -1,25 +1,17 @@
 -- What is kept of the items of a string as they are laid out, behind one more character.
-use Rattle.std.proofs.Common.{◌≡◌, ℕ, ◌+◌, ◌*◌, Bool, true, false, cond, List, [], ◌∷◌, ◌++◌, length, Option, Some, None, refl, sym, ap, subst, ◌∙◌, arith, append_assoc, append-nil, rules}
-use Rattle.std.specs.List.{cons_option}
-use Rattle.sign_font.specs.declared.parts.LineFill.{LineFill}
-use Rattle.sign_font.specs.Sign.{SignData, CellData, cell_numbered, font_numbered}
-use Rattle.multi_meaning.specs.Address.{Glyph, Standing, in_area, spots, standing}
+use Rattle.multi_judge.proofs.Common.{◌≡◌, ℕ, ◌+◌, ◌*◌, Bool, true, false, cond, List, [], ◌∷◌, ◌++◌, length, Option, Some, None, refl, sym, ap, subst, ◌∙◌, arith, append_assoc, append-nil, rules, not, ◌&&◌, ◌||◌, ◌==◌, zero, suc, cons_option, after_last, list_any, All, eq-eqb, le-ltb, or_parts, list_any-append, LineFill, SignData, CellData, cell_numbered, font_numbered, Glyph, Standing, in_area, spots, standing, Spot, area_of, group_of, in_group, is_break, too_big, laid_item, laid_items, Meaning, Shows, is_new_page, present_area, standing_behind, IsFilledOn, IsPlacing, Times, cycle, ended_times, times_at, pages_of, are_laid, largest_laid, standing_push, each_after_push, push_ind, some_after_push, after_last_is, cut, largest_push, page_number, line_number, Words, area_fits, line_fits, clashes, conflicts, first_code, offence, offence_by, largest, CutAt, filled, open_line, open_line_is, Area, Limits, State, IsStateOf, attributes_of, IsBelow, area_sum, line_sum, Order, order_sum}
+use Rattle.std.proofs.Common.{nat_lt}
+use Rattle.std.proofs.Math.Bool.{or_comm}
 use Rattle.multi_meaning.specs.Laid.{laid}
-use Rattle.multi_meaning.specs.LaidItems.{laid_item, laid_items}
-use Rattle.multi_meaning.specs.Meaning.{Meaning, Shows, is_new_page}
-use Rattle.multi_meaning.specs.kept.Present.{present_area, standing_behind}
-use Rattle.multi_meaning.specs.Times.{Times, cycle, ended_times, times_at}
-use Rattle.multi_meaning.specs.Verdict.{pages_of}
-use Rattle.multi_meaning.proofs.LaidItemLemmas.{are_laid}
-use Rattle.multi_meaning.proofs.SpotsLemmas.{spots_more}
-use Rattle.multi_meaning.proofs.StandingLemmas.{standing_push}
-use Rattle.multi_meaning.proofs.WordLemmas.{each_after_push, push_ind, some_after_push}
-use Rattle.multi_judge.specs.declared.area.Area.{Area}
-use Rattle.multi_judge.specs.declared.state.Limits.{Limits}
-use Rattle.multi_judge.specs.declared.state.State.{State}
-use Rattle.multi_judge.specs.State.{IsStateOf, attributes_of}
-use Rattle.multi_judge.specs.Sums.{IsBelow, area_sum}
+use Rattle.multi_meaning.proofs.LaidItemLemmas.{filled_on, same_width, too_big_laid}
+use Rattle.multi_meaning.proofs.StandingLemmas.{spots_more}
+use Rattle.multi_meaning.specs.Offence.{character_cases}
+use Rattle.multi_meaning.specs.Filling.{soft_break}
+use Rattle.multi_meaning.proofs.FillLemmas.{broken_parts, parts, parts_off}
 use Rattle.multi_judge.proofs.JudgedLemmas.{cycle-stays}
+use Rattle.multi_judge.proofs.AreaSumLemmas.{conflicts_kept, no_back}
+use Rattle.multi_judge.proofs.LineSumLemmas.{any_more, in_order, line_clashes}
+use Rattle.multi_judge.proofs.RunLemmas.{not_full, or_same}
 
 one_of : (b c : Bool) → cond {A = ℕ} b 1 0 ≡ cond c 1 0 → b ≡ c
 one_of true true e = refl
@@ -99,3 +91,104 @@ module _ (setting : LineFill) (sign : SignData) where
           where
             plus_zero : (n : ℕ) → n ≡ n + 0
             plus_zero n = omega arith
+
+module _ (sign : SignData) (items : List Meaning) (number : ℕ) (cell : CellData) (found : cell_numbered (standing sign items).font number ≡ Some cell) where
+  abbrev with_glyph : List Meaning
+  with_glyph = items ++ Shows number ∷ []
+
+  -- the character
+  abbrev pub shown : Spot
+  shown = record { at = standing sign items; put = Glyph cell }
+
+  -- the area in which it stands, as it is laid out with it
+  abbrev pub area_with : List Spot
+  area_with = present_area sign (laid_items Words sign with_glyph with_glyph)
+
+  -- its line doesn't fit, or its area
+  abbrev pub doesn't_fit : Bool
+  doesn't_fit = not (line_fits shown.at.rectangle.width (after_last is_break (in_group (page_number shown.at.page_just) area_with))) || not (area_fits shown.at.rectangle.height area_with)
+
+  too_big_is : too_big Words (spots sign items) shown ≡ doesn't_fit
+  too_big_is =
+      too_big_laid Words shown.at.rectangle.width (spots sign items) shown (eq-eqb shown.at.area shown.at.area refl) (same_width sign items (Glyph cell))
+      ∙ ap (λ l. not (line_fits shown.at.rectangle.width (after_last is_break (in_group (page_number shown.at.page_just) l))) || not (area_fits shown.at.rectangle.height l)) (sym (laid_area_more Words sign items number cell found))
+
+  pub present_is : (state : State) → IsStateOf sign (laid_items Words sign items items) state → state.area.present ≡ largest (λ t. page_number t.at.page_just) (area_of shown (spots sign items))
+  present_is state st =
+      let all = spots sign items in
+      ap (λ (a : Area). a.present) st.area ∙ ap (largest (λ t. page_number t.at.page_just)) (laid_area Words sign items number cell found)
+      ∙ largest_laid Words shown.at.rectangle.width shown.at.area all all [] (sym (append-nil all))
+
+  -- it conflicts by the group that is present among the laid spots, and by the characters since the hard break
+  pub conflicts_by : (state : State) → IsStateOf sign (laid_items Words sign items items) state → (clash : Bool)
+      → clash ≡ list_any (clashes shown) (after_last is_break (in_group state.area.present (area_of shown (spots sign items))))
+      → (nat_lt (page_number shown.at.page_just) state.area.present || ((page_number shown.at.page_just == state.area.present) && clash)) ≡ conflicts (spots sign items) shown
+  conflicts_by state st clash e = first_of (search (rules, conflicts_kept, present_is), grind (arith, conflicts_kept, present_is))
+
+  -- where it doesn't conflict, its group grows by it, and the others stay
+  pub goes_behind : conflicts (spots sign items) shown ≡ false
+      → IsFilledOn (page_number shown.at.page_just) shown.at.rectangle.width (group_of shown (spots sign items)) shown (present_area sign (laid_items Words sign items items)) area_with
+  goes_behind apart =
+      let all = spots sign items in
+      let width = shown.at.rectangle.width in
+      let order = no_back all shown (page_number shown.at.page_just) (largest (λ t. page_number t.at.page_just) (area_of shown all)) refl refl apart in
+      let on = filled_on Words width all shown refl (same_width sign items (Glyph cell)) order in
+      let before = laid_area Words sign items number cell found in
+      let behind = laid_area_more Words sign items number cell found in
+      subst (λ l. IsFilledOn (page_number shown.at.page_just) width (group_of shown all) shown l area_with) (sym before)
+      (subst (λ l. IsFilledOn (page_number shown.at.page_just) width (group_of shown all) shown (in_area shown.at.area (laid Words all all)) l) (sym behind) on)
+
+  pub offends_by : offence Words sign items (Shows number) ≡ first_code ((conflicts (spots sign items) shown, 11) ∷ (doesn't_fit, 5) ∷ [])
+  unfolding offence_by
+  offends_by = first_of (search (rules, too_big_is), grind (arith, too_big_is))
+
+-- a character without a cell
+pub offends_without : (sign : SignData) (items : List Meaning) (number : ℕ) → cell_numbered (standing sign items).font number ≡ None → offence Words sign items (Shows number) ≡ Some 7
+unfolding offence_by
+offends_without sign items number none = ap (λ o. first_code (character_cases (too_big Words) sign items o)) none
+
+-- what holds of no item of a list holds of none of its end
+none_later_on : (p : Spot → Bool) (xs ys : List Spot) → list_any p (xs ++ ys) ≡ false → list_any p ys ≡ false
+none_later_on p xs ys e = (or_parts _ _ (sym (list_any-append p xs ys) ∙ e)).1
+
+module _ (width : ℕ) where
+  -- the open line of characters is their end
+  end_if : (n : ℕ) (cs : List Spot) (o : Option (CutAt Spot)) → soft_break width cs ≡ o → ((cs : List Spot) → (front : List Spot) × (cs ≡ front ++ (parts width n cs).open'))
+      → (front : List Spot) × (cs ≡ front ++ (parts_off width (parts width n) cs o).open')
+  end_if n cs None e ih = ([], refl)
+  end_if n cs (Some c) e ih =
+      let (front, is) = ih c.behind in
+      (c.before ++ c.item ∷ front, broken_parts width cs c e ∙ ap (λ l. c.before ++ c.item ∷ l) is ∙ sym (append_assoc c.before (c.item ∷ front) (parts width n c.behind).open'))
+
+  end_of : (n : ℕ) (cs : List Spot) → (front : List Spot) × (cs ≡ front ++ (parts width n cs).open')
+  end_of zero cs = ([], refl)
+  end_of (suc n) cs = end_if n cs (soft_break width cs) refl (end_of n)
+
+  -- a character that clashes with none since the hard break clashes with none on the open line
+  pub no_clash_filled : (g : List Spot) (s : Spot) → All IsPlacing g → list_any (clashes s) (after_last is_break g) ≡ false → list_any (clashes s) (after_last is_break (filled (Some width) g)) ≡ false
+  no_clash_filled g s placing apart =
+      let since = (cut is_break g).open' in
+      let (front, is) = end_of (length since) since in
+      ap (list_any (clashes s)) (open_line_is width g placing)
+      ∙ none_later_on (clashes s) front (open_line width g) (ap (list_any (clashes s)) (sym is ∙ sym (after_last_is is_break g)) ∙ apart)
+
+-- the order with one more character, which isn't before the others
+pub order_more : (line : List Spot) (s : Spot) (just : ℕ) (parts : Bool) → line_number s.at.line_just ≡ just → list_any (clashes s) line ≡ false → parts ≡ list_any (λ (t : Spot). nat_lt (line_number t.at.line_just) 5) line
+    → ◌≡◌ {A = Order} (record { largest = just; has_parts = nat_lt just 5 || parts }) (order_sum (line ++ s ∷ []))
+order_more line s just parts is apart e =
+    let most : largest (λ (t : Spot). line_number t.at.line_just) (line ++ s ∷ []) ≡ just =
+    let least = in_order line s (line_sum line) refl apart in
+    omega (arith, least, is, largest_push (λ (t : Spot). line_number t.at.line_just) line s) in
+    let some : list_any (λ (t : Spot). nat_lt (line_number t.at.line_just) 5) (line ++ s ∷ []) ≡ (nat_lt just 5 || parts) =
+    any_more (λ (t : Spot). nat_lt (line_number t.at.line_just) 5) line s ∙ ap (λ b. b || nat_lt (line_number s.at.line_just) 5) (sym e) ∙ ap (λ n. parts || nat_lt n 5) is ∙ or_comm parts (nat_lt just 5) in
+    rw (most, some) refl
+
+-- a character with the justification of the last one clashes with none
+pub order_apart : (line : List Spot) (s : Spot) (order : Order) → order ≡ order_sum line → order.largest ≡ line_number s.at.line_just → order.has_parts ≡ nat_lt (line_number s.at.line_just) 5 → list_any (clashes s) line ≡ false
+order_apart line s order e largest_is parts = search (rules, le-ltb, line_clashes, not_full, parts)
+
+-- and leaves it as it is
+pub order_stays : (line : List Spot) (s : Spot) (order : Order) → order ≡ order_sum line → order.largest ≡ line_number s.at.line_just → order.has_parts ≡ nat_lt (line_number s.at.line_just) 5 → order ≡ order_sum (line ++ s ∷ [])
+order_stays line s order e largest_is parts =
+    (λ i. let o : Order = record { largest = largest_is i; has_parts = (parts ∙ or_same (nat_lt (line_number s.at.line_just) 5)) i } in o)
+    ∙ order_more line s (line_number s.at.line_just) (nat_lt (line_number s.at.line_just) 5) refl (order_apart line s order e largest_is parts) (sym parts ∙ ap (λ (o : Order). o.has_parts) e)

@@ -1,39 +1,44 @@
--- The state of the items read so far, at one more item.
-use Rattle.std.proofs.Common.{◌≡◌, ℕ, ◌+◌, ◌*◌, ◌^◌, ◌≤◌, true, false, cond, inl, inr, List, [], ◌∷◌, ◌++◌, length, Option, Some, None, refl, sym, ap, ◌∙◌, arith, append-nil, rules}
-use Rattle.std.specs.Prelude.{nat_lt, ◌==◌}
-use Rattle.std.specs.List.{count_by, cons_option, find}
-use Rattle.std.specs.Option.{option_map, option_and_then, unwrap_or}
-use Rattle.std.proofs.lemmas.Bool.{cases_Bool, eqb-true}
+-- Bounds on the sums that are kept: what is below one is below a larger one.
+use Rattle.multi_judge.proofs.Common.{ℕ, ◌+◌, ◌≤◌, Option, Some, None, arith, rules, ◌≡◌, ◌*◌, ◌^◌, true, false, cond, inl, inr, List, [], ◌∷◌, ◌++◌, length, refl, sym, ap, ◌∙◌, append-nil, ◌-◌, not, ◌==◌, subst, nat_lt, count_by, cons_option, option_map, unwrap_or, option_map_or, cases_Bool, eqb-true, length-append, sum_by-append, nat_tests, Tag, Back, NewLine, NewPage, Rect, Off, too_big, SizedCell, SignData, CellData, FontData, cell_in, cell_numbered, font_numbered, FontInfo, Spot, Cover, Glyph, spots, standing, Meaning, Shows, Does, is_new_page, conflicts, never_big, offence, unsized_offence, offence_by, present_area, standing_behind, Times, cycle, ended_times, times_at, pages_of, offence-undefined, offence-character, standing_push, present_area-nothing, present_area-cover, present_area-new, some_after_push, none_mapped, Area, Group, Split, Line, Segment, IsSplitBelow, IsBelow, IsGroupBelow, IsLineBelow, area_sum, lengthened_line, begins_line, Attributes, Limits, State, IsReady, IsStateOf, attributes_of}
+use Rattle.std.specs.List.{find}
+use Rattle.std.specs.Option.{option_and_then}
 use Rattle.std.proofs.lemmas.Option.{same_Some}
-use Rattle.std.proofs.lemmas.List.{length-append}
-use Rattle.std.proofs.lemmas.List.Sums.{sum_by_push, sum_by-append}
-use Rattle.multi_tag.specs.declared.tag.Tag.{Tag}
-use Rattle.multi_tag.specs.declared.tag.Tag.TheVariants.{Back, NewLine, NewPage, Rect}
-use Rattle.multi_judge.specs.FilledState.{begins_line}
-use Rattle.sign_font.specs.declared.parts.LineFill.TheVariants.{Off}
-use Rattle.multi_meaning.specs.Laid.{too_big}
-use Rattle.sign_font.specs.Cell.{SizedCell}
-use Rattle.sign_font.specs.Sign.{SignData, CellData, FontData, cell_in, cell_numbered, font_numbered, info_of, sized}
-use Rattle.sign_font.specs.declared.font.FontInfo.{FontInfo}
-use Rattle.multi_meaning.specs.Attributes.{default_font, default_line_just, default_page_just, whole_sign}
-use Rattle.multi_meaning.specs.Address.{Spot, Cover, Glyph, spots, standing}
-use Rattle.multi_meaning.specs.Meaning.{Meaning, Shows, Does, is_new_page}
-use Rattle.multi_meaning.specs.Offence.{conflicts, never_big, offence, unsized_offence}
-use Rattle.multi_meaning.specs.kept.Present.{present_area, standing_behind}
-use Rattle.multi_meaning.specs.Times.{Times, cycle, ended_times, times_at}
-use Rattle.multi_meaning.specs.Verdict.{pages_of}
-use Rattle.multi_meaning.proofs.OffenceLemmas.{offence-undefined, offence-character, offence-page, offence-rectangle}
-use Rattle.multi_meaning.proofs.StandingLemmas.{standing_push}
-use Rattle.multi_meaning.proofs.StateLemmas.{present_area-nothing, present_area-cover, present_area-new}
-use Rattle.multi_meaning.proofs.WordLemmas.{some_after_push, none_mapped}
-use Rattle.multi_meaning.proofs.UnplacedLemmas as unplaced
-use Rattle.multi_judge.specs.declared.area.Area.{Area}
-use Rattle.multi_judge.specs.declared.attributes.Attributes.{Attributes}
-use Rattle.multi_judge.specs.declared.state.Limits.{Limits}
-use Rattle.multi_judge.specs.declared.state.State.{State}
-use Rattle.multi_judge.specs.State.{IsReady, IsStateOf, attributes_of}
-use Rattle.multi_judge.specs.Sums.{IsBelow, area_sum}
-use Rattle.multi_judge.proofs.BoundLemmas.{below_more}
+use Rattle.std.proofs.lemmas.List.Sums.{sum_by_push}
+use Rattle.multi_tag.specs.declared.tag.Tag.TheVariants.{Font}
+use Rattle.sign_font.specs.Sign.{info_of, sized}
+use Rattle.multi_meaning.specs.Attributes.{default_font, default_line_just, default_page_just, whole_sign, is_inside}
+use Rattle.multi_meaning.proofs.StandingLemmas.{offence-page, offence-rectangle, offence-font, offence-no_font}
+use Rattle.multi_tag.specs.declared.tag.FontPick.{FontPick}
+use Rattle.multi_judge.specs.Sums.{IsSegmentBelow}
+use Rattle.multi_judge.specs.State.{IsSimple}
+use Rattle.multi_meaning.proofs.StandingLemmas as unplaced
+
+segment_more : (k m : ℕ) (segment : Segment) → k ≤ m → IsSegmentBelow k segment → IsSegmentBelow m segment
+segment_more k m segment h b = record { width = omega (arith, b.width); count = omega (arith, b.count) }
+
+pub line_more : (k m : ℕ) (line : Line) → k ≤ m → IsLineBelow k line → IsLineBelow m line
+line_more k m line h b = search (rules, segment_more)
+
+pub group_more : (k m : ℕ) (group : Group) → k ≤ m → IsGroupBelow k group → IsGroupBelow m group
+group_more k m group h b = record { ended = omega (arith, b.ended); closed = omega (arith, b.closed); line = line_more k m group.line h b.line }
+
+-- a line whose present segment has another width and number of characters
+pub part_below : (k width count : ℕ) (line : Line) → IsLineBelow k line → width ≤ k + 1024 → count ≤ k + 1024 → IsLineBelow (k + 1024) (lengthened_line width count line)
+part_below k width count line b wide many = record { left = omega (arith, b.left); centre = omega (arith, b.centre); right = omega (arith, b.right); part = record { width = wide; count = many }; known = b.known }
+
+-- a group with another line, whose numbers may have grown
+pub lined_below : (k : ℕ) (group : Group) (line : Line) → IsGroupBelow k group → IsLineBelow (k + 1024) line
+    → IsGroupBelow (k + 1024) (record group { line = line })
+lined_below k group line b l = record { ended = omega (arith, b.ended); closed = omega (arith, b.closed); line = l }
+
+-- what is below a bound is below a larger one
+pub below_more : (k m : ℕ) (area : Area) → k ≤ m → IsBelow k area → IsBelow m area
+below_more k m area h b = record { top = omega (arith, h, b.top); middle = omega (arith, h, b.middle); group = group_more k m area.group h b.group; known = b.known; some = b.some; bare = b.bare; empty = b.empty }
+
+-- and so are the parts of a line
+pub split_more : (k m : ℕ) (o : Option Split) → k ≤ m → IsSplitBelow k o → IsSplitBelow m o
+split_more k m None h b = b
+split_more k m (Some split) h b = (line_more k m split.before h b.0, line_more k m split.behind h b.1)
 
 -- ---- pages and times
 
@@ -116,9 +121,9 @@ pub state-limits : (sign : SignData) (items : List Meaning) (state new : State) 
 state-limits sign items state new same st = search (rules)
 
 -- a character that doesn't offend doesn't conflict
-pub no_conflict : (sign : SignData) (items : List Meaning) (number : ℕ) (cell : CellData) → cell_numbered (standing sign items).font number ≡ Some cell → unsized_offence sign items (Shows number) ≡ None
+pub shown_free : (sign : SignData) (items : List Meaning) (number : ℕ) (cell : CellData) → cell_numbered (standing sign items).font number ≡ Some cell → unsized_offence sign items (Shows number) ≡ None
     → conflicts (spots sign items) (record { at = standing sign items; put = Glyph cell }) ≡ false
-no_conflict sign items number cell found fine =
+shown_free sign items number cell found fine =
     let spot : Spot = record { at = standing sign items; put = Glyph cell } in
     unplaced.no_conflict (conflicts (spots sign items) spot) false (sym (offence-character never_big sign items number cell found) ∙ fine)
 
@@ -199,3 +204,96 @@ pub state-rectangle : (sign : SignData) (items : List Meaning) (state new : Stat
     → IsStateOf sign (items ++ Does (Rect x y w h) ∷ []) new
 state-rectangle sign items state new x y w h st pages times attributes area below =
     search (rules, below_more, present_area-new, state-same_page)
+
+-- a tag that is none of these is a simple one
+pub simple_of : (tag : Tag) → (tag ≡ NewPage → ⊥) → ((gap : Option ℕ) → tag ≡ NewLine gap → ⊥) → ((pick : Option FontPick) → tag ≡ Font pick → ⊥) → ((x y w h : ℕ) → tag ≡ Rect x y w h → ⊥) → IsSimple tag
+simple_of NewPage a b c d = a refl
+simple_of (NewLine gap) a b c d = b gap refl
+simple_of (Font pick) a b c d = c pick refl
+simple_of (Rect x y w h) a b c d = d x y w h refl
+simple_of tag a b c d = tt
+
+module _ (sign : SignData) (items : List Meaning) (state : State) (st : IsStateOf sign items state) (attributes : Attributes) where
+  abbrev pub After : Tag → Type 0
+  After tag = attributes ≡ attributes_of (standing_behind sign (standing sign items) (Does tag))
+
+  abbrev pub CheckedData : Tag → Type 0
+  CheckedData tag = (offence Off sign items (Does tag) ≡ None) × IsStateOf sign (items ++ Does tag ∷ []) (record state { attributes = attributes })
+
+  -- a simple tag: it doesn't offend, and the values in force change
+  pub judged-simple : (tag : Tag) → IsSimple tag → After tag → CheckedData tag
+  unfolding offence_by
+  judged-simple NewPage s is = absurd s
+  judged-simple (NewLine gap) s is = absurd s
+  judged-simple (Font pick) s is = absurd s
+  judged-simple (Rect x y w h) s is = absurd s
+  judged-simple tag s is = (refl, state-attribute sign items state attributes (Does tag) st refl (area_stays sign items tag refl) is st.font)
+
+  -- a font: the values in force have its numbers
+  pub judged-font : (pick : Option FontPick) (font : FontData) → (standing_behind sign (standing sign items) (Does (Font pick))).font ≡ font → font_numbered sign font.number ≡ Some font
+      → attributes ≡ record state.attributes { font = info_of font } → offence Off sign items (Does (Font pick)) ≡ None → CheckedData (Font pick)
+  judged-font pick font new own is fine =
+      let x = Does (Font pick) in
+      let after : attributes ≡ attributes_of (standing_behind sign (standing sign items) x) =
+      is ∙ ap (λ (a : Attributes). let b : Attributes = record a { font = info_of font } in b) st.attributes
+      ∙ ap (λ (f : FontData). let b : Attributes = record (attributes_of (standing sign items)) { font = info_of f } in b) (sym new) in (
+        fine,
+        state-attribute sign items state attributes x st refl (area_stays sign items (Font pick) refl) after (subst (λ (f : FontData). font_numbered sign f.number ≡ Some f) (sym new) own),
+      )
+
+-- FONTS
+
+-- the default font
+pub judged-default_font : (sign : SignData) (items : List Meaning) (state : State) (st : IsStateOf sign items state) (info : FontInfo)
+    → option_map info_of (font_numbered sign sign.defaults.font) ≡ Some info
+    → CheckedData sign items state st (record state.attributes { font = info }) (Font None)
+unfolding offence_by
+judged-default_font sign items state st info is =
+    let (font, found, same) = some_mapped info_of (font_numbered sign sign.defaults.font) info is in
+    let none : FontData = record { number = 0; version = 0; height = 0; char_spacing = 0; line_spacing = 0; cells = [] } in
+    judged-font sign items state st (record state.attributes { font = info }) None font (ap (λ o. unwrap_or o none) found) (found_again sign sign.defaults.font font found)
+    (ap (λ (i : FontInfo). let a : Attributes = record state.attributes { font = i } in a) same) refl
+
+pub judged-no_font : (sign : SignData) (items : List Meaning) (pick : FontPick) → option_map info_of (font_numbered sign pick.number) ≡ None → offence Off sign items (Does (Font (Some pick))) ≡ Some 6
+judged-no_font sign items pick none = offence-no_font (too_big Off) sign items pick (none_mapped info_of (font_numbered sign pick.number) none)
+
+-- the version that is asked for is another, where the font doesn't agree with it
+other_version : (o : Option ℕ) (n : ℕ) → option_map_or (λ v. not (v == n)) o false ≡ not (option_map_or (λ v. v == n) o true)
+other_version None n = refl
+other_version (Some v) n = refl
+
+-- a font of another version
+pub judged-version : (sign : SignData) (items : List Meaning) (pick : FontPick) (info : FontInfo) → option_map info_of (font_numbered sign pick.number) ≡ Some info
+    → option_map_or (λ v. v == info.version) pick.version true ≡ false → offence Off sign items (Does (Font (Some pick))) ≡ Some 13
+judged-version sign items pick info is differs =
+    let (font, found, same) = some_mapped info_of (font_numbered sign pick.number) info is in
+    let versions : font.version ≡ info.version = ap (λ (i : FontInfo). i.version) (sym same) in
+    let test : option_map_or (λ v. not (v == font.version)) pick.version false ≡ true =
+    ap (λ n. option_map_or (λ v. not (v == n)) pick.version false) versions ∙ other_version pick.version info.version ∙ ap not differs in
+    offence-font (too_big Off) sign items pick font found ∙ ap (λ b. cond {A = Option ℕ} b (Some 13) None) test
+
+-- the font that is asked for, in its version
+pub judged-picked : (sign : SignData) (items : List Meaning) (state : State) (st : IsStateOf sign items state) (pick : FontPick) (info : FontInfo)
+    → option_map info_of (font_numbered sign pick.number) ≡ Some info → option_map_or (λ v. v == info.version) pick.version true ≡ true
+    → CheckedData sign items state st (record state.attributes { font = info }) (Font (Some pick))
+judged-picked sign items state st pick info is agrees =
+    let (font, found, same) = some_mapped info_of (font_numbered sign pick.number) info is in
+    let versions : font.version ≡ info.version = ap (λ (i : FontInfo). i.version) (sym same) in
+    let test : option_map_or (λ v. not (v == font.version)) pick.version false ≡ false =
+    ap (λ n. option_map_or (λ v. not (v == n)) pick.version false) versions ∙ other_version pick.version info.version ∙ ap not agrees in
+    judged-font sign items state st (record state.attributes { font = info }) (Some pick) font
+    (ap (λ o. unwrap_or o (standing sign items).font) found)
+    (found_again sign pick.number font found) (ap (λ (i : FontInfo). let a : Attributes = record state.attributes { font = i } in a) same)
+    (offence-font (too_big Off) sign items pick font found ∙ ap (λ b. cond {A = Option ℕ} b (Some 13) None) test)
+
+-- RECTANGLES
+
+module _ (sign : SignData) (x y w h : ℕ) where
+  pub outside_across : (1 ≤ x → x ≤ sign.width → x - 1 + w ≤ sign.width → ⊥) → is_inside sign x y w h ≡ false
+  outside_across no_way = search (rules, cases_Bool, nat_tests)
+
+  pub outside_down : (1 ≤ y → y ≤ sign.height → y - 1 + h ≤ sign.height → ⊥) → is_inside sign x y w h ≡ false
+  outside_down no_way = search (rules, cases_Bool, nat_tests)
+
+  pub inside : 1 ≤ x → x ≤ sign.width → x - 1 + w ≤ sign.width → 1 ≤ y → y ≤ sign.height → y - 1 + h ≤ sign.height → is_inside sign x y w h ≡ true
+  inside a b c d e f = grind (arith, nat_tests)

@@ -1,29 +1,15 @@
 -- The sums of a line after one more character.
-use Rattle.std.proofs.Common.{◌≡◌, ℕ, ◌+◌, ◌<◌, ◌≤◌, max, Bool, true, false, cond, ◌&&◌, ◌||◌, ◌==◌, List, [], ◌∷◌, ◌++◌, Option, Some, None, refl, sym, ap, ◌∙◌, arith, length-append, rules}
-use Rattle.std.specs.Prelude.{nat_lt}
-use Rattle.std.specs.List.{list_any, AllPass}
-use Rattle.std.specs.Option.{unwrap_or, option_map, option_map_or}
-use Rattle.std.proofs.lemmas.Bool.{and_right, cases_eq, cases_lt, eq-eqb, false≢true, le-ltb, lt-ltb, ne_eqb, or_parts}
+use Rattle.multi_judge.proofs.Common.{◌≡◌, ℕ, ◌+◌, ◌<◌, ◌≤◌, max, Bool, true, false, cond, ◌&&◌, ◌||◌, ◌==◌, List, [], ◌∷◌, ◌++◌, Option, Some, None, refl, sym, ap, ◌∙◌, arith, rules, length, subst, nat_lt, list_any, AllPass, last_or, after_last, cons_option, All, unwrap_or, option_map, option_map_or, and_right, cases_eq, cases_lt, eq-eqb, false≢true, le-ltb, lt-ltb, ne_eqb, or_parts, All-weaker, All-head, All-tail, All-cons, list_any-append, line_number, page_number, largest, Spot, is_glyph, segment, Break, is_break, in_group, lines_of, average, char_gap, width_of, height_of, clashes, largest_most, largest_push, last_or_push, filter_none, Cut, cut, after_last_is, ended_is, cut_behind_is, each_just, filter_yes, open_glyphs, own_group, placing_group, IsPlacing, FontInfo, cut_with, Character, Segment, Line, kept_width, segment_sum, width_before, line_sum, IsCharacter, group_sum, IsBreak, Group}
+use Rattle.std.proofs.Common.{length-append}
+use Rattle.std.specs.List.{filter_map}
 use Rattle.std.proofs.lemmas.List.{append-nil}
-use Rattle.std.proofs.lemmas.List.Elements.{All-weaker, filter-append}
-use Rattle.std.proofs.lemmas.List.Folds.{list_any-append}
-use Rattle.multi_tag.specs.Just.{line_number}
-use Rattle.multi_meaning.specs.Words.{largest}
-use Rattle.multi_meaning.specs.Address.{Spot, is_glyph, segment}
-use Rattle.multi_meaning.specs.Line.{average, bearers, char_gap, width_of}
-use Rattle.multi_meaning.specs.Offence.{clashes}
-use Rattle.multi_meaning.proofs.WordLemmas.{largest_most, largest_push, last_or_push, gap_before}
-use Rattle.multi_meaning.proofs.AreaLemmas.{filter_none}
-use Rattle.multi_meaning.proofs.CheckLemmas.{any_largest}
-use Rattle.multi_meaning.proofs.HeightLemmas.{any_glyph, bearers_glyphs}
-use Rattle.multi_meaning.proofs.LinesFitLemmas.{each_just}
-use Rattle.multi_meaning.proofs.LayoutLemmas.{width_push}
-use Rattle.multi_meaning.proofs.GroupLemmas.{filter_yes}
-use Rattle.multi_judge.specs.declared.line.Character.{Character}
-use Rattle.multi_judge.specs.declared.line.Segment.{Segment}
-use Rattle.multi_judge.specs.declared.line.Line.{Line}
-use Rattle.multi_judge.specs.Run.{kept_width}
-use Rattle.multi_judge.specs.Sums.{segment_sum, width_before, line_sum, IsCharacter}
+use Rattle.std.proofs.lemmas.List.Elements.{filter-append, filter_map-append, All-append}
+use Rattle.multi_meaning.specs.Line.{bearers, line_height, line_spacing, line_gap, given_gap}
+use Rattle.multi_meaning.proofs.WordLemmas.{gap_before, any_largest, extent_push, cut_push, cut_if, part}
+use Rattle.multi_meaning.proofs.GroupLemmas.{any_glyph, bearers_glyphs, bearers_ended, bearers_empty, glyph_put}
+use Rattle.multi_meaning.proofs.StandingLemmas.{width_push}
+use Rattle.multi_judge.specs.Sums.{ended_sum}
+use Rattle.multi_judge.specs.declared.area.Ended.{Ended}
 
 -- the gap before one more character, from the spacing of the last one's font
 gap_if : (o : Option Spot) (s : Spot) → option_map_or (λ earlier. unwrap_or s.at.spacing (average earlier s.at.font.char_spacing)) (option_map (λ (t : Spot). t.at.font.char_spacing) o) 0 ≡ option_map_or (λ t. char_gap t s) o 0
@@ -149,3 +135,159 @@ in_order line s l e none = search (rules, cases_lt, false≢true, line_clashes, 
 pub no_character : (line : List Spot) (sums : Line) → AllPass is_glyph line → sums ≡ line_sum line → sums.any ≡ false → line ≡ []
 no_character [] sums glyphs e none = refl
 no_character (s ∷ line) sums glyphs e none = absurd (false≢true (sym none ∙ ap (λ (l : Line). l.any) e ∙ any_glyph s line glyphs))
+
+-- THE GAP AND THE HEIGHT OF A LINE
+
+glyph_gaps : (line : List Spot) → AllPass is_glyph line → filter_map given_gap line ≡ []
+glyph_gaps [] h = refl
+glyph_gaps (s ∷ line) h =
+    ap (λ o. cons_option o (filter_map given_gap line)) (glyph_put s.at s.put (All-head (λ x. is_glyph x ≡ true) s line h)).1
+    ∙ glyph_gaps line (All-tail (λ x. is_glyph x ≡ true) s line h)
+
+last_option : (o : Option ℕ) → last_or None (cons_option o []) ≡ o
+last_option None = refl
+last_option (Some n) = refl
+
+-- the gap of a line that an `nl` ends is the gap of its `nl`
+pub gap_of_break : (line : List Spot) (s : Spot) (gap : Option ℕ) → AllPass is_glyph line → s.put ≡ Break gap → last_or None (filter_map given_gap (line ++ s ∷ [])) ≡ gap
+gap_of_break line s gap h e =
+    ap (last_or None) (filter_map-append given_gap line (s ∷ []))
+    ∙ ap (λ l. last_or None (l ++ cons_option (given_gap s) [])) (glyph_gaps line h)
+    ∙ ap (λ p. last_or None (cons_option (given_gap (record { at = s.at; put = p })) [])) e
+    ∙ last_option gap
+
+-- a line that an `nl` ends has its height and spacing from its characters, else from the `nl`
+pub largest_break : (f : Spot → ℕ) (line : List Spot) (s : Spot) → AllPass is_glyph line → is_glyph s ≡ false → largest f (bearers (line ++ s ∷ [])) ≡ cond (list_any is_glyph line) (largest f (bearers line)) (f s)
+largest_break f [] s h n =
+    let top : max 0 (f s) ≡ f s = omega arith in
+    ap (largest f) (bearers_empty s n) ∙ top
+largest_break f (t ∷ line) s h n =
+    ap (largest f) (bearers_ended t line s h n)
+    ∙ ap (largest f) (sym (bearers_glyphs (t ∷ line) h))
+    ∙ sym (ap (λ b. cond (b || list_any is_glyph line) (largest f (bearers (t ∷ line))) (f s)) (All-head (λ x. is_glyph x ≡ true) t line h))
+
+-- THE SUMS FROM THE CUT GROUP
+
+abbrev pub sums : List (List Spot) → List Spot → Group
+sums closed open' = record { ended = length closed; closed = height_of closed; last = option_map ended_sum (last_or None closed); line = line_sum open' }
+
+abbrev pub cut_sums : Cut Spot → Group
+cut_sums c = sums c.closed c.open'
+
+pub sums_are : (group : List Spot) → group_sum group ≡ cut_sums (cut is_break group)
+sums_are group = ap (λ lines. sums lines (after_last is_break group)) (ended_is is_break group) ∙ ap (λ l. sums (cut is_break group).closed l) (after_last_is is_break group)
+
+pub sums_push : (group : List Spot) (s : Spot) (b : Bool) → is_break s ≡ b → group_sum (group ++ s ∷ []) ≡ cut_sums (cut_if is_break b (cut is_break group) s)
+sums_push group s b e = sums_are (group ++ s ∷ []) ∙ ap cut_sums (cut_push is_break group s) ∙ ap (λ b. cut_sums (cut_if is_break b (cut is_break group) s)) e
+
+pub cut_glyphs : (just : ℕ) (area : List Spot) → All IsPlacing area → AllPass is_glyph (cut is_break (in_group just area)).open'
+cut_glyphs just area h = open_glyphs (in_group just area) (placing_group just area h)
+
+-- the present line of a group is characters
+pub present_glyphs : (just : ℕ) (area : List Spot) → All IsPlacing area → AllPass is_glyph (after_last is_break (in_group just area))
+present_glyphs just area h = subst (AllPass is_glyph) (sym (after_last_is is_break (in_group just area))) (cut_glyphs just area h)
+
+-- a character stands on the present line
+pub present_push : (group : List Spot) (s : Spot) → is_glyph s ≡ true → after_last is_break (group ++ s ∷ []) ≡ after_last is_break group ++ s ∷ []
+present_push group s g = search (rules, Cut, after_last_is, cut, cut_if, cut_push, glyph_put)
+
+-- a group after one more character
+pub group_character : (just : ℕ) (area : List Spot) (s : Spot) → page_number s.at.page_just ≡ just → is_glyph s ≡ true → (group : Group) (line : Line) → group ≡ group_sum (in_group just area) → line ≡ line_sum (after_last is_break (in_group just area) ++ s ∷ [])
+    → ◌≡◌ {A = Group} (record { ended = group.ended; closed = group.closed; last = group.last; line = line }) (group_sum (in_group just (area ++ s ∷ [])))
+group_character just area s own g group line e l =
+    let before = in_group just area in
+    let c = cut is_break before in
+    ap (λ (group : Group). record { ended = group.ended; closed = group.closed; last = group.last; line = line }) (e ∙ sums_are before)
+    ∙ ap (λ (line : Line). record { ended = (cut_sums c).ended; closed = (cut_sums c).closed; last = (cut_sums c).last; line = line }) (l ∙ ap (λ l. line_sum (l ++ s ∷ [])) (after_last_is is_break before))
+    ∙ sym (sums_push before s false (glyph_put s.at s.put g).0)
+    ∙ ap group_sum (sym (own_group just area s own))
+
+-- the gap before a line, from the last ended one
+line_gap_if : (o : Option (List Spot)) (line : List Spot) → option_map_or (λ ended. unwrap_or ended.gap (average ended.spacing (line_spacing line))) (option_map ended_sum o) 0 ≡ option_map_or (λ l. line_gap l line) o 0
+line_gap_if None line = refl
+line_gap_if (Some l) line = refl
+
+pub same_group : (a b n m : ℕ) (o p : Option Ended) (l k : Line) → a ≡ b → n ≡ m → o ≡ p → l ≡ k → ◌≡◌ {A = Group} (record { ended = a; closed = n; last = o; line = l }) (record { ended = b; closed = m; last = p; line = k })
+same_group a b n m o p l k c d e f = rw (c, d, e, f) refl
+
+-- the height of the ended lines and one more, from the sums
+pub more_height : (closed : List (List Spot)) (line : List Spot) (group : Group) (gap height spacing : ℕ) → group.closed ≡ height_of closed → group.last ≡ option_map ended_sum (last_or None closed)
+    → gap ≡ option_map_or (λ ended. unwrap_or ended.gap (average ended.spacing spacing)) group.last 0 → spacing ≡ line_spacing line → height ≡ line_height line → group.closed + gap + height ≡ height_of (closed ++ line ∷ [])
+more_height closed line group gap height spacing c last g s h = search (rules, extent_push, gap_before)
+
+abbrev ended : Option ℕ → ℕ → Option Ended
+ended gap spacing = Some (record { gap = gap; spacing = spacing })
+
+-- a group after one more `nl`
+module _ (before : List Spot) (s : Spot) (given : Option ℕ) (info : FontInfo) (placing : All IsPlacing before) (is : IsBreak s given info) where
+  pub group_break : (group : Group) (line : Line) (gap height spacing : ℕ) → group ≡ group_sum before → line ≡ line_sum []
+      → gap ≡ option_map_or (λ ended. unwrap_or ended.gap (average ended.spacing spacing)) group.last 0
+      → height ≡ cond group.line.any group.line.height info.height → spacing ≡ cond group.line.any group.line.spacing info.line_spacing
+      → ◌≡◌ {A = Group} (record { ended = group.ended + 1; closed = group.closed + (gap + height); last = Some (record { gap = given; spacing = spacing }); line = line }) (group_sum (before ++ s ∷ []))
+  group_break group line gap height spacing e l g h n =
+      let c = cut is_break before in
+      let more = c.open' ++ s ∷ [] in
+      let from : group ≡ cut_sums c = e ∙ sums_are before in
+      let glyphs : AllPass is_glyph c.open' = open_glyphs before placing in
+      let is_nl : is_break s ≡ true = ap (λ p. is_break (record { at = s.at; put = p })) is.put in
+      let no_glyph : is_glyph s ≡ false = ap (λ p. is_glyph (record { at = s.at; put = p })) is.put in
+      let high : height ≡ line_height more =
+      h ∙ ap (λ (g : Group). cond g.line.any g.line.height info.height) from
+      ∙ ap (λ (f : FontInfo). cond (list_any is_glyph c.open') (line_height c.open') f.height) is.font
+      ∙ sym (largest_break (λ t. t.at.font.height) c.open' s glyphs no_glyph) in
+      let spaced : spacing ≡ line_spacing more =
+      n ∙ ap (λ (g : Group). cond g.line.any g.line.spacing info.line_spacing) from
+      ∙ ap (λ (f : FontInfo). cond (list_any is_glyph c.open') (line_spacing c.open') f.line_spacing) is.font
+      ∙ sym (largest_break (λ t. t.at.font.line_spacing) c.open' s glyphs no_glyph) in
+      let grouped : group.closed + (gap + height) ≡ group.closed + gap + height = omega arith in
+      let total : group.closed + (gap + height) ≡ height_of (c.closed ++ more ∷ []) =
+      grouped ∙ more_height c.closed more group gap height spacing (ap (λ (g : Group). g.closed) from) (ap (λ (g : Group). g.last) from) g spaced high in
+      let last : ended given spacing ≡ option_map ended_sum (last_or None (c.closed ++ more ∷ [])) =
+      ap (ended given) spaced
+      ∙ ap (λ o. ended o (line_spacing more)) (sym (gap_of_break c.open' s given glyphs is.put))
+      ∙ ap (option_map ended_sum) (sym (last_or_push None c.closed more)) in
+      let counted : group.ended + 1 ≡ length (c.closed ++ more ∷ []) = omega (arith, ap (λ (g : Group). g.ended) from, length-append c.closed (more ∷ [])) in
+      same_group (group.ended + 1) (length (c.closed ++ more ∷ [])) (group.closed + (gap + height)) (height_of (c.closed ++ more ∷ [])) (ended given spacing) (option_map ended_sum (last_or None (c.closed ++ more ∷ []))) line (line_sum []) counted total last l
+      ∙ sym (sums_push before s true is_nl)
+
+-- THE HEIGHT OF A GROUP
+
+pub part_none : (line : List Spot) → AllPass is_glyph line → list_any is_glyph line ≡ false → part is_break line ≡ []
+part_none [] h n = refl
+part_none (s ∷ line) h n = absurd (false≢true (sym n ∙ ap (λ b. b || list_any is_glyph line) (All-head (λ x. is_glyph x ≡ true) s line h)))
+
+pub part_some : (line : List Spot) → list_any is_glyph line ≡ true → part is_break line ≡ line ∷ []
+part_some [] h = absurd (false≢true h)
+part_some (s ∷ line) h = refl
+
+module _ (group : List Spot) (placing : All IsPlacing group) (sums : Group) (e : sums ≡ group_sum group) where
+  any_is : (b : Bool) → sums.line.any ≡ b → list_any is_glyph (cut is_break group).open' ≡ b
+  any_is b h = ap (λ (g : Group). g.line.any) (sym (e ∙ sums_are group)) ∙ h
+
+  -- where no character stands on the present line, the ended lines are all
+  pub height_ended : sums.line.any ≡ false → sums.closed ≡ height_of (lines_of group)
+  height_ended h =
+      let c = cut is_break group in
+      ap (λ (g : Group). g.closed) (e ∙ sums_are group)
+      ∙ ap height_of (sym (append-nil c.closed) ∙ ap (λ l. c.closed ++ l) (sym (part_none c.open' (open_glyphs group placing) (any_is false h))) ∙ sym (cut_behind_is is_break group))
+
+  -- else the present line is one more
+  pub height_present : sums.line.any ≡ true → (gap height : ℕ) → gap ≡ option_map_or (λ ended. unwrap_or ended.gap (average ended.spacing sums.line.spacing)) sums.last 0 → height ≡ sums.line.height
+      → sums.closed + gap + height ≡ height_of (lines_of group)
+  height_present h gap height g n =
+      let c = cut is_break group in
+      let from : sums ≡ cut_sums c = e ∙ sums_are group in
+      more_height c.closed c.open' sums gap height sums.line.spacing (ap (λ (g : Group). g.closed) from) (ap (λ (g : Group). g.last) from) g (ap (λ (g : Group). g.line.spacing) from) (n ∙ ap (λ (g : Group). g.line.height) from)
+      ∙ ap height_of (ap (λ l. c.closed ++ l) (sym (part_some c.open' (any_is true h))) ∙ sym (cut_behind_is is_break group))
+
+-- characters, a character and characters are characters
+pub all_glyphs : (before : List Spot) (x : Spot) (behind : List Spot) → AllPass is_glyph before → is_glyph x ≡ true → AllPass is_glyph behind → AllPass is_glyph (before ++ x ∷ behind)
+all_glyphs before x behind h e k = All-append (λ x. is_glyph x ≡ true) before (x ∷ behind) h (All-cons (λ x. is_glyph x ≡ true) x behind e k)
+
+-- nothing stands behind what ends a line
+pub none_behind : (group : List Spot) (b : Spot) → is_break b ≡ true → after_last is_break (group ++ b ∷ []) ≡ []
+none_behind group b e = first_of (search (rules, Cut, after_last_is, cut, cut_if, cut_push), grind (arith, Cut, after_last_is, cut, cut_if, cut_push))
+
+-- a group whose present line is empty, with characters behind it
+pub relined : (front line : List Spot) → after_last is_break front ≡ [] → AllPass is_glyph line → ◌≡◌ {A = Group} (record (group_sum front) { line = line_sum line }) (group_sum (front ++ line))
+relined front line none glyphs = search (rules, Cut, after_last_is, cut, cut_sums, cut_with, sums_are)

@@ -1,31 +1,13 @@
 -- What a placing item makes of the state, from what the sums of the present area answer.
-use Rattle.std.proofs.Common.{◌≡◌, ℕ, ◌+◌, ◌*◌, ◌≤◌, inl, inr, Bool, true, false, cond, not, List, [], ◌∷◌, ◌++◌, length, Option, Some, None, refl, sym, ap, ◌∙◌}
-use Rattle.std.specs.List.{All, after_last, list_any}
-use Rattle.std.specs.Option.{option_map}
-use Rattle.std.proofs.lemmas.Bool.{false≢true}
+use Rattle.multi_judge.proofs.Common.{◌≡◌, ℕ, ◌+◌, ◌*◌, ◌≤◌, inl, inr, Bool, true, false, cond, not, List, [], ◌∷◌, ◌++◌, length, Option, Some, None, refl, sym, ap, ◌∙◌, arith, append-nil, rules, subst, All, after_last, list_any, option_map, unwrap_or, false≢true, none_more, NewLine, NewPage, Back, Rect, page_number, Off, too_big, SizedCell, CellData, SignData, cell_in, cell_numbered, Break, Glyph, Spot, area_of, in_group, is_break, is_glyph, spots, standing, Cover, Meaning, Shows, Does, clashes, conflicts, never_big, offence, offence_by, unsized_offence, present_area, IsPlacing, ended_lines, area_placing, in_group_other, own_group, ended_break, ended_glyph, offence-break, offence-character, offence-undefined, present_area-placing, no_conflict, present_area-nothing, present_area-cover, Tag, unsized_if, Area, Attributes, Character, State, IsStateOf, IsLimited, IsUnfilledOf, IsBelow, IsBreak, IsCharacter, area_sum, line_sum, Line, EndsLine, Pass}
 use Rattle.multi_meaning.proofs.WordLemmas.{cases_Option}
-use Rattle.multi_tag.specs.declared.tag.Tag.TheVariants.{NewLine}
-use Rattle.multi_tag.specs.Just.{page_number}
-use Rattle.sign_font.specs.declared.parts.LineFill.TheVariants.{Off}
-use Rattle.multi_meaning.specs.Laid.{too_big}
-use Rattle.sign_font.specs.Cell.{SizedCell}
-use Rattle.sign_font.specs.Sign.{CellData, SignData, cell_in, cell_numbered}
-use Rattle.multi_meaning.specs.Address.{Break, Glyph, Put, Spot, area_of, in_group, is_break, is_glyph, spots, standing}
-use Rattle.multi_meaning.specs.Meaning.{Meaning, Shows, Does, has_place}
-use Rattle.multi_meaning.specs.Offence.{clashes, conflicts, never_big, offence, offence_by, unsized_offence}
-use Rattle.multi_meaning.specs.kept.Present.{present_area, IsPlacing}
-use Rattle.multi_meaning.proofs.GroupLemmas.{area_placing}
-use Rattle.multi_meaning.proofs.OffenceLemmas.{offence-break, offence-character, offence-undefined}
-use Rattle.multi_meaning.proofs.StateLemmas.{present_area-placing}
-use Rattle.multi_meaning.proofs.UnplacedLemmas.{no_conflict}
-use Rattle.multi_judge.specs.declared.area.Area.{Area}
-use Rattle.multi_judge.specs.declared.attributes.Attributes.{Attributes}
-use Rattle.multi_judge.specs.declared.line.Character.{Character}
-use Rattle.multi_judge.specs.declared.state.State.{State}
-use Rattle.multi_judge.specs.State.{IsStateOf}
-use Rattle.multi_judge.specs.Sums.{IsBelow, IsBreak, IsCharacter, area_sum}
-use Rattle.multi_judge.proofs.AreaSumLemmas.{no_back, no_clash}
+use Rattle.multi_meaning.specs.Address.{Put}
+use Rattle.multi_meaning.specs.Meaning.{has_place, begins_area}
+use Rattle.multi_meaning.proofs.LaidItemLemmas.{laid_plain}
+use Rattle.multi_judge.proofs.AreaSumLemmas.{no_back, no_clash, present_behind}
 use Rattle.multi_judge.proofs.JudgedLemmas.{cell_found, state-same_page}
+use Rattle.multi_judge.specs.KnownItem.{ends_line}
+use Rattle.multi_judge.specs.Passed.{IsItemPassed}
 
 -- an item with a place: a character with its cell, or the end of a line with the gap that it gives
 pub data Placed : Type 0 where
@@ -161,3 +143,85 @@ module _ (sign : SignData) (items : List Meaning) (state : State) (st : IsStateO
       → ((before : List Spot) (s : Spot) → state.area ≡ area_sum (area_of s before) → is_glyph s ≡ false → s.at.page_just ≡ state.attributes.page_just → r ≡ conflicts before s)
       → unsized_offence sign items (Does (NewLine gap)) ≡ None → r ≡ false
   break-free gap r answer fine = answer (spots sign items) (spot_of sign items (line_end gap)) st.area refl page_here ∙ placed_free sign items (line_end gap) tt fine
+
+pub ends_placed : (x : Meaning) → ends_line x ≡ true → has_place x ≡ true
+ends_placed (Does (NewLine gap)) e = refl
+ends_placed x e = absurd (false≢true e)
+
+-- each tag but `nl` ends none
+pub ends_not : (tag : Tag) → ((gap : Option ℕ) → tag ≡ NewLine gap → ⊥) → ends_line (Does tag) ≡ false
+ends_not (NewLine gap) other = absurd (other gap refl)
+ends_not _ other = refl
+
+module _ (sign : SignData) (items : List Meaning) (state : State) (st : IsStateOf sign items state) where
+  -- an item with a place that doesn't offend isn't before the present group
+  pub order : (x : Meaning) → unsized_offence sign items x ≡ None → has_place x ≡ true → state.area.present ≤ page_number state.attributes.page_just
+  order x fine place = first_of (search (rules, placed_free, placed_of, placed_order), grind (arith, placed_free, placed_of, placed_order))
+
+  -- so one more joins the group in force, which is then the present one, and ends this line, or none, and the others stay
+  abbrev Joins : Meaning → State → Option Line → Type 0
+  Joins x after ended =
+      let page = page_number state.attributes.page_just in
+      let old = present_area sign items in
+      let new = present_area sign (items ++ x ∷ []) in
+      (after.area.present ≡ page) × (state.area.present ≤ page) × ((just : ℕ) → (just ≡ page → ⊥) → in_group just new ≡ in_group just old) × EndsLine (in_group page old) (in_group page new) ended
+
+  joins : (p : Placed) → IsFound sign items p → state.area.present ≤ page_number state.attributes.page_just → (after : State) → IsStateOf sign (items ++ item_of p ∷ []) after → (ended : Option Line)
+      → (in_group (page_number state.attributes.page_just) (present_area sign (items ++ item_of p ∷ [])) ≡ in_group (page_number state.attributes.page_just) (present_area sign items) ++ spot_of sign items p ∷ []
+      → EndsLine (in_group (page_number state.attributes.page_just) (present_area sign items)) (in_group (page_number state.attributes.page_just) (present_area sign (items ++ item_of p ∷ []))) ended)
+      → Joins (item_of p) after ended
+  joins p found on after st' ended ends =
+      let area = present_area sign items in
+      let page = page_number state.attributes.page_just in
+      let spot = spot_of sign items p in
+      let grown = placed_area sign items p found in
+      let at = ap page_number (page_here sign items state st) in (
+        present_behind area spot state.area after.area st.area (st'.area ∙ ap area_sum grown) (omega (arith, at, on)) ∙ at,
+        on,
+        λ just other. ap (in_group just) grown ∙ in_group_other just area spot (λ h. other (sym h ∙ at)),
+        ends (ap (in_group page) grown ∙ own_group page area spot at),
+      )
+
+  -- a character ends none
+  pub glyph_joins : (number : ℕ) → unsized_offence sign items (Shows number) ≡ None → (after : State) → IsStateOf sign (items ++ Shows number ∷ []) after → Joins (Shows number) after None
+  glyph_joins number fine after st' = elim (cases_Option (cell_numbered (standing sign items).font number)) [
+    | inl none ↦ let wrong : ◌≡◌ {A = Option ℕ} (Some 7) None = sym (offence-undefined never_big sign items number none) ∙ fine in absurd cc
+    | inr some ↦
+        let p = shown number some.0 in
+        joins p some.1 (order (Shows number) fine refl) after st' None
+        (λ own. ap ended_lines own ∙ ended_glyph (in_group (page_number state.attributes.page_just) (present_area sign items)) (spot_of sign items p) refl)
+  ]
+
+  -- an `nl` ends the open line
+  pub break_joins : (x : Meaning) → ends_line x ≡ true → unsized_offence sign items x ≡ None → (after : State) → IsStateOf sign (items ++ x ∷ []) after
+      → (line : Line) → line ≡ line_sum (after_last is_break (in_group (page_number state.attributes.page_just) (present_area sign items))) → Joins x after (Some line)
+  break_joins (Does (NewLine gap)) ends fine after st' line is =
+      let group = in_group (page_number state.attributes.page_just) (present_area sign items) in
+      let spot = spot_of sign items (line_end gap) in
+      joins (line_end gap) tt (order (Does (NewLine gap)) fine refl) after st' (Some line)
+      (λ own. (after_last is_break group, spot, is, ([], sym (append-nil (after_last is_break group))), refl, ap ended_lines own ∙ ended_break group spot refl))
+  break_joins x ends fine after st' line is = absurd (false≢true ends)
+
+  -- a tag that begins no area and ends no line leaves the area
+  pub area_stays : (tag : Tag) → begins_area (Does tag) ≡ false → ends_line (Does tag) ≡ false → (has_place (Does tag) ≡ false) × (present_area sign (items ++ Does tag ∷ []) ≡ present_area sign items)
+  area_stays NewPage stays open' = absurd (false≢true (sym stays))
+  area_stays (NewLine gap) stays open' = absurd (false≢true (sym open'))
+  area_stays (Rect x y w h) stays open' = absurd (false≢true (sym stays))
+  area_stays (Back colour) stays open' = (refl, present_area-cover sign items (Does (Back colour)) (Cover (standing sign items).page (unwrap_or colour sign.defaults.back)) refl refl refl)
+  area_stays tag stays open' = (refl, present_area-nothing sign items (Does tag) refl refl)
+
+-- a character joins the group in force where lines aren't filled
+pub plain_passed : (sign : SignData) (items : List Meaning) (old new : Pass) → IsUnfilledOf sign old.state items → (number : ℕ) → offence sign.line_fill sign items (Shows number) ≡ None
+    → IsStateOf sign (items ++ Shows number ∷ []) new.state → IsLimited new.state → IsItemPassed false sign items (Shows number) (page_number old.state.attributes.page_just) old new None
+plain_passed sign items old new of number fine st limited =
+    let fine' = subst (λ setting. offence setting sign items (Shows number) ≡ None) of.off fine in
+    let (present, order, others, own) = glyph_joins sign items old.state of.state_is number (unsized_if Off sign items (Shows number) fine' true refl) new.state st in
+    let same = laid_plain sign items in
+    let same' = laid_plain sign (items ++ Shows number ∷ []) in
+    record {
+      of = record { off = of.off; fine = none_more (offence Off sign) items (Shows number) of.fine fine'; state_is = st; limited = limited };
+      present = present;
+      order = order;
+      others = λ just other. ap (λ l. in_group just (present_area sign l)) same' ∙ others just other ∙ ap (λ l. in_group just (present_area sign l)) (sym same);
+      own = ap (λ l. ended_lines (in_group (page_number old.state.attributes.page_just) (present_area sign l))) same' ∙ own ∙ ap (λ l. ended_lines (in_group (page_number old.state.attributes.page_just) (present_area sign l))) (sym same);
+    }

@@ -1,29 +1,149 @@
--- The verdict, from the items read so far and their state.
-use Rattle.std.proofs.Common.{◌≡◌, ℕ, ◌+◌, ◌^◌, ◌<◌, ◌≤◌, List, [], ◌∷◌, ◌++◌, length, drop, map, slice_get, inl, inr, Some, None, refl, sym, ap, subst, ◌∙◌, arith, append_assoc, append-nil, rules}
-use Rattle.std.specs.List.{All}
-use Rattle.std.proofs.lemmas.Bool.{cases_lt}
+-- What is kept behind one more character, where lines are filled.
+use Rattle.multi_judge.proofs.Common.{◌≡◌, ℕ, ◌+◌, ◌*◌, ◌≤◌, Bool, true, false, ◌==◌, inl, inr, List, [], ◌∷◌, ◌++◌, length, Option, Some, None, refl, sym, ap, subst, ◌∙◌, arith, append-nil, rules, ◌^◌, ◌<◌, drop, map, slice_get, append_assoc, Result, Ok, Err, not, after_last, list_any, All, option_map, and_parts, cases_eq, eq-eqb, eqb-true, false≢true, cases_lt, ne_eqb, length-append, length-drop, All-push, All-nil, sum_by-append, page_number, LineFill, Words, Off, SizedCell, SignData, CellData, cell_in, cell_numbered, Glyph, Spot, Standing, group_of, in_group, is_break, spots, standing, filled, area_fits, line_fits, laid_item, laid_items, Meaning, Shows, meaning, clashes, conflicts, first_code, offence, unsized_offence, present_area, in_group_other, own_group, are_laid, standing_push, present_area-placing, each_after_length, none_more, Token, IsTokenOf, cycle, ended_times, pages_of, SyntaxError, some_after, Area, Attributes, Split, Pass, Character, Order, Limits, Line, IsFilledPut, IsFilledFor, IsFilledOf, IsFilledReady, EndsLine, IsSplitBelow, order_sum, split_sum, is_within, IsLimited, IsReady, IsStateOf, IsUnfilledOf, attributes_of, IsJudged, IsBelow, IsCharacter, area_sum, State, ReadSoFar, IsItemJudged, IsPassOf}
+use Rattle.std.proofs.lemmas.List.{drop_all, map-append}
 use Rattle.std.proofs.lemmas.Option.{slice_get-get_or}
-use Rattle.std.proofs.lemmas.List.{length-append, length-drop, drop_all, map-append}
 use Rattle.std.proofs.lemmas.List.Concat.{flat_map-append}
-use Rattle.std.proofs.lemmas.List.Elements.{All-push, All-nil}
-use Rattle.std.proofs.lemmas.List.Sums.{sum_by-append}
-use Rattle.multi_token.specs.declared.token.Token.{Token}
+use Rattle.std.specs.Prelude.{OnOk}
+use Rattle.multi_meaning.specs.Address.{put_at}
+use Rattle.multi_meaning.proofs.GroupLemmas.{spaces_is}
 use Rattle.multi_token.specs.Spelling.{Item, IsItem, spelling, spell, HasNoItem, IsReading}
-use Rattle.multi_token.specs.Tokens.{IsTokenOf, item_of}
+use Rattle.multi_token.specs.Tokens.{item_of}
 use Rattle.multi_token.proofs.ReadingLemmas.{none_found, spelling_some}
-use Rattle.sign_font.specs.declared.parts.LineFill.TheVariants.{Off}
-use Rattle.sign_font.specs.Sign.{SignData}
-use Rattle.multi_meaning.specs.Address.{standing}
-use Rattle.multi_meaning.specs.Meaning.{Meaning, meaning}
-use Rattle.multi_meaning.specs.Offence.{offence}
-use Rattle.multi_meaning.specs.Times.{cycle, ended_times, page_times}
-use Rattle.multi_meaning.specs.Verdict.{Accepted, IsCycle, IsVerdict, Refused, broken, of_first, pages_of, verdict, verdict_on}
+use Rattle.multi_meaning.specs.Times.{page_times}
+use Rattle.multi_meaning.specs.Verdict.{Accepted, IsCycle, IsVerdict, Refused, broken, of_first, verdict, verdict_on}
 use Rattle.multi_meaning.proofs.VerdictLemmas.{item_refused, length-meanings, offences_push, one_verdict}
-use Rattle.multi_meaning.proofs.WordLemmas.{none_more}
-use Rattle.multi_judge.specs.declared.state.State.{State}
-use Rattle.multi_judge.specs.Judging.{ReadSoFar}
-use Rattle.multi_judge.specs.State.{IsLimited, IsReady, IsStateOf, IsUnfilledOf, attributes_of}
-use Rattle.multi_judge.proofs.JudgedLemmas.{ready}
+use Rattle.multi_meaning.specs.Codes.{code_of}
+use Rattle.multi_judge.proofs.AreaSumLemmas.{both_fit, group_behind, no_back, no_clash}
+use Rattle.multi_judge.proofs.FilledStateLemmas.{area_with, doesn't_fit, goes_behind, offends_by, offends_without, present_is, shown, filled_state, pages_at, same_times}
+use Rattle.multi_judge.proofs.FilledJudgedLemmas.{Fills, attributes_here, filled_grown, filled_size, found_here, shown_character, filled_of, filled_undefined}
+use Rattle.multi_judge.proofs.LineSumLemmas.{present_push}
+use Rattle.multi_judge.proofs.JudgedLemmas.{shown_free, ready, split_more, judged-undefined}
+use Rattle.multi_judge.specs.PassState.{IsPassReady, fill_of}
+
+none_of_both : (a b : Bool) → first_code ((a, 11) ∷ (b, 5) ∷ []) ≡ None → (a ≡ false) × (b ≡ false)
+none_of_both true b e = cc
+none_of_both false true e = cc
+none_of_both false false e = (refl, refl)
+
+-- as many items are laid out as there are
+pub laid_count : (sign : SignData) (items : List Meaning) → length (laid_items Words sign items items) ≡ length items
+laid_count sign items = each_after_length (laid_item Words sign items) items
+
+module _ (sign : SignData) (items : List Meaning) (number : ℕ) (cell : CellData) (found : cell_numbered (standing sign items).font number ≡ Some cell) where
+  abbrev s : Spot
+  s = shown sign items number cell found
+
+  abbrev more : List Meaning
+  more = items ++ Shows number ∷ []
+
+  -- the characters of its area with it
+  present_more : present_area sign more ≡ present_area sign items ++ s ∷ []
+  present_more = first_of (search (rules, present_area-placing), grind (arith, present_area-placing))
+
+  -- its group grows by it, and the others stay
+  own : in_group (page_number s.at.page_just) (present_area sign more) ≡ group_of s (spots sign items) ++ s ∷ []
+  own = ap (in_group (page_number s.at.page_just)) present_more ∙ own_group (page_number s.at.page_just) (present_area sign items) s refl
+
+  other : (j : ℕ) → (page_number s.at.page_just ≡ j → ⊥) → in_group j (present_area sign more) ≡ in_group j (present_area sign items)
+  other j apart = ap (in_group j) present_more ∙ in_group_other j (present_area sign items) s apart
+
+  width_more : (standing sign more).rectangle.width ≡ s.at.rectangle.width
+  width_more = ap (λ (t : Standing). t.rectangle.width) (standing_push sign items (Shows number))
+
+  module _ (kept : Pass) (of : IsFilledOf sign items kept) (apart : conflicts (spots sign items) (shown sign items number cell found) ≡ false) where
+    back : kept.state.area.present ≤ page_number s.at.page_just
+    back = no_back (spots sign items) s (page_number s.at.page_just) kept.state.area.present refl (present_is sign items number cell found kept.state of.state_is) apart
+
+    -- the order of the characters since the hard break
+    pub order_with : (goes_on : Bool) → goes_on ≡ (page_number kept.state.attributes.page_just == kept.state.area.present) → kept.state.attributes.page_just ≡ s.at.page_just
+        → (character : Character) → IsCharacter s character → (order' : Order)
+        → ((line : List Spot) (s : Spot) → s.at.line_just ≡ character.just → list_any (clashes s) line ≡ false
+        → (goes_on ≡ true → kept.order ≡ order_sum line) → (goes_on ≡ false → line ≡ []) → order' ≡ order_sum (line ++ s ∷ []))
+        → order' ≡ order_sum (after_last is_break (in_group (page_number s.at.page_just) (present_area sign more)))
+    order_with goes_on goes at character is order' sum =
+        let all = spots sign items in
+        let just = page_number s.at.page_just in
+        let line = after_last is_break (group_of s all) in
+        sum line s (sym is.just) (no_clash all s just refl refl apart)
+        (λ e. of.order_is ∙ ap (λ j. order_sum (after_last is_break (in_group j (present_area sign items)))) (sym (eqb-true (page_number kept.state.attributes.page_just) kept.state.area.present (sym goes ∙ e)) ∙ ap page_number at))
+        (λ e. ap (after_last is_break) (group_behind just (present_area sign items) (elim (cases_eq (page_number kept.state.attributes.page_just) kept.state.area.present) [
+          | inl same ↦ absurd (false≢true (sym e ∙ goes ∙ eq-eqb (page_number kept.state.attributes.page_just) kept.state.area.present same))
+          | inr differ ↦ omega (arith, back, ap page_number at, differ, present_is sign items number cell found kept.state of.state_is)
+        ])))
+        ∙ ap order_sum (sym (present_push (group_of s all) s refl) ∙ ap (after_last is_break) (sym own))
+
+    -- what is kept is that of the items with it
+    pub kept_with : (area' : Area) (limits' : Limits) (split' : Option Split) (order' : Order) → area' ≡ area_sum (area_with sign items number cell found)
+        → split' ≡ split_sum (after_last is_break (filled (Some s.at.rectangle.width) (group_of s (spots sign items) ++ s ∷ [])))
+        → order' ≡ order_sum (after_last is_break (in_group (page_number s.at.page_just) (present_area sign more)))
+        → IsBelow (1024 * length items + 1024) area' → IsSplitBelow (1024 * length items + 1024) split'
+        → line_fits s.at.rectangle.width (after_last is_break (filled (Some s.at.rectangle.width) (group_of s (spots sign items) ++ s ∷ []))) ≡ true
+        → area_fits s.at.rectangle.height (area_with sign items number cell found) ≡ true → IsLimited (record kept.state { area = area'; limits = limits' })
+        → IsFilledOf sign more (record { state = record kept.state { area = area'; limits = limits' }; split = split'; order = order' })
+    kept_with area' limits' split' order' area split order below split_below fits high limited =
+        let present : area'.present ≡ page_number s.at.page_just = ap (λ (a : Area). a.present) area ∙ (goes_behind sign items number cell found apart).last in
+        let count : 1024 * length more ≡ 1024 * length items + 1024 = omega (arith, length-append items (Shows number ∷ [])) in
+        let laid : 1024 * length (laid_items Words sign more more) ≡ 1024 * length items + 1024 = ap (λ n. 1024 * n) (laid_count sign more) ∙ count in
+        filled_of sign items more kept (record { state = record kept.state { area = area'; limits = limits' }; split = split'; order = order' }) of
+        (filled_state Words sign items number cell found kept.state area' limits' of.state_is area (subst (λ n. IsBelow n area') (sym laid) below)) limited
+        (ap (λ (t : Standing). area_fits t.rectangle.height (area_with sign items number cell found)) ((are_laid Words sign more more [] (sym (append-nil more))).0 ∙ standing_push sign items (Shows number)) ∙ high)
+        (subst (λ n. IsSplitBelow n split') (sym count) split_below) width_more (page_number s.at.page_just) present other (group_of s (spots sign items) ++ s ∷ []) own split
+        (order ∙ ap (λ l. order_sum (after_last is_break l)) own) fits
+
+-- a character that doesn't offend isn't before the present group
+module _ (sign : SignData) (items : List Meaning) (kept : Pass) (of : IsFilledOf sign items kept) (number : ℕ) (fine : offence Words sign items (Shows number) ≡ None) where
+  on_by : (o : Option CellData) → cell_numbered (standing sign items).font number ≡ o → kept.state.area.present ≤ page_number kept.state.attributes.page_just
+  on_by None found = let wrong : ◌≡◌ {A = Option ℕ} (Some 7) None = sym (offends_without sign items number found) ∙ fine in absurd cc
+  on_by (Some cell) found =
+      let at = ap (λ (a : Attributes). page_number a.page_just) (attributes_here sign items kept of) in
+      let apart = (none_of_both (conflicts (spots sign items) (shown sign items number cell found)) (doesn't_fit sign items number cell found) (sym (offends_by sign items number cell found) ∙ fine)).0 in
+      omega (arith, at, back sign items number cell found kept of apart)
+
+  pub goes_on : kept.state.area.present ≤ page_number kept.state.attributes.page_just
+  goes_on = on_by (cell_numbered (standing sign items).font number) refl
+
+-- a character is put whose cell was found and which doesn't offend by more than its size
+module _ (sign : SignData) (items : List Meaning) (kept : Pass) (is : IsFilledFor sign kept items) (number : ℕ) (c : SizedCell) (some : cell_in sign kept.state.attributes.font.number number ≡ Some c)
+    (fine : unsized_offence sign items (Shows number) ≡ None) (goes_on : Bool) (goes : goes_on ≡ (page_number kept.state.attributes.page_just == kept.state.area.present))
+    (character : Character) (just : character.just ≡ kept.state.attributes.line_just) (spacing : character.spacing ≡ kept.state.attributes.spacing) (wide : character.width ≡ c.width)
+    (font : character.font ≡ kept.state.attributes.font) (area' : Area) (split' : Option Split) (ended : Option Line)
+    (fills : (cell : CellData) (found : cell_numbered (standing sign items).font number ≡ Some cell) → Fills sign items kept is.of number c some character (number == 32) area' split' ended (page_number kept.state.attributes.page_just) kept.state.attributes.rectangle.width)
+    (limits' : Limits) (limited : IsLimited (record kept.state { area = area'; limits = limits' }))
+    (order' : Order) (sum : (line : List Spot) (s : Spot) → s.at.line_just ≡ character.just → list_any (clashes s) line ≡ false
+    → (goes_on ≡ true → kept.order ≡ order_sum line) → (goes_on ≡ false → line ≡ []) → order' ≡ order_sum (line ++ s ∷ []))
+    (below : IsBelow (1024 * length items + 1024) area') (split_below : IsSplitBelow (1024 * length items + 1024) split') where
+  pub filled_put : IsFilledPut sign items number kept (record { state = record kept.state { area = area'; limits = limits' }; split = split'; order = order' }) (is_within (record kept.state { area = area'; limits = limits' })) ended
+  filled_put =
+      let of = is.of in
+      let (cell, found, width) = found_here sign items kept of number c some in
+      let s : Spot = shown sign items number cell found in
+      let w = s.at.rectangle.width in
+      let group = group_of s (spots sign items) in
+      let at = ap (λ (a : Attributes). a.page_just) (attributes_here sign items kept of) in
+      let page = ap page_number at in
+      let apart = shown_free sign items number cell found fine in
+      let is' = shown_character sign items kept of number c some cell found width character just spacing wide font in
+      let space = spaces_is sign items number cell found in
+      let (area, split, line_ended, before) = filled_grown sign items kept of number c some cell found apart character is' (number == 32) space area' split' ended (fills cell found) in
+      let on = goes_behind sign items number cell found apart in
+      let new = area_with sign items number cell found in
+      let (told, size) = filled_size sign items kept of number c some cell found apart character is' (number == 32) space area' split' ended (fills cell found) limits' (1024 * length items + 1024) below limited in
+      record {
+        size = ap (λ (setting : LineFill). offence setting sign items (Shows number)) is.words ∙ size;
+        passed = λ both.
+            let (wide_fits, high_fits) = and_parts (line_fits w (after_last is_break (in_group (page_number s.at.page_just) new))) (area_fits s.at.rectangle.height new)
+            (both_fit (line_fits w (after_last is_break (in_group (page_number s.at.page_just) new))) (area_fits s.at.rectangle.height new) ∙ sym told ∙ both) in
+            let line_fits' = ap (λ l. line_fits w (after_last is_break l)) (sym on.after) ∙ wide_fits in
+            let order = order_with sign items number cell found kept of apart goes_on goes at character is' order' sum in
+            record {
+              of = record { words = is.words; of = kept_with sign items number cell found kept of apart area' limits' split' order' area split order below split_below line_fits' high_fits limited };
+              present = ap (λ (a : Area). a.present) area ∙ on.last ∙ sym page;
+              order = omega (arith, page, back sign items number cell found kept of apart);
+              others = λ j other. on.others j (λ e. other (e ∙ sym page));
+              own = subst (λ j. EndsLine (in_group j (present_area sign (laid_items Words sign items items))) (in_group j new) ended) (sym page)
+                  (subst (λ l. EndsLine l (in_group (page_number s.at.page_just) new) ended) (sym on.before) (subst (λ l. EndsLine (filled (Some w) group) l ended) (sym on.after) line_ended));
+            };
+      }
 
 -- where no octet stands is the end
 pub at_end : (octets : List ℕ) (at : ℕ) → at ≤ length octets → slice_get octets at ≡ None → length octets ≡ at
@@ -101,3 +221,70 @@ module _ (sign : SignData) (octets : List ℕ) (at : ℕ) (state : State) (r : R
         read_more sign octets at (IsUnfilledOf sign state) r t here stands (IsUnfilledOf sign new)
         (subst (λ setting. offence setting sign (map meaning r.items) (meaning (item_of octets t)) ≡ None) (sym r.is.off) fine)
         (record { off = r.is.off; fine = none_more (offence Off sign) (map meaning r.items) (meaning (item_of octets t)) r.is.fine fine; state_is = st; limited = limited })
+
+module _ (sign : SignData) (items : List Meaning) (kept : Pass) (of : IsFilledOf sign items kept) where
+  -- what is kept of few items is small enough
+  pub filled_ready : length items ≤ 2 ^ 32 → IsFilledReady kept
+  filled_ready few = search (rules, laid_count, ready, split_more)
+
+  -- it has their pages and times
+  pub kept_pages : kept.state.pages ≡ pages_of items
+  kept_pages = of.state_is.pages ∙ pages_at sign (laid_items Words sign items items) items (ap (λ (s : Standing). s.page) (are_laid Words sign items items [] (sym (append-nil items))).0)
+
+  pub kept_times : kept.state.cycle ≡ cycle (ended_times sign items)
+  kept_times = of.state_is.times ∙ ap cycle (same_times Words sign items items [] (sym (append-nil items)))
+
+module _ (sign : SignData) (octets : List ℕ) (at : ℕ) (kept : Pass) (r : ReadSoFar sign octets at (IsFilledFor sign kept)) where
+  pub filled_ready_here : length octets < 2 ^ 32 → IsFilledReady kept
+  filled_ready_here short = filled_ready sign (map meaning r.items) kept r.is.of (few_here sign octets at (IsFilledFor sign kept) r short)
+
+-- whether lines are filled, as a number that isn't 0
+pub is_true : (n : ℕ) → (n ≡ 0 → ⊥) → not (n == 0) ≡ true
+is_true n other = ap not (ne_eqb n 0 other)
+
+pub is_false : (n : ℕ) → n ≡ 0 → not (n == 0) ≡ false
+is_false n none = ap not (eq-eqb n 0 none)
+
+-- an item that is judged where lines aren't filled
+pub judged_unfilled : (sign : SignData) (items : List Meaning) (item : Meaning) (result : Result (Unit {0}) SyntaxError) (pass : Pass) → sign.line_fill ≡ Off → some_after (offence Off sign) items ≡ [] → IsLimited pass.state
+    → IsJudged sign items item result pass.state
+    → IsItemJudged false sign items item result pass
+judged_unfilled sign items item (Ok done) pass off none limited (fine, st) =
+    (subst (λ (setting : LineFill). offence setting sign items item ≡ None) (sym off) fine, record { off = off; fine = none_more (offence Off sign) items item none fine; state_is = st; limited = limited })
+judged_unfilled sign items item (Err error) pass off none limited offends = subst (λ (setting : LineFill). offence setting sign items item ≡ Some (code_of error)) (sym off) offends
+
+-- and the state behind one that doesn't offend
+pub state_judged : (sign : SignData) (items : List Meaning) (item : Meaning) (result : Result (Unit {0}) SyntaxError) (state : State) → IsJudged sign items item result state → offence Off sign items item ≡ None → IsStateOf sign (items ++ item ∷ []) state
+state_judged sign items item (Ok done) state (fine, st) none = st
+state_judged sign items item (Err error) state offends none = let wrong : Some (code_of error) ≡ None = sym offends ∙ none in absurd (cc)
+
+-- and what is known if it doesn't
+pub known_judged : (sign : SignData) (items : List Meaning) (item : Meaning) (result : Result (Unit {0}) SyntaxError) (state : State) (P : Type 0) → OnOk result P → IsJudged sign items item result state → offence Off sign items item ≡ None → P
+known_judged sign items item (Ok done) state P p judged none = p
+known_judged sign items item (Err error) state P p offends none = let wrong : Some (code_of error) ≡ None = sym offends ∙ none in absurd (cc)
+
+-- before the first item
+pub pass_start : (sign : SignData) (pass : Pass) (words : Bool) → sign.line_fill ≡ fill_of words → IsStateOf sign [] pass.state → IsLimited pass.state
+    → (IsStateOf sign (laid_items Words sign [] []) pass.state → present_area sign [] ≡ [] → IsFilledOf sign [] pass) → IsPassOf words sign pass []
+unfolding spots
+pass_start sign pass true is st limited filled = record { words = is; of = filled st refl }
+pass_start sign pass false is st limited filled = record { off = is; fine = refl; state_is = st; limited = limited }
+
+-- a character without a cell
+pub pass_undefined : (sign : SignData) (items : List Meaning) (pass : Pass) (words : Bool) → IsPassOf words sign pass items → (number : ℕ) → cell_in sign pass.state.attributes.font.number number ≡ None
+    → offence sign.line_fill sign items (Shows number) ≡ Some 7
+pass_undefined sign items pass true is number none =
+    subst (λ (setting : LineFill). offence setting sign items (Shows number) ≡ Some 7) (sym is.words) (filled_undefined sign items pass is.of number none)
+pass_undefined sign items pass false is number none =
+    subst (λ (setting : LineFill). offence setting sign items (Shows number) ≡ Some 7) (sym is.off) (judged-undefined sign items pass.state is.state_is number none)
+
+module _ (sign : SignData) (octets : List ℕ) (at : ℕ) (pass : Pass) where
+  -- what is kept of a string that was read so far is small enough
+  pub pass_ready_here : (words : Bool) → ReadSoFar sign octets at (IsPassOf words sign pass) → length octets < 2 ^ 32 → IsPassReady words pass
+  pass_ready_here true r short = filled_ready_here sign octets at pass r short
+  pass_ready_here false r short = ready_here sign octets at pass.state r short
+
+-- where lines aren't filled the limits are known
+pub limited_of : (words : Bool) → words ≡ false → (sign : SignData) (pass : Pass) (items : List Meaning) → IsPassOf words sign pass items → IsLimited pass.state
+limited_of true off sign pass items is = absurd cc
+limited_of false off sign pass items is = is.limited

@@ -1,37 +1,85 @@
--- A character that only lengthens its segment.
-use Rattle.std.proofs.Common.{◌≡◌, ℕ, ◌+◌, ◌*◌, ◌≤◌, Bool, true, false, cond, ◌<◌, ◌&&◌, ◌||◌, ◌==◌, inl, inr, List, [], ◌∷◌, ◌++◌, length, Some, None, refl, sym, ap, ◌∙◌, arith, rules}
-use Rattle.std.specs.Prelude.{nat_lt, if◌then◌else◌}
-use Rattle.std.specs.List.{All, AllPass, after_last, list_any}
-use Rattle.std.specs.Option.{option_map_or, unwrap_or}
-use Rattle.std.proofs.lemmas.Bool.{cases_eq, eq-eqb, le-ltb, ne_eqb}
-use Rattle.multi_tag.specs.Just.{line_number, page_number}
-use Rattle.sign_font.specs.Cell.{SizedCell}
-use Rattle.sign_font.specs.Sign.{SignData, cell_in}
-use Rattle.multi_meaning.specs.Address.{Spot, in_group, is_break, is_glyph, lines_of, spots}
-use Rattle.multi_meaning.specs.Fit.{area_fits, fit, line_fits}
-use Rattle.multi_meaning.specs.Line.{average, height_of}
-use Rattle.multi_meaning.specs.Meaning.{Meaning, Shows}
-use Rattle.multi_meaning.specs.Offence.{clashes, unsized_offence}
-use Rattle.multi_meaning.specs.kept.Present.{IsPlacing}
-use Rattle.multi_meaning.specs.Words.{largest}
-use Rattle.multi_judge.specs.declared.area.Area.{Area}
-use Rattle.multi_judge.specs.declared.area.Group.{Group}
-use Rattle.multi_judge.specs.declared.line.Character.{Character}
-use Rattle.multi_judge.specs.declared.line.Line.{Line}
-use Rattle.multi_judge.specs.declared.line.Segment.{Segment}
-use Rattle.multi_judge.specs.declared.state.State.{State}
-use Rattle.multi_judge.specs.Adding.{character_of}
-use Rattle.multi_judge.specs.Run.{IsBehindCharacter, IsRun, kept_fits, kept_height, lengthened, lengthened_area, lengthened_line, line_in_force}
-use Rattle.multi_judge.specs.State.{IsStateOf}
-use Rattle.multi_judge.specs.Sums.{IsBelow, IsCharacter, area_sum, area_sum_in, group_sum, height_before, line_sum, segment_sum, width_before}
+-- One list of lines, split into those of the top, the middle and the bottom group.
+use Rattle.multi_judge.proofs.Common.{◌≡◌, ℕ, ◌+◌, ◌-◌, ◌≤◌, length, take, drop, List, [], ◌∷◌, ◌++◌, sym, ap, ◌∙◌, subst, arith, ◌*◌, Bool, true, false, cond, ◌<◌, ◌&&◌, ◌||◌, ◌==◌, inl, inr, Some, None, refl, rules, slice_range, nat_lt, if◌then◌else◌, cases_eq, eq-eqb, le-ltb, ne_eqb, length-drop, All, AllPass, after_last, list_any, option_map_or, unwrap_or, line_number, page_number, SizedCell, SignData, cell_in, Spot, in_group, is_break, is_glyph, lines_of, spots, area_fits, fit, line_fits, average, height_of, Meaning, Shows, clashes, unsized_offence, IsPlacing, largest, placing_group, CountedLine, TableLines, split_lines, Area, Group, Character, Line, Segment, State, character_of, IsBehindCharacter, IsRun, kept_fits, kept_height, lengthened, lengthened_area, lengthened_line, line_in_force, IsStateOf, IsBelow, IsCharacter, area_sum, area_sum_in, group_sum, line_sum, segment_sum, width_before}
+use Rattle.std.proofs.Common.{⊎_elim}
+use Rattle.std.proofs.lemmas.List.{drop-append-le, length-take, length_push, take-append-le, take_all}
+use Rattle.multi_judge.specs.Table.{IsOrdered}
+use Rattle.multi_judge.specs.Sums.{height_before}
 use Rattle.multi_judge.proofs.AreaSumLemmas.{area_stays, area_with, group_of_own, none_of_later_group, own_line}
-use Rattle.multi_judge.proofs.SplitLemmas.{each_group}
-use Rattle.multi_meaning.proofs.GroupLemmas.{placing_group}
-use Rattle.multi_judge.proofs.GroupHeightLemmas.{height_ended, height_present}
-use Rattle.multi_judge.proofs.GroupSumLemmas.{group_character, present_glyphs}
-use Rattle.multi_judge.proofs.LineSumLemmas.{kept_width_is, line_with, segment_own, whole_before}
+use Rattle.multi_judge.proofs.LineSumLemmas.{height_ended, height_present, group_character, present_glyphs, kept_width_is, line_with, segment_own, whole_before}
 use Rattle.multi_judge.proofs.PlacingLemmas.{character-accepted}
-use Rattle.multi_judge.proofs.BoundLemmas.{lined_below, part_below}
+use Rattle.multi_judge.proofs.JudgedLemmas.{lined_below, part_below}
+
+-- what holds of the page justifications top, middle and bottom
+pub each_group : (P : ℕ → Type 0) → P 2 → P 3 → P 4 → (just : ℕ) → 2 ≤ just → just ≤ 4 → P just
+each_group P top middle bottom just least most = ⊎_elim (λ e. subst P (sym e) top) below_top (cases_eq just 2)
+  where
+    below_middle : (just ≡ 2 → ⊥) → (just ≡ 3 → ⊥) → P just
+    below_middle n2 n3 = let four : 4 ≡ just = omega arith in subst P four bottom
+
+    below_top : (just ≡ 2 → ⊥) → P just
+    below_top n2 = ⊎_elim (λ e. subst P (sym e) middle) (below_middle n2) (cases_eq just 3)
+
+module _ {X : Type 0} (xs : List X) where
+  range_length : (i j : ℕ) → j ≤ length xs → length (slice_range xs i j) ≡ j - i
+  range_length i j high = omega (arith, length-take (j - i) (drop i xs), length-drop i xs)
+
+  -- where a part begins at its end
+  range_none : (i : ℕ) → slice_range xs i i ≡ []
+  range_none i = ap (λ n. take n (drop i xs)) (let none : i - i ≡ 0 = omega arith in none)
+
+  module _ (x : X) where
+    -- a part of the list before one more element
+    range_kept : (i j : ℕ) → i ≤ j → j ≤ length xs → slice_range (xs ++ x ∷ []) i j ≡ slice_range xs i j
+    range_kept i j low high =
+        ap (take (j - i)) (drop-append-le i xs (x ∷ []) (omega arith)) ∙ take-append-le (j - i) (drop i xs) (x ∷ []) (omega (arith, length-drop i xs))
+
+    -- and the last part with it
+    range_more : (i : ℕ) → i ≤ length xs → slice_range (xs ++ x ∷ []) i (length xs + 1) ≡ slice_range xs i (length xs) ++ x ∷ []
+    range_more i low =
+        ap (take (length xs + 1 - i)) (drop-append-le i xs (x ∷ []) low)
+        ∙ take_all (length xs + 1 - i) (drop i xs ++ x ∷ []) (omega (arith, length-drop i xs, length_push (drop i xs) x))
+        ∙ ap (λ l. l ++ x ∷ []) (sym (take_all (length xs - i) (drop i xs) (omega (arith, length-drop i xs))))
+
+-- a part that is empty ends where it begins
+empty_range : {X : Type 0} (xs : List X) (i j : ℕ) → i ≤ j → j ≤ length xs → slice_range xs i j ≡ [] → i ≡ j
+empty_range xs i j low high none = omega (arith, range_length xs i j high, ap length none)
+
+-- one more line
+module _ (xs : List CountedLine) (middle bottom : ℕ) (ordered : IsOrdered xs middle bottom) (line : CountedLine) (ys : List CountedLine) (more : ys ≡ xs ++ line ∷ []) (middle' bottom' : ℕ) where
+  abbrev old : TableLines
+  old = split_lines xs middle bottom
+
+  abbrev new : TableLines
+  new = split_lines ys middle' bottom'
+
+  long : length ys ≡ length xs + 1
+  long = ap length more ∙ length_push xs line
+
+  most : middle ≤ length xs
+  most = omega (arith, ordered.0, ordered.1)
+
+  bottom_none : bottom' ≡ length ys → new.bottom ≡ []
+  bottom_none from = ap (slice_range ys bottom') (sym from) ∙ range_none ys bottom'
+
+  -- it is put into the top group, where the others have none
+  pub pushed_top : middle' ≡ length ys → bottom' ≡ length ys → old.middle ≡ [] → old.bottom ≡ [] → (new.top ≡ old.top ++ line ∷ []) × (new.middle ≡ old.middle) × (new.bottom ≡ old.bottom)
+  pushed_top from_middle from_bottom none3 none4 =
+      let low : bottom ≡ length xs = empty_range xs bottom (length xs) ordered.1 (omega arith) none4 in
+      let mid : middle ≡ bottom = empty_range xs middle bottom ordered.0 ordered.1 none3 in (
+        ap (λ l. slice_range l 0 middle') more ∙ ap (slice_range (xs ++ line ∷ []) 0) (from_middle ∙ long) ∙ range_more xs line 0 (omega arith) ∙ ap (λ n. slice_range xs 0 n ++ line ∷ []) (sym low ∙ sym mid),
+        ap (λ n. slice_range ys n bottom') (from_middle ∙ sym from_bottom) ∙ range_none ys bottom' ∙ sym none3,
+        bottom_none from_bottom ∙ sym none4,
+      )
+
+  -- into the middle one, where the bottom one has none
+  pub pushed_middle : middle' ≡ middle → bottom' ≡ length ys → old.bottom ≡ [] → (new.top ≡ old.top) × (new.middle ≡ old.middle ++ line ∷ []) × (new.bottom ≡ old.bottom)
+  pushed_middle from_middle from_bottom none4 =
+      let low : bottom ≡ length xs = empty_range xs bottom (length xs) ordered.1 (omega arith) none4 in (
+        ap (λ l. slice_range l 0 middle') more ∙ ap (slice_range (xs ++ line ∷ []) 0) from_middle ∙ range_kept xs line 0 middle (omega arith) most,
+        ap (λ l. slice_range l middle' bottom') more ∙ ap (λ n. slice_range (xs ++ line ∷ []) n bottom') from_middle ∙ ap (slice_range (xs ++ line ∷ []) middle) (from_bottom ∙ long) ∙ range_more xs line middle most
+            ∙ ap (λ n. slice_range xs middle n ++ line ∷ []) (sym low),
+        bottom_none from_bottom ∙ sym none4,
+      )
 
 -- ---- what is kept of a line and of a group
 
@@ -49,9 +97,9 @@ kept_group_height just area =
     if just == area.present then kept_height area.group else (if just == 2 then area.top else (if just == 3 then area.middle else 0))
 
 -- one of two numbers is at most what both are
-pub cond_most : (b : Bool) (n m most : ℕ) → n ≤ most → m ≤ most → cond b n m ≤ most
-cond_most true n m most h k = h
-cond_most false n m most h k = k
+pub cond_most : (b : Bool) (n m bound : ℕ) → n ≤ bound → m ≤ bound → cond b n m ≤ bound
+cond_most true n m bound h k = h
+cond_most false n m bound h k = k
 
 module _ (spots : List Spot) (area : Area) (e : area ≡ area_sum spots) (placing : All IsPlacing spots) where
   -- of the present group, or else of one that is kept

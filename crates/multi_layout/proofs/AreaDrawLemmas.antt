@@ -1,32 +1,15 @@
 -- The items of a page, drawn one after the other.
-use Rattle.std.proofs.Common.{◌≡◌, ℕ, ◌+◌, ◌^◌, ◌<◌, ◌≤◌, false, cond, slice_get, List, [], ◌∷◌, ◌++◌, length, map, Option, None, Some, refl, sym, ap, subst, ◌∙◌, arith, append_assoc, rules}
-use Rattle.std.proofs.Math.Nat.{mul-add, mul-le-mul_left}
-use Rattle.std.proofs.lemmas.Bool.{false≢true}
-use Rattle.std.proofs.lemmas.List.{length-append, map-append}
-use Rattle.std.proofs.lemmas.List.Elements.{All-head, All-tail}
-use Rattle.multi_token.specs.Spelling.{spelling}
-use Rattle.multi_token.proofs.ReadingLemmas.{spelling_some}
-use Rattle.page_plane.specs.Plane.{BitPlane}
-use Rattle.sign_font.specs.Sign.{SignData, tallest}
-use Rattle.multi_meaning.specs.Address.{spots, standing, in_area}
-use Rattle.multi_meaning.specs.Meaning.{EndsArea, Meaning, begins_area, is_new_page}
-use Rattle.multi_meaning.specs.Verdict.{pages_of}
-use Rattle.multi_meaning.proofs.StateLemmas.{same_area}
-use Rattle.multi_judge.specs.declared.item.NextItem.{NextItem}
-use Rattle.multi_judge.specs.declared.state.State.{State}
-use Rattle.multi_judge.specs.declared.table.LineTable.{LineTable}
-use Rattle.multi_judge.proofs.JudgedLemmas.{pages_of-push}
-use Rattle.multi_judge.proofs.ReadLemmas.{at_end}
-use Rattle.multi_layout.specs.declared.cursor.Cursor.{Cursor}
-use Rattle.multi_layout.specs.declared.paint.Layer.{Layer}
-use Rattle.multi_layout.specs.declared.read.AreaLines.{AreaLines}
-use Rattle.multi_layout.specs.Limits.{plane_octets}
-use Rattle.multi_layout.specs.kept.AreaDrawing.{BeginsNoArea, HasCounted, IsAreaDrawn, IsDrawnTo, IsDrawnUpTo, IsFilledBy, IsInArea, whole_area}
-use Rattle.multi_layout.specs.kept.RunDrawing.{IsNextDrawn, IsReadBehind, octets_read}
-use Rattle.multi_layout.specs.kept.Cursors.{IsBetween, IsFirst, IsItemRead, IsRead, items_of, meant, LaidItem, spell_of}
-use Rattle.multi_layout.specs.kept.Settings.{IsNextAt}
-use Rattle.multi_layout.proofs.PieceLemmas.{first_begins, first_piece}
-use Rattle.multi_layout.proofs.WalkLemmas.{map_split, spell_of-append, total, within_between}
+use Rattle.multi_layout.proofs.Common.{◌≡◌, ℕ, ◌+◌, ◌^◌, ◌<◌, ◌≤◌, false, cond, slice_get, List, [], ◌∷◌, ◌++◌, length, map, Option, None, Some, refl, sym, ap, subst, ◌∙◌, arith, append_assoc, rules, Bool, true, Err, Ok, inl, mul-add, mul-le-mul_left, false≢true, length-append, map-append, All-head, All-tail, spelling, Item, spelling_some, BitPlane, SignData, tallest, spots, standing, in_area, Spot, Standing, put_at, EndsArea, Meaning, begins_area, is_new_page, Does, has_place, meaning, pages_of, NextItem, State, LineTable, pages_of-push, at_end, Tag, NewPage, NewLine, Font, Rect, Back, Off, Words, SyntaxError, Defaults, code_of, too_big, laid_items, offence, offence_by, Pass, ends_line, is_setting, meant_by, IsPassOf, IsStateOf, present_area, Cursor, Layer, AreaLines, plane_octets, BeginsNoArea, HasCounted, IsAreaDrawn, IsDrawnTo, IsDrawnUpTo, IsFilledBy, IsInArea, whole_area, IsPageDrawn, IsNextDrawn, IsReadBehind, octets_read, IsBetween, IsFirst, IsItemRead, IsRead, items_of, meant, LaidItem, spell_of, IsPlaced, IsNextAt, IsMet, Setting}
+use Rattle.multi_meaning.proofs.StandingLemmas.{same_area, present_area-nothing}
+use Rattle.multi_judge.proofs.ReadLemmas.{judged_unfilled}
+use Rattle.multi_judge.specs.FilledState.{begins_line}
+use Rattle.multi_judge.specs.State.{IsJudged}
+use Rattle.multi_judge.proofs.FilledJudgedLemmas.{judged-stays}
+use Rattle.multi_layout.specs.kept.Settings.{PutsSetting}
+use Rattle.multi_layout.proofs.PieceLemmas.{first_begins, first_piece, read_unplaced}
+use Rattle.multi_layout.proofs.WalkLemmas.{map_split, spell_of-append, total, within_between, none_offends, between_more}
+use Rattle.multi_layout.proofs.DrawLemmas.{no_page, same_drawn}
+use Rattle.multi_judge.specs.declared.item.KnownItem.TheVariants as known
 
 -- the lines of an area are those behind one of its items too
 counted_more : (sign : SignData) (before behind : List LaidItem) (item : LaidItem) (lines : LineTable) → begins_area (meant item) ≡ false
@@ -180,3 +163,104 @@ filled_none sign a = record { fills = 0; few = omega arith; least = omega arith;
 -- octets that put nothing
 pub filled_longer : (sign : SignData) (a b : BitPlane) (m n : ℕ) → m ≤ n → IsFilledBy sign a b m → IsFilledBy sign a b n
 filled_longer sign a b m n more x = first_of (search (rules, mul-le-mul_left), grind (arith, mul-le-mul_left))
+
+offends_alike : (f g : List Spot → Spot → Bool) (sign : SignData) (one other : List Meaning) (tag : Tag) → is_setting (Does tag) ≡ true → offence_by f sign one (Does tag) ≡ offence_by g sign other (Does tag)
+unfolding offence_by
+offends_alike f g sign one other NewPage e = absurd (false≢true e)
+offends_alike f g sign one other (NewLine gap) e = absurd (false≢true e)
+offends_alike f g sign one other (Rect x y w h) e = absurd (false≢true e)
+offends_alike f g sign one other (Back colour) e = absurd (false≢true e)
+offends_alike f g sign one other (Font None) e = refl
+offends_alike f g sign one other (Font (Some pick)) e = refl
+offends_alike f g sign one other tag e = refl
+
+-- the first item of the rest of an accepted string doesn't offend behind other items either, if it is a setting
+pub setting_fine : (sign : SignData) (octets : List ℕ) (before behind : List Item) (at : ℕ) → IsPlaced sign octets before behind at → (next : NextItem) → IsFirst behind (Some next) → (tag : Tag) → meant_by next.item ≡ Does tag
+    → is_setting (Does tag) ≡ true → (items : List Meaning) → offence Off sign items (Does tag) ≡ None
+setting_fine sign octets before behind at p next (item, rest, is, read) tag means setting items =
+    let here = none_offends sign octets before rest item at (subst (λ (l : List Item). IsPlaced sign octets before l at) is p) in
+    offends_alike (too_big Off) (too_big sign.line_fill) sign items (map meaning before) tag setting
+    ∙ ap (offence sign.line_fill sign (map meaning before)) (sym means ∙ sym read.meant) ∙ here
+
+-- it doesn't happen that it offends
+pub never_refused : (sign : SignData) (tag : Tag) (new : State) → ((items : List Meaning) → offence Off sign items (Does tag) ≡ None) → (error : SyntaxError) (items : List Meaning) → IsJudged sign items (Does tag) (Err error) new → ⊥
+never_refused sign tag new fine error items judged = first_of (search (rules), grind (arith))
+
+-- it begins no area, ends no line, has no place, begins no line and puts nothing
+pub setting_is : (tag : Tag) → is_setting (Does tag) ≡ true → (begins_area (Does tag) ≡ false) × (ends_line (Does tag) ≡ false) × (has_place (Does tag) ≡ false) × (begins_line tag ≡ false)
+    × ((defaults : Defaults) (at : Standing) → put_at defaults at (Does tag) ≡ None)
+setting_is NewPage e = absurd (false≢true e)
+setting_is (NewLine gap) e = absurd (false≢true e)
+setting_is (Rect x y w h) e = absurd (false≢true e)
+setting_is (Back colour) e = absurd (false≢true e)
+setting_is tag e = (refl, refl, refl, refl, λ defaults at. refl)
+
+-- what is kept of some items is that of the items with it, but for its state
+pub setting_passed : (words : Bool) (sign : SignData) (items : List Meaning) (kept : Pass) (state : State) (tag : Tag) → IsPassOf words sign kept items → PutsSetting sign tag kept.state state
+    → IsPassOf words sign (record kept { state = state }) (items ++ Does tag ∷ [])
+setting_passed true sign items kept state tag of puts =
+    (judged-stays sign items kept of.of of.words tag (Ok tt) state (setting_is tag puts.setting).3 (puts.limited of.of.limited) (puts.judged (laid_items Words sign items items) of.of.state_is)).1
+setting_passed false sign items kept state tag of puts =
+    (judged_unfilled sign items (Does tag) (Ok tt) (record kept { state = state }) of.off of.fine (puts.limited of.limited) (puts.judged items of.state_is)).1
+
+-- a setting was met at the cursor, and the page is drawn as far as the new one behind it
+record SettingDrawn (sign : SignData) (octets : List ℕ) (layer : Layer) (page : ℕ) (before behind : List LaidItem) (cursor new : Cursor) (plane : BitPlane) : Type 0 where
+  pub item : LaidItem
+  pub rest : List LaidItem
+  pub split : behind ≡ item ∷ rest
+  pub to : new.at ≡ cursor.at + length (spelling item.item)
+  pub tag : Tag
+  pub means : meant item ≡ Does tag
+  pub setting : is_setting (Does tag) ≡ true
+  pub up_to : IsDrawnUpTo sign octets layer page (before ++ item ∷ []) rest new plane
+
+abbrev behind : Cursor → ℕ → State → Cursor
+behind cursor len state = record { at = cursor.at + len; state = state }
+
+module _ {sign : SignData} {octets : List ℕ} {layer : Layer} {page : ℕ} {cursor : Cursor} {plane : BitPlane} (len : ℕ) (state : State) (met : IsMet sign octets cursor.at cursor.state (Setting len) state) where
+  drawn : {before items : List LaidItem} → IsDrawnUpTo sign octets layer page before items cursor plane → SettingDrawn sign octets layer page before items cursor (behind cursor len state) plane
+  drawn {before} {items} u =
+      let (tag, puts, is) = met in
+      let new = behind cursor len state in
+      let next : NextItem = record { item = known.Tag tag; len = len } in
+      let (plain, closed, placed, line, unput) = setting_is tag puts.setting in
+      let (item, rest, split, raw) = first_piece items next (is (items_of before) (items_of items) u.between.placed) in
+      let here = subst (λ l. IsDrawnUpTo sign octets layer page before l cursor plane) split u in
+      let read = read_unplaced here.between placed raw in
+      let to = ap (λ n. cursor.at + n) read.len in
+      let st = (puts.judged (map meant before) here.between.state_is).1 in
+      let between = between_more sign octets before rest item cursor here.between new to (subst (λ m. IsStateOf sign (map meant before ++ m ∷ []) state) (sym read.meant) st) in
+      record {
+        item = item;
+        rest = rest;
+        split = split;
+        to = to;
+        tag = tag;
+        means = read.meant;
+        setting = puts.setting;
+        up_to = drawn_more here (Does tag) read.meant (no_page tag plain) new plane between (same_drawn sign layer (map meant before) (map meant rest) (Does tag) plane (no_page tag plain) (inl (unput sign.defaults (standing sign (map meant before)))));
+      }
+
+  -- among the items of an area
+  pub area_set : {read : AreaLines} → IsAreaDrawn sign octets layer page read cursor plane → IsAreaDrawn sign octets layer page read (behind cursor len state) plane
+  area_set {read} d =
+      let s = drawn d.up_to in
+      record {
+        before = d.before ++ s.item ∷ [];
+        behind = s.rest;
+        up_to = s.up_to;
+        left = left_more (subst (λ l. IsInArea sign read d.before l cursor) s.split d.left) (ap begins_area s.means ∙ (setting_is s.tag s.setting).0) (behind cursor len state) s.to;
+      }
+
+  -- where an area begins
+  pub page_set : IsPageDrawn sign octets layer page cursor plane → IsPageDrawn sign octets layer page (behind cursor len state) plane
+  page_set d =
+      let s = drawn d.up_to in
+      record {
+        before = d.before ++ s.item ∷ [];
+        behind = s.rest;
+        up_to = s.up_to;
+        begins = ap (present_area sign) (map_split d.before [] s.item (Does s.tag) s.means)
+            ∙ present_area-nothing sign (map meant d.before) (Does s.tag) (setting_is s.tag s.setting).0 ((setting_is s.tag s.setting).4 sign.defaults (standing sign (map meant d.before)))
+            ∙ d.begins;
+      }

@@ -1,55 +1,21 @@
 -- The first reading of an area: the table of its lines, item by item.
-use Rattle.std.proofs.Common.{◌≡◌, ℕ, Bool, true, ◌+◌, ◌-◌, ◌*◌, ◌<◌, ◌≤◌, false, cond, inl, inr, slice_get, None, length, map, List, [], ◌∷◌, ◌++◌, Some, Option, refl, sym, ap, subst, ◌∙◌, arith, append_assoc, append-nil, length-append, rules}
-use Rattle.std.proofs.lemmas.List.{map-append}
+use Rattle.multi_layout.proofs.Common.{◌≡◌, ℕ, Bool, true, ◌+◌, ◌-◌, ◌*◌, ◌<◌, ◌≤◌, false, cond, inl, inr, slice_get, None, length, map, List, [], ◌∷◌, ◌++◌, Some, Option, refl, sym, ap, subst, ◌∙◌, arith, append_assoc, append-nil, rules, suc, ◌^◌, drop, map-append, length-drop, length-take-le, take-append-drop, All-head, All-tail, IfSome, if◌then◌else◌, All, unwrap_or, sum_by-append, Counted, RisesBetween, charged, Item, IsPlain, spelling_some, page_number, LineFill, Words, SignData, cell_in, IsSound, Standing, in_area, spots, standing, laid_items, Does, EndsArea, Meaning, begins_area, meaning, Shows, present_area, fault_at, offences, are_laid, laid_plain, area_ends, standing_push, left_nil, some_after-append, Area, NextItem, Pass, State, LineTable, laid_area, IsFilledOf, meant_by, IsPassOf, fill_of, IsPassReady, IsStateOf, IsReady, group_lines, table_of, area_sum, at_end, drop_read, read_drop, width_in, unsized_if, IsBehindCharacter, lengthened, line_in_force, behind_stays, state_beside, behind_first, cell_of_width, Cursor, Setting, AreaLines, IsNextRead, IsReadOf, GoesOn, BeginsNoArea, HasCounted, HasKnown, IsInArea, next_group, whole_area, IsBetween, IsFirst, IsItemRead, IsPlaced, items_of, laid_meanings, meant, LaidItem, spell_of, IsMet, IsNextAt, item_steps}
+use Rattle.std.proofs.Common.{length-append}
 use Rattle.std.proofs.lemmas.List.Elements.{All-nil, All-push}
-use Rattle.std.specs.Prelude.{IfSome, if◌then◌else◌}
-use Rattle.multi_token.specs.Counted.{Counted, RisesBetween, charged}
-use Rattle.multi_token.specs.Spelling.{Item}
-use Rattle.multi_token.proofs.ReadingLemmas.{spelling_some}
-use Rattle.multi_tag.specs.Just.{page_number}
-use Rattle.sign_font.specs.declared.parts.LineFill.{LineFill}
-use Rattle.sign_font.specs.declared.parts.LineFill.TheVariants.{Words}
-use Rattle.sign_font.specs.Sign.{SignData}
-use Rattle.sign_font.specs.Sound.{IsSound}
-use Rattle.multi_meaning.specs.Address.{Standing, in_area, spots, standing}
-use Rattle.multi_meaning.specs.LaidItems.{laid_items}
-use Rattle.multi_meaning.specs.Meaning.{Does, EndsArea, Meaning, begins_area, meaning}
-use Rattle.multi_meaning.specs.kept.Present.{present_area}
-use Rattle.multi_meaning.specs.Verdict.{fault_at, offences}
-use Rattle.multi_meaning.proofs.LaidItemLemmas.{are_laid}
-use Rattle.multi_meaning.proofs.SpotsLemmas.{area_ends}
-use Rattle.multi_meaning.proofs.StandingLemmas.{standing_push}
-use Rattle.multi_meaning.proofs.WordLemmas.{left_nil, some_after-append}
-use Rattle.multi_judge.specs.declared.area.Area.{Area}
-use Rattle.multi_layout.specs.declared.cursor.Cursor.{Cursor}
-use Rattle.multi_layout.specs.declared.cursor.Met.TheVariants.{Setting}
-use Rattle.multi_judge.specs.declared.item.KnownItem.TheVariants as known
-use Rattle.multi_judge.specs.declared.item.NextItem.{NextItem}
-use Rattle.multi_judge.specs.declared.pass.Pass.{Pass}
-use Rattle.multi_layout.specs.declared.read.AreaLines.{AreaLines}
-use Rattle.multi_judge.specs.declared.state.State.{State}
-use Rattle.multi_judge.specs.declared.table.LineTable.{LineTable}
-use Rattle.multi_judge.specs.Passed.{laid_area}
-use Rattle.multi_layout.specs.kept.AreaReading.{EndsGroup, IsNextRead, IsReadOf}
-use Rattle.multi_judge.specs.FilledState.{IsFilledOf}
-use Rattle.multi_judge.specs.KnownItem.{meant_by}
-use Rattle.multi_layout.specs.kept.AreaDrawing.{BeginsNoArea, HasCounted, HasKnown, IsInArea, next_group, whole_area}
-use Rattle.multi_judge.specs.PassState.{IsPassOf, fill_of}
-use Rattle.multi_judge.specs.State.{IsStateOf}
-use Rattle.multi_judge.specs.Table.{group_lines, table_of}
-use Rattle.multi_layout.specs.kept.Cursors.{IsBetween, IsFirst, IsItemRead, IsPlaced, items_of, laid_meanings, meant, LaidItem, spell_of}
-use Rattle.multi_layout.specs.kept.Settings.{IsMet, IsNextAt, item_steps}
-use Rattle.multi_layout.proofs.AreaReadLemmas.{next_fine, present_placing, read_state, step_stays, tag_stays}
-use Rattle.multi_meaning.proofs.UnfilledItemLemmas.{laid_plain}
-use Rattle.multi_layout.proofs.FilledStartLemmas.{area_empty, laid_empty, state_begins}
-use Rattle.multi_layout.proofs.KnownLinesLemmas.{counted_at_end, known_none}
-use Rattle.multi_judge.specs.Sums.{area_sum}
+use Rattle.std.specs.Prelude.{slice_range}
+use Rattle.std.specs.List.{sum_by}
+use Rattle.sign_font.specs.Sound.{IsWithin}
 use Rattle.multi_judge.proofs.LimitLemmas.{limited_none}
+use Rattle.multi_judge.specs.Run.{IsRunPassed}
+use Rattle.multi_judge.proofs.PlacingLemmas.{plain_passed}
+use Rattle.multi_layout.specs.kept.AreaReading.{EndsGroup}
+use Rattle.multi_layout.proofs.AreaReadLemmas.{next_fine, present_placing, read_state, step_stays, tag_stays}
+use Rattle.multi_layout.proofs.FilledLemmas.{area_empty, laid_empty, state_begins, counted_whole}
+use Rattle.multi_layout.proofs.KnownLinesLemmas.{counted_at_end, known_none}
 use Rattle.multi_layout.proofs.PieceLemmas.{ends_laid, first_piece, laid_front, plain_laid}
-use Rattle.multi_judge.proofs.ReadLemmas.{at_end}
-use Rattle.multi_layout.proofs.SettingLemmas.{setting_is, setting_passed}
-use Rattle.multi_layout.proofs.WalkLemmas.{few_placed, fine_items, none_at_end, placed_more, spell_of-append, steps_of, steps_then, steps_within, within}
-use Rattle.multi_layout.proofs.FilledRoomLemmas.{counted_whole}
+use Rattle.multi_layout.proofs.AreaDrawLemmas.{setting_is, setting_passed}
+use Rattle.multi_layout.proofs.WalkLemmas.{few_placed, fine_items, none_at_end, placed_more, spell_of-append, steps_of, steps_then, steps_within, within, octet_next}
+use Rattle.multi_judge.specs.declared.item.KnownItem.TheVariants as known
 
 -- the steps of an item that was met, and of what goes on behind it, the octet there too
 pub steps_gone : (b : Counted) {d e : Counted} (at to : ℕ) (octet : Bool) → RisesBetween b d 0 8 → (octet ≡ true → d ≡ charged b 1) → RisesBetween d e 1 (if octet then 2 * (to - at) + 3 else 1)
@@ -199,7 +165,7 @@ module _ {words : Bool} {sign : SignData} {octets : List ℕ} {before behind : L
 
   -- an item that is no setting was met
   pub met_stays : (state : State) → state ≡ kept.state → SoFar words sign octets before behind at (record kept { state = state }) lines
-  met_stays state same = subst (λ (s : State). SoFar words sign octets before behind at (record kept { state = s }) lines) (sym same) so
+  met_stays found same = subst (λ (s : State). SoFar words sign octets before behind at (record kept { state = s }) lines) (sym same) so
 
   -- a setting is passed
   pub setting_read : IsSound sign → {octets' : List ℕ} → octets' ≡ octets → (len : ℕ) (state : State) → IsMet sign octets' at kept.state (Setting len) state → SoFar words sign octets before behind (at + len) (record kept { state = state }) lines
@@ -274,3 +240,87 @@ pub so_met : {words : Bool} {sign : SignData} {octets : List ℕ} {before behind
     → {octets' : List ℕ} → octets' ≡ octets → (next : NextItem) (state : State) → (state ≡ kept.state) × IsNextAt sign octets' at next
     → (so' : SoFar words sign octets before behind at (record kept { state = state }) lines) × NextSo so' next
 so_met so same next state met = (met_stays so state met.0, so_read (met_stays so state met.0) same next met.1)
+
+-- what is kept with another state
+abbrev pub in_state : Pass → State → Pass
+in_state kept state = record kept { state = state }
+
+-- what is kept with its segment lengthened
+abbrev longer : Pass → ℕ → ℕ → Pass
+longer kept width count = in_state kept (lengthened width count kept.state)
+
+module _ {sign : SignData} (sound : IsSound sign) {octets : List ℕ} (short : length octets < 2 ^ 63) {before behind : List LaidItem} (kept : Pass) (lines : LineTable) (b : IsBehindCharacter kept.state)
+    (gap : ℕ) (gap_is : gap ≡ unwrap_or kept.state.attributes.spacing kept.state.attributes.font.char_spacing) (narrow : gap ≤ 255) where
+  -- one more octet
+  octet_passed : (at width count : ℕ) → SoFar false sign octets before behind at (longer kept width count) lines → (octet : ℕ) → slice_get octets at ≡ Some octet → IsPlain octet
+      → (w : ℕ) → Some w ≡ width_in sign kept.state.attributes.font.number octet → w ≤ 64 → SoFar false sign octets before behind (at + 1) (longer kept (width + (gap + w)) (count + 1)) lines
+  octet_passed at width count so octet here plain w w_is small =
+      let n = so_read so refl (record { item = known.Char octet; len = 1 }) (octet_next sign octets at octet short here plain) in
+      let it = so_next so n in
+      let items = map meaning (items_of (before ++ so.pieces)) in
+      let of = so.read.of in
+      let (cell, found, is) = cell_of_width (cell_in sign kept.state.attributes.font.number octet) w w_is in
+      let fine = next_fine it in
+      let behind' = behind_stays kept.state width count b in
+      let st = state_beside (lengthened width count kept.state) behind' gap gap_is cell sign items of.state_is octet found narrow (omega (arith, is, small)) (unsized_if sign.line_fill sign items (Shows octet) fine _ refl) in
+      let wide = ap (λ n. lengthened (width + (gap + n)) (count + 1) kept.state) (sym is) in
+      let new = longer kept (width + (gap + cell.width)) (count + 1) in
+      let passed = plain_passed sign items (longer kept width count) new of octet fine st (record { width = of.limited.width; height = of.limited.height }) in
+      let r = subst (λ p. IsReadOf false sign (items_of (before ++ so.pieces)) p (longer kept width count) lines) b.group so.read in
+      let read = step_stays sound r it passed refl in
+      subst (λ s. SoFar false sign octets before behind (at + 1) (in_state kept s) lines) wide (read_on so n (at + 1) refl refl new lines read)
+
+  -- a text
+  text_passed : (text rest widths : List ℕ) (at width count : ℕ) → SoFar false sign octets before behind at (longer kept width count) lines → drop at octets ≡ text ++ rest → All IsPlain text
+      → map (width_in sign kept.state.attributes.font.number) text ≡ map Some widths → All (IsWithin 1 64) widths
+      → SoFar false sign octets before behind (at + length text) (longer kept (width + sum_by (λ w. gap + w) widths) (count + length text)) lines
+  text_passed [] rest [] at width count so e plain each within =
+      let to : at + 0 ≡ at = omega arith in
+      let wider : width + 0 ≡ width = omega arith in
+      let number : count + 0 ≡ count = omega arith in
+      rw (to, wider, number) so
+  text_passed [] rest (w ∷ widths) at width count so e plain each within = absurd (cc)
+  text_passed (octet ∷ text) rest [] at width count so e plain each within = absurd (cc)
+  text_passed (octet ∷ text) rest (w ∷ widths) at width count so e plain each within =
+      let here : slice_get octets at ≡ Some octet = read_drop octets at octet (text ++ rest) e in
+      let is : Some w ≡ width_in sign kept.state.attributes.font.number octet = cc in
+      let more : map (width_in sign kept.state.attributes.font.number) text ≡ map Some widths = cc in
+      let behind' : drop (at + 1) octets ≡ text ++ rest = behind_first (sym (drop_read octets at octet here) ∙ e) in
+      let total : sum_by (λ v. gap + v) (w ∷ widths) ≡ 0 + (gap + w) + sum_by (λ v. gap + v) widths = sum_by-append (λ v. gap + v) (w ∷ []) widths in
+      let one = octet_passed at width count so octet here (All-head IsPlain octet text plain) w is (All-head (IsWithin 1 64) w widths within).1 in
+      let all = text_passed text rest widths (at + 1) (width + (gap + w)) (count + 1) one behind' (All-tail IsPlain octet text plain) more (All-tail (IsWithin 1 64) w widths within) in
+      let to : at + 1 + length text ≡ at + suc (length text) = omega arith in
+      let wider : width + (gap + w) + sum_by (λ v. gap + v) widths ≡ width + sum_by (λ v. gap + v) (w ∷ widths) = omega (arith, total) in
+      let number : count + 1 + length text ≡ count + suc (length text) = omega arith in
+      rw (← to, ← wider, ← number) all
+
+-- the characters of a run are read
+pub run_read : {sign : SignData} → IsSound sign → {octets : List ℕ} → length octets < 2 ^ 63 → {before behind : List LaidItem} (at at' : ℕ) (kept : Pass) (state' : State) (lines : LineTable) → IsBehindCharacter kept.state
+    → SoFar false sign octets before behind at kept lines → IsRunPassed sign octets at kept.state at' state' → SoFar false sign octets before behind at' (in_state kept state') lines
+run_read {sign} sound {octets} short {before} {behind} at at' kept state' lines b so p =
+    let text = slice_range octets at at' in
+    let line = line_in_force kept.state in
+    let size : length text ≡ at' - at = length-take-le (at' - at) (drop at octets) (rw (length-drop at octets) (omega (arith, p.forward, p.within))) in
+    let all = text_passed sound short kept lines b p.gap p.gap_is p.narrow text (drop (at' - at) (drop at octets)) p.width.widths at line.part.width line.part.count so (sym (take-append-drop (at' - at) (drop at octets))) p.plain p.width.each p.width.within in
+    let to : at + length text ≡ at' = omega (arith, size, p.forward) in
+    let wide : line.part.width + sum_by (λ w. p.gap + w) p.width.widths ≡ line.part.width + p.pixels = ap (λ n. line.part.width + n) (sym p.width.together) in
+    let state : lengthened (line.part.width + sum_by (λ w. p.gap + w) p.width.widths) (line.part.count + length text) kept.state ≡ state' = (λ i. lengthened (wide i) (line.part.count + size i) kept.state) ∙ sym p.is in
+    subst (λ (x : ℕ × State). SoFar false sign octets before behind x.0 (in_state kept x.1) lines) (λ i. (to i, state i)) all
+
+-- whether characters followed or not, the reading is as far as they go
+pub went_on : {words : Bool} {sign : SignData} → IsSound sign → {octets : List ℕ} → length octets < 2 ^ 63 → {before behind : List LaidItem} (at at' : ℕ) (kept kept' : Pass) (lines : LineTable)
+    → SoFar words sign octets before behind at kept lines → GoesOn words sign octets at kept at' kept' → SoFar words sign octets before behind at' kept' lines
+went_on {words} {sign} sound {octets} short {before} {behind} at at' kept kept' lines so (inl (to, same)) =
+    subst (λ (x : ℕ × Pass). SoFar words sign octets before behind x.0 x.1 lines) (λ i. (sym to i, sym same i)) so
+went_on {words} {sign} sound {octets} short {before} {behind} at at' kept kept' lines so (inr (off, b, state, is, run)) =
+    let so' = subst (λ w. SoFar w sign octets before behind at kept lines) off so in
+    subst (λ w. SoFar w sign octets before behind at' kept' lines) (sym off) (subst (λ k. SoFar false sign octets before behind at' k lines) (sym is) (run_read sound short at at' kept state lines b so' run))
+
+pub gone_forward : {words : Bool} {sign : SignData} {octets : List ℕ} (at at' : ℕ) (kept kept' : Pass) → GoesOn words sign octets at kept at' kept' → at ≤ at'
+gone_forward at at' kept kept' (inl (to, same)) = omega (arith, to)
+gone_forward at at' kept kept' (inr (off, b, found, is, run)) = run.forward
+
+-- what is ready for either kind of lines has a state that is
+pub ready_state : (words : Bool) (kept : Pass) → IsPassReady words kept → IsReady kept.state
+ready_state true kept r = r.state
+ready_state false kept r = r

@@ -1,58 +1,19 @@
 -- The first reading of an area, at one more item.
-use Rattle.std.proofs.Common.{◌≡◌, ℕ, Bool, ◌*◌, ◌^◌, ◌≤◌, true, false, List, [], ◌∷◌, ◌++◌, length, map, None, refl, sym, ap, subst, ◌∙◌, arith, ◌<◌, cond, Option, Some, rules}
-use Rattle.std.specs.List.{All}
-use Rattle.std.proofs.lemmas.List.{map-append}
-use Rattle.multi_token.specs.Spelling.{Item}
-use Rattle.multi_tag.specs.declared.tag.Tag.{Tag}
-use Rattle.multi_tag.specs.Just.{page_number}
-use Rattle.sign_font.specs.declared.parts.LineFill.TheVariants.{Off, Words}
-use Rattle.sign_font.specs.Sign.{SignData}
-use Rattle.sign_font.specs.Sound.{IsSound}
-use Rattle.multi_meaning.specs.Address.{Break, Spot, in_group, spots, standing}
-use Rattle.multi_meaning.specs.LaidItems.{laid_item, laid_items}
-use Rattle.multi_meaning.specs.Meaning.{Does, Meaning, Shows, has_place, meaning, begins_area}
-use Rattle.multi_meaning.specs.Offence.{offence, unsized_offence}
-use Rattle.multi_meaning.specs.kept.Present.{present_area, IsPlacing, IsNarrowArea, ended_lines, IsNarrow}
-use Rattle.multi_meaning.specs.Verdict.{offences}
-use Rattle.multi_meaning.proofs.GroupLemmas.{area_placing, placing_group}
-use Rattle.multi_meaning.proofs.FilledTagLemmas.{offends_as_laid}
-use Rattle.multi_meaning.proofs.NarrowLemmas.{narrow_area, narrow_front}
-use Rattle.multi_meaning.proofs.OrderlyLemmas.{unsized_if}
-use Rattle.multi_meaning.proofs.RoomLemmas.{room}
-use Rattle.multi_meaning.proofs.UnplacedLemmas.{last_fine}
-use Rattle.multi_meaning.proofs.WordLemmas.{each_after_length}
-use Rattle.multi_judge.specs.declared.area.Area.{Area}
-use Rattle.multi_judge.specs.declared.area.Group.{Group}
-use Rattle.multi_judge.specs.declared.pass.Pass.{Pass}
-use Rattle.multi_judge.specs.declared.item.KnownItem.{KnownItem}
+use Rattle.multi_layout.proofs.Common.{◌≡◌, ℕ, Bool, ◌*◌, ◌^◌, ◌≤◌, true, false, List, [], ◌∷◌, ◌++◌, length, map, None, refl, sym, ap, subst, ◌∙◌, arith, ◌<◌, cond, Option, Some, rules, All, map-append, Item, Tag, page_number, Off, Words, SignData, IsSound, Break, Spot, in_group, spots, standing, laid_item, laid_items, Does, Meaning, Shows, has_place, meaning, begins_area, offence, unsized_offence, present_area, IsPlacing, IsNarrowArea, ended_lines, offences, placing_group, offends_as_laid, laid_plain, laid_tag, unsized_if, length-meanings, last_fine, each_after_length, Area, Group, Pass, KnownItem, Char, LineTable, laid_area, IsNextRead, IsReadOf, meant_by, ends_line, HasKnown, HasRoom, next_group, IsPassOf, IsPassReady, fill_of, IsStateOf, IsBelow, area_sum, group_sum, group_of_own, below_more, ready, height_of, page_number_known, CountedLine, group_lines, line_count, line_entry}
+use Rattle.multi_meaning.specs.kept.Present.{IsNarrow}
+use Rattle.multi_meaning.proofs.GroupLemmas.{area_placing}
+use Rattle.multi_meaning.proofs.RoomLemmas.{narrow_area, narrow_front, room}
 use Rattle.multi_judge.specs.declared.item.KnownItem.TheVariants as known
-use Rattle.multi_judge.specs.declared.item.KnownItem.TheVariants.{Char}
-use Rattle.multi_judge.specs.declared.table.LineTable.{LineTable}
-use Rattle.multi_judge.specs.Passed.{laid_area, IsItemPassed}
-use Rattle.multi_layout.specs.kept.AreaReading.{IsNextRead, IsReadOf, KnowsArea, KnowsOn}
-use Rattle.multi_judge.specs.KnownItem.{meant_by, ends_line}
-use Rattle.multi_layout.specs.kept.AreaDrawing.{HasKnown, HasRoom, next_group}
-use Rattle.multi_judge.specs.PassState.{IsPassOf, IsPassReady, fill_of}
+use Rattle.multi_judge.specs.Passed.{IsItemPassed}
+use Rattle.multi_layout.specs.kept.AreaReading.{KnowsArea, KnowsOn}
 use Rattle.multi_judge.specs.Run.{kept_height}
-use Rattle.multi_judge.specs.State.{IsStateOf}
-use Rattle.multi_judge.specs.Sums.{IsBelow, area_sum, group_sum, line_sum}
-use Rattle.multi_judge.proofs.AreaSumLemmas.{group_of_own}
-use Rattle.multi_judge.proofs.BoundLemmas.{below_more}
-use Rattle.multi_judge.proofs.FilledKeptLemmas.{goes_on}
-use Rattle.multi_judge.proofs.FilledReadLemmas.{filled_ready}
-use Rattle.multi_layout.proofs.FilledRoomLemmas.{laid_narrow, laid_room}
-use Rattle.multi_judge.proofs.KnownStepLemmas as steps
-use Rattle.multi_judge.proofs.JudgedLemmas.{ready}
-use Rattle.multi_meaning.proofs.UnfilledItemLemmas.{laid_plain}
+use Rattle.multi_judge.specs.Sums.{line_sum}
+use Rattle.multi_judge.proofs.ReadLemmas.{goes_on, filled_ready}
+use Rattle.multi_layout.proofs.FilledLemmas.{laid_narrow, laid_room}
+use Rattle.multi_judge.proofs.PlacingLemmas as steps
 use Rattle.multi_judge.proofs.RunLemmas.{kept_height_is}
-use Rattle.multi_meaning.proofs.VerdictLemmas.{length-meanings}
-use Rattle.multi_meaning.specs.Line.{height_of}
-use Rattle.multi_meaning.proofs.LaidTagLemmas.{laid_tag}
-use Rattle.multi_tag.proofs.JustLemmas.{page_number_known}
 use Rattle.multi_judge.specs.declared.line.Line.{Line}
-use Rattle.multi_judge.specs.declared.table.CountedLine.{CountedLine}
 use Rattle.multi_judge.specs.FillSums.{EndsLine}
-use Rattle.multi_judge.specs.Table.{group_lines, line_count, line_entry}
 use Rattle.multi_layout.proofs.KnownLinesLemmas.{entry_ended, known_pushed, known_unchanged, pushed_room, Pushed, behind_empty}
 
 -- WHAT IS KEPT

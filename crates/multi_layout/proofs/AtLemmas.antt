@@ -1,32 +1,12 @@
 -- What begins at an offset, whose first octet was read: how it is refused, and what is judged and read behind it.
-use Rattle.std.proofs.Common.{◌≡◌, ℕ, ◌+◌, ◌-◌, ◌^◌, ◌<◌, ◌≤◌, ◌*◌, inl, inr, List, [], ◌∷◌, ◌++◌, length, map, slice_get, Option, Some, None, refl, sym, ap, subst, ◌∙◌, arith, Bool, true, false, rules}
-use Rattle.std.proofs.lemmas.Option.{slice_get_within}
-use Rattle.multi_token.specs.Counted.{Counted, RisesBetween, charged}
-use Rattle.multi_token.specs.Spelling.{IsPlain}
-use Rattle.multi_token.specs.Tokens.{item_of}
+use Rattle.multi_layout.proofs.Common.{◌≡◌, ℕ, ◌+◌, ◌-◌, ◌^◌, ◌<◌, ◌≤◌, ◌*◌, inl, inr, List, [], ◌∷◌, ◌++◌, length, map, slice_get, Option, Some, None, refl, sym, ap, subst, ◌∙◌, arith, Bool, true, false, rules, slice_get_within, Counted, RisesBetween, charged, IsPlain, item_of, Token, single_token, spelling_some, SignData, SyntaxError, code_of, IsFaultAt, IsItemAt, too_big, Meaning, Shows, meaning, offence, IsVerdict, pages_of, offence-faulty, IsTold, IsAt, at_end, Pass, IsPassOf, attributes_of, standing, cycle, ended_times}
 use Rattle.multi_token.specs.declared.token.Kind.TheVariants as kinds
-use Rattle.multi_token.specs.declared.token.Token.{Token}
-use Rattle.multi_token.proofs.PlaceLemmas.{single_token}
-use Rattle.multi_token.proofs.ReadingLemmas.{spelling_some}
-use Rattle.sign_font.specs.Sign.{SignData}
-use Rattle.multi_meaning.specs.declared.fault.SyntaxError.{SyntaxError}
-use Rattle.multi_meaning.specs.Codes.{code_of}
-use Rattle.multi_meaning.specs.kept.ItemAt.{IsFaultAt, IsItemAt}
-use Rattle.multi_meaning.specs.Laid.{too_big}
-use Rattle.multi_meaning.specs.Meaning.{Meaning, Shows, meaning}
-use Rattle.multi_meaning.specs.Offence.{offence}
-use Rattle.multi_meaning.specs.Verdict.{IsVerdict, Refused, pages_of}
-use Rattle.multi_meaning.proofs.OffenceLemmas.{offence-faulty}
-use Rattle.multi_layout.specs.kept.Told.{IsRefused, IsTold}
-use Rattle.multi_judge.specs.Judging.{IsAt, IsBehind, ReadSoFar}
-use Rattle.multi_judge.proofs.ReadLemmas.{read_more, refused_at_bracket, refused_here, accepted_at_end, at_end, cycle_at_end}
-use Rattle.multi_judge.specs.declared.pass.Pass.{Pass}
-use Rattle.multi_judge.specs.PassState.{IsPassOf}
-use Rattle.multi_judge.specs.State.{attributes_of, whole_times}
-use Rattle.multi_meaning.specs.Address.{standing}
-use Rattle.multi_meaning.specs.Times.{cycle, ended_times}
+use Rattle.multi_meaning.specs.Verdict.{Refused}
+use Rattle.multi_layout.specs.kept.Told.{IsRefused}
+use Rattle.multi_judge.specs.Judging.{IsBehind, ReadSoFar}
+use Rattle.multi_judge.proofs.ReadLemmas.{read_more, refused_at_bracket, refused_here, accepted_at_end, cycle_at_end, kept_pages, kept_times}
+use Rattle.multi_judge.specs.State.{whole_times}
 use Rattle.multi_judge.proofs.FilledJudgedLemmas.{attributes_here}
-use Rattle.multi_judge.proofs.FilledReadLemmas.{kept_pages, kept_times}
 
 module _ (sign : SignData) (octets : List ℕ) (at first : ℕ) (IsKept : List Meaning → Type 0) (source : Counted) (i : IsAt sign octets at (Some first) IsKept source) (short : length octets < 2 ^ 32) where
   here : slice_get octets at ≡ Some first

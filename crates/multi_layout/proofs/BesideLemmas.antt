@@ -1,54 +1,24 @@
 -- A character stands beside the one before it, where both have the same attributes.
-use Rattle.std.proofs.Common.{◌≡◌, ℕ, ◌+◌, ◌-◌, ◌^◌, ◌<◌, ◌≤◌, Bool, true, false, cond, ◌&&◌, ◌||◌, ◌==◌, List, [], ◌∷◌, ◌++◌, length, take, map, Option, Some, None, slice_get, refl, sym, ap, subst, ◌∙◌, arith, append_assoc, rules}
-use Rattle.std.specs.Prelude.{slice_index_or, if◌then◌else◌}
-use Rattle.std.specs.List.{after_last, count_by}
-use Rattle.std.specs.Option.{option_map, option_map_or, unwrap_or}
-use Rattle.std.proofs.lemmas.Bool.{eq-eqb}
+use Rattle.multi_layout.proofs.Common.{◌≡◌, ℕ, ◌+◌, ◌-◌, ◌^◌, ◌<◌, ◌≤◌, Bool, true, false, cond, ◌&&◌, ◌||◌, ◌==◌, List, [], ◌∷◌, ◌++◌, length, take, map, Option, Some, None, slice_get, refl, sym, ap, subst, ◌∙◌, arith, append_assoc, rules, if◌then◌else◌, after_last, count_by, option_map, unwrap_or, eq-eqb, IsPlain, line_number, page_number, BitPlane, Off, SignData, CellData, cell_in, cell_numbered, Place, Glyph, Put, Spot, Standing, group_of, in_area, in_group, is_break, is_glyph, lines_of, segment, spots, standing, glyph_width, height_of, width_of, Meaning, Shows, unsized_offence, place_of, standing_push, Attributes, Cursor, NextItem, Layer, State, AreaLines, HasCounted, IsAreaDrawn, IsNextDrawn, IsRunDrawn, StandsAt, IsBetween, IsRead, meant, IsBehindCharacter, lengthened, line_in_force, IsStateOf, meant_by, PlacesCharacter, attributes_of, area_sum, group_lines, present_area, width_in, unsized-undefined, state_beside}
+use Rattle.std.specs.Prelude.{slice_index_or}
+use Rattle.std.specs.Option.{option_map_or}
 use Rattle.std.proofs.lemmas.List.Sums.{sum_by_push}
-use Rattle.multi_token.specs.Spelling.{IsPlain}
 use Rattle.multi_tag.specs.declared.just.LineJust.{LineJust}
 use Rattle.multi_tag.specs.declared.just.LineJust.TheVariants.{Left, Centre, Right, Full}
-use Rattle.multi_tag.specs.Just.{line_number, page_number}
-use Rattle.page_plane.specs.Plane.{BitPlane}
-use Rattle.sign_font.specs.declared.parts.LineFill.TheVariants.{Off}
 use Rattle.sign_font.specs.Cell.{SizedCell}
-use Rattle.sign_font.specs.Sign.{SignData, CellData, cell_in, cell_numbered}
-use Rattle.multi_meaning.specs.declared.place.Place.{Place}
-use Rattle.multi_meaning.specs.Address.{Glyph, Put, Spot, Standing, group_of, in_area, in_group, is_break, is_glyph, line_before, lines_of, segment, spots, standing}
-use Rattle.multi_meaning.specs.Line.{char_gap, glyph_width, height_of, width_of}
-use Rattle.multi_meaning.specs.Meaning.{Meaning, Shows}
-use Rattle.multi_meaning.specs.Offence.{unsized_offence}
-use Rattle.multi_meaning.specs.Place.{place_of, spread, start}
+use Rattle.multi_meaning.specs.Address.{line_before}
+use Rattle.multi_meaning.specs.Line.{char_gap}
+use Rattle.multi_meaning.specs.Place.{spread, start}
 use Rattle.multi_meaning.proofs.GroupLemmas.{glyph_put, own_group, filter_yes}
-use Rattle.multi_meaning.proofs.LayoutLemmas.{width_push}
-use Rattle.multi_meaning.proofs.SpotsLemmas.{spots_more}
-use Rattle.multi_meaning.proofs.StandingLemmas.{standing_push}
+use Rattle.multi_meaning.proofs.StandingLemmas.{width_push, spots_more}
 use Rattle.multi_meaning.proofs.WordLemmas.{last_or_push}
-use Rattle.multi_judge.specs.declared.attributes.Attributes.{Attributes}
-use Rattle.multi_layout.specs.declared.cursor.Cursor.{Cursor}
 use Rattle.multi_judge.specs.declared.item.KnownItem.TheVariants as known
-use Rattle.multi_judge.specs.declared.item.NextItem.{NextItem}
-use Rattle.multi_layout.specs.declared.paint.Layer.{Layer}
-use Rattle.multi_judge.specs.declared.state.State.{State}
-use Rattle.multi_layout.specs.declared.read.AreaLines.{AreaLines}
-use Rattle.multi_layout.specs.kept.AreaDrawing.{HasCounted, IsAreaDrawn}
-use Rattle.multi_layout.specs.kept.RunDrawing.{DrawsCharacter, IsNextDrawn, IsRunDrawn, NextStandsAt, StandsAt}
-use Rattle.multi_layout.specs.kept.Cursors.{IsBetween, IsRead, meant}
-use Rattle.multi_judge.specs.Run.{IsBehindCharacter, lengthened, line_in_force}
-use Rattle.multi_judge.specs.State.{IsStateOf}
+use Rattle.multi_layout.specs.kept.RunDrawing.{DrawsCharacter, NextStandsAt}
 use Rattle.multi_layout.proofs.AreaDrawLemmas.{area_more, next_here}
 use Rattle.multi_layout.proofs.DrawLemmas.{glyph_found, stands_at}
-use Rattle.multi_judge.specs.KnownItem.{meant_by}
-use Rattle.multi_judge.specs.Placing.{PlacesCharacter}
-use Rattle.multi_judge.specs.State.{attributes_of}
-use Rattle.multi_judge.specs.Sums.{area_sum}
-use Rattle.multi_judge.specs.Table.{group_lines}
-use Rattle.multi_meaning.specs.kept.Present.{present_area}
-use Rattle.sign_font.specs.Text.{width_in}
-use Rattle.multi_judge.proofs.GroupSumLemmas.{present_push}
-use Rattle.multi_judge.proofs.JudgedLemmas.{unsized-undefined}
+use Rattle.multi_judge.proofs.LineSumLemmas.{present_push}
 use Rattle.multi_layout.proofs.PieceLemmas.{read_unfilled}
-use Rattle.multi_judge.proofs.RunLemmas.{average_same, state_beside}
+use Rattle.multi_judge.proofs.RunLemmas.{average_same}
 use Rattle.multi_layout.proofs.WalkLemmas.{between_more, map_split, never_offends, octet_next}
 
 -- a value that is only there on a full line

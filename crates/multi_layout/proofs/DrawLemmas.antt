@@ -1,62 +1,30 @@
 -- What is drawn of one more item, and the steps over the plane that it takes.
-use Rattle.std.proofs.Common.{◌≡◌, ℕ, ◌+◌, ◌*◌, ◌^◌, ◌<◌, ◌≤◌, max, Bool, true, false, cond, ◌==◌, ◌⊎◌, inl, inr, List, [], ◌∷◌, ◌++◌, length, map, Option, Some, None, Result, Ok, Err, refl, sym, ap, subst, ◌∙◌, arith, ◌-◌, ◌&&◌, rules}
-use Rattle.std.specs.Prelude.{find, nat_le, nat_lt}
-use Rattle.std.specs.Option.{unwrap_or, option_map}
+use Rattle.multi_layout.proofs.Common.{◌≡◌, ℕ, ◌+◌, ◌*◌, ◌^◌, ◌<◌, ◌≤◌, Bool, true, false, cond, ◌==◌, ◌⊎◌, inl, inr, List, [], ◌∷◌, ◌++◌, length, map, Option, Some, None, Ok, Err, refl, sym, ap, subst, ◌∙◌, arith, ◌-◌, ◌&&◌, rules, nat_lt, unwrap_or, option_map, length-append, spelling, tag_of, Tag, NewPage, NewLine, Back, Rect, BitPlane, is_lit, Defaults, SignData, FontData, cell_in, largest, tallest, CellData, cell_numbered, Standing, standing, put_at, spots, Break, Glyph, Spot, group_of, in_group, lines_of, is_break, in_area, Meaning, Does, Shows, begins_area, is_new_page, meaning, has_colour, shown_colour, is_lit_at, covered_same, eq-eqb, same_page_behind, present_area-placing, Cursor, Layer, State, Attributes, plane_octets, HasCounted, IsDrawnTo, IsFilledBy, IsStateOf, IsBelow, area_sum, IsBetween, meant, LaidItem, below_more, count_by, filter-append, page_number, Place, place_of, present_area, unsized_offence, page_number_known, Area, LineTable, StandsAt, PlacesCharacter, group_lines, table_of}
+use Rattle.std.proofs.Common.{max, Result}
+use Rattle.std.specs.Prelude.{find, nat_le}
 use Rattle.std.specs.Str.{str_to_ascii_lowercase}
 use Rattle.std.proofs.Math.Nat.{le-mul_of_pos_right}
 use Rattle.std.proofs.lemmas.Option.{same_Some}
-use Rattle.std.proofs.lemmas.List.{length-append, length-map}
+use Rattle.std.proofs.lemmas.List.{length-map}
 use Rattle.multi_token.specs.Spelling as spelled
-use Rattle.multi_token.specs.Spelling.{spelling}
 use Rattle.multi_tag.specs.Body.{Spells, SpellsSmall, table}
-use Rattle.multi_tag.specs.TagOf.{tag_of}
 use Rattle.multi_tag.specs.declared.name.Name.{Name}
 use Rattle.multi_tag.specs.declared.name.Name.TheVariants as names
-use Rattle.multi_tag.specs.declared.tag.Tag.{Tag}
-use Rattle.multi_tag.specs.declared.tag.Tag.TheVariants.{NewPage, NewLine, Back, Rect}
 use Rattle.multi_tag.specs.declared.tag.TagFault.{TagFault}
 use Rattle.multi_tag.specs.declared.tag.TagFault.TheVariants.{Unsupported, Value}
 use Rattle.multi_tag.proofs.TagOfLemmas.{tag_of_is_the_table}
-use Rattle.page_plane.specs.Plane.{BitPlane, is_lit}
-use Rattle.sign_font.specs.declared.parts.Defaults.{Defaults}
 use Rattle.sign_font.specs.Cell as cells
-use Rattle.sign_font.specs.Sign.{SignData, FontData, cell_in, largest, tallest, CellData, cell_numbered, sized}
-use Rattle.multi_meaning.specs.Address.{Standing, standing, put_at, spots, Break, Glyph, Spot, group_of, in_group, lines_of, is_break, in_area}
-use Rattle.multi_meaning.specs.Meaning.{Meaning, Does, Shows, begins_area, is_new_page, meaning, meaning_of_tag}
-use Rattle.multi_meaning.specs.Drawn.{has_colour}
+use Rattle.sign_font.specs.Sign.{sized}
+use Rattle.multi_meaning.specs.Meaning.{meaning_of_tag}
 use Rattle.multi_meaning.specs.Drawn as drawn
-use Rattle.multi_meaning.specs.Picture.{shown_colour, is_lit_at}
-use Rattle.multi_meaning.proofs.DrawnLemmas.{covered_cover, covered_same, covered_glyph}
-use Rattle.std.proofs.lemmas.Bool.{eq-eqb}
-use Rattle.multi_meaning.proofs.MeaningLemmas.{does_tag}
-use Rattle.multi_meaning.proofs.SpotsLemmas.{same_page_behind, area_with_glyph}
-use Rattle.multi_layout.specs.declared.cursor.Cursor.{Cursor}
-use Rattle.multi_layout.specs.declared.paint.Layer.{Layer}
-use Rattle.multi_judge.specs.declared.state.State.{State}
-use Rattle.multi_judge.specs.declared.attributes.Attributes.{Attributes}
-use Rattle.multi_layout.specs.Limits.{plane_octets}
-use Rattle.multi_layout.specs.kept.AreaDrawing.{HasCounted, IsCountedBy, IsDrawnTo, IsFilledBy, IsQuiet}
-use Rattle.multi_judge.specs.State.{IsStateOf}
-use Rattle.multi_judge.specs.Sums.{IsBelow, area_sum}
-use Rattle.multi_layout.specs.kept.Cursors.{IsBetween, meant, LaidItem}
-use Rattle.multi_judge.proofs.BoundLemmas.{below_more}
+use Rattle.multi_meaning.proofs.DrawnLemmas.{covered_cover, covered_glyph}
+use Rattle.multi_meaning.proofs.ItemAtLemmas.{does_tag}
+use Rattle.multi_meaning.proofs.StandingLemmas.{area_with_glyph}
+use Rattle.multi_layout.specs.kept.AreaDrawing.{IsCountedBy, IsQuiet}
+use Rattle.multi_judge.proofs.JudgedLemmas.{cell_of_font, shown_free}
 use Rattle.multi_layout.proofs.WalkLemmas.{few_between}
-use Rattle.std.specs.List.{count_by, filter}
-use Rattle.std.proofs.lemmas.List.Elements.{filter-append}
-use Rattle.multi_tag.specs.Just.{page_number}
-use Rattle.multi_meaning.proofs.StateLemmas.{present_area-placing}
-use Rattle.multi_meaning.specs.declared.place.Place.{Place}
-use Rattle.multi_meaning.specs.Place.{place_of}
-use Rattle.multi_meaning.specs.kept.Present.{present_area}
-use Rattle.multi_meaning.specs.Offence.{unsized_offence}
-use Rattle.multi_tag.proofs.JustLemmas.{page_number_known}
-use Rattle.multi_judge.specs.declared.area.Area.{Area}
-use Rattle.multi_judge.specs.declared.table.LineTable.{LineTable}
-use Rattle.multi_layout.specs.kept.RunDrawing.{StandsAt}
-use Rattle.multi_judge.specs.Placing.{PlacesCharacter}
-use Rattle.multi_judge.specs.Table.{group_lines, table_of}
+use Rattle.std.specs.List.{filter}
 use Rattle.multi_judge.proofs.AreaSumLemmas.{no_back, no_clash}
-use Rattle.multi_judge.proofs.JudgedLemmas.{cell_of_font, no_conflict}
 use Rattle.multi_judge.proofs.PlaceLemmas.{line_is_there}
 
 -- A CHARACTER ON A PLANE
@@ -103,8 +71,8 @@ module _ (sign : SignData) (before : List Meaning) (state : State) (st : IsState
         (with ∙ ap area_sum (present_area-placing sign before (Shows number) (Glyph cell) refl (ap (option_map Glyph) numbered) refl))
         (counted (page_number state.attributes.page_just) known.0 known.1 ∙ ap (λ n. table_of (lines_of (in_group n (in_area at.area (spots sign (before ++ Shows number ∷ rest)))))) page)
         (subst (λ g. count_by is_break (group_of spot (spots sign before)) < length (lines_of g)) (sym group) there)
-        (no_clash (spots sign before) spot (page_number at.page_just) refl refl (no_conflict sign before number cell numbered fine))
-        (no_back (spots sign before) spot (page_number state.attributes.page_just) _ (sym page) refl (no_conflict sign before number cell numbered fine))
+        (no_clash (spots sign before) spot (page_number at.page_just) refl refl (shown_free sign before number cell numbered fine))
+        (no_back (spots sign before) spot (page_number state.attributes.page_just) _ (sym page) refl (shown_free sign before number cell numbered fine))
 
   -- a character covers the pixels of its cell if it is lit, and else none
   pub character_put : (rest : List Meaning) (layer : Layer) (place : Place) → StandsAt sign before number rest place → (old new : BitPlane) (on lit : Bool) → is_lit_at layer.phase state.attributes.flash ≡ lit

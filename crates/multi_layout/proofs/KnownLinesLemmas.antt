@@ -1,27 +1,14 @@
 -- The lines that the table has while an area is read.
-use Rattle.std.proofs.Common.{◌≡◌, ℕ, ◌+◌, ◌<◌, ◌≤◌, Bool, true, false, cond, ◌==◌, inl, inr, length, List, [], ◌∷◌, ◌++◌, refl, sym, ap, ◌∙◌, arith, ◌&&◌, subst, append-nil, rules}
-use Rattle.std.specs.Prelude.{nat_lt, if◌then◌else◌}
-use Rattle.std.specs.List.{All, after_last, list_any}
-use Rattle.std.proofs.lemmas.Bool.{cases_eq, cases_lt, eq-eqb, le-ltb, lt-ltb, ne_eqb}
+use Rattle.multi_layout.proofs.Common.{◌≡◌, ℕ, ◌+◌, ◌<◌, ◌≤◌, Bool, true, false, cond, ◌==◌, inl, inr, length, List, [], ◌∷◌, ◌++◌, refl, sym, ap, ◌∙◌, arith, ◌&&◌, subst, append-nil, rules, nat_lt, if◌then◌else◌, All, after_last, cases_eq, eq-eqb, ne_eqb, page_number, line_number, Spot, in_group, is_break, is_glyph, lines_of, segment, height_of, width_of, IsPlacing, ended_lines, placing_group, Area, Group, CountedLine, LineTable, HasCounted, HasKnown, HasRoom, area_sum, group_sum, group_lines, line_count, table_of, line_entry, group_of_own, open_entry, filter-append}
+use Rattle.std.specs.List.{list_any}
+use Rattle.std.proofs.lemmas.Bool.{cases_lt, le-ltb, lt-ltb}
 use Rattle.std.proofs.lemmas.List.{length_push}
-use Rattle.multi_tag.specs.Just.{page_number, line_number}
-use Rattle.multi_meaning.specs.Address.{Spot, in_group, is_break, is_glyph, lines_of, segment}
-use Rattle.multi_meaning.specs.Line.{height_of, width_of}
-use Rattle.multi_meaning.specs.kept.Present.{IsPlacing, ended_lines}
 use Rattle.multi_meaning.specs.Words.{largest}
-use Rattle.multi_meaning.proofs.GroupLemmas.{placing_group, break_put}
-use Rattle.multi_judge.specs.declared.area.Area.{Area}
-use Rattle.multi_judge.specs.declared.area.Group.{Group}
-use Rattle.multi_judge.specs.declared.table.CountedLine.{CountedLine}
-use Rattle.multi_judge.specs.declared.table.LineTable.{LineTable}
-use Rattle.multi_layout.specs.kept.AreaDrawing.{HasCounted, HasKnown, HasRoom, known_lines}
-use Rattle.multi_judge.specs.Sums.{area_sum, group_sum}
-use Rattle.multi_judge.specs.Table.{group_lines, line_count, table_of, line_entry}
-use Rattle.multi_judge.proofs.AreaSumLemmas.{group_behind, group_of_own}
-use Rattle.multi_judge.proofs.PlaceLemmas.{ended_most}
-use Rattle.multi_judge.proofs.SplitLemmas.{each_group}
-use Rattle.multi_judge.proofs.TableLemmas.{lines_closed, lines_open, open_entry, table_length, table_push}
-use Rattle.std.proofs.lemmas.List.Elements.{filter-append}
+use Rattle.multi_meaning.proofs.GroupLemmas.{break_put}
+use Rattle.multi_layout.specs.kept.AreaDrawing.{known_lines}
+use Rattle.multi_judge.proofs.AreaSumLemmas.{group_behind}
+use Rattle.multi_judge.proofs.PlaceLemmas.{ended_most, lines_closed, lines_open, table_length, table_push}
+use Rattle.multi_judge.proofs.RunLemmas.{each_group}
 
 -- ONE MORE LINE
 

@@ -3,18 +3,12 @@ pub mod AreaLinesLemmas
 pub mod AreaReadLemmas
 pub mod AtLemmas
 mod BesideLemmas
+pub mod Common
 pub mod DrawLemmas
-pub mod FilledRoomLemmas
-pub mod FilledStartLemmas
-pub mod FullLemmas
+pub mod FilledLemmas
 pub mod KnownLinesLemmas
 mod LimitExamples
-pub mod LocateLemmas
 pub mod PageDrawLemmas
 pub mod PagesLemmas
 pub mod PieceLemmas
-mod RunLinesLemmas
-mod SettingDrawLemmas
-mod SettingLemmas
-pub mod SkipLemmas
 pub mod WalkLemmas

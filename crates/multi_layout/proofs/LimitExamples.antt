@@ -1,5 +1,5 @@
 -- The limits on steps, computed on the sample sign.
-use Rattle.std.proofs.Common.{◌≡◌, [], ◌∷◌, map, refl}
+use Rattle.multi_layout.proofs.Common.{◌≡◌, [], ◌∷◌, map, refl}
 use Rattle.sign_font.specs.Sample.{sample}
 use Rattle.multi_layout.specs.Limits.{frame_limit}
 

@@ -1,40 +1,13 @@
 -- The areas of a page, drawn one after the other.
-use Rattle.std.proofs.Common.{◌≡◌, ℕ, ◌+◌, ◌-◌, ◌<◌, ◌≤◌, Bool, true, false, cond, ◌==◌, inl, inr, List, [], ◌∷◌, ◌++◌, map, None, Some, refl, sym, ap, subst, ◌∙◌, arith, append-nil, rules}
-use Rattle.std.specs.List.{count_by}
-use Rattle.std.proofs.Math.Nat.{mul-add, mul-le-mul_left}
-use Rattle.std.proofs.lemmas.Bool.{eq-eqb}
-use Rattle.std.proofs.lemmas.List.{map-append}
-use Rattle.std.proofs.lemmas.List.Sums.{sum_by-append}
-use Rattle.multi_token.specs.Reading.{reading}
-use Rattle.multi_token.specs.Spelling.{IsReading, Item, spell}
+use Rattle.multi_layout.proofs.Common.{◌≡◌, ℕ, ◌+◌, ◌-◌, ◌<◌, ◌≤◌, Bool, true, false, cond, ◌==◌, inl, inr, List, [], ◌∷◌, ◌++◌, map, None, Some, refl, sym, ap, subst, ◌∙◌, arith, append-nil, rules, count_by, mul-add, mul-le-mul_left, eq-eqb, map-append, sum_by-append, reading, Item, spell, NewPage, Rect, BitPlane, is_lit, Defaults, SignData, tallest, Standing, put_at, spots, standing, has_colour, laid_out, BeginsPage, Does, EndsArea, Faulty, Meaning, Shows, begins_area, is_new_page, meaning, meanings, picture, shown_colour, IsAccepted, present_area, pages_of, covered_same, same_page_behind, present_area-new, Attributes, NextItem, pages_of-push, Cursor, Layer, AreaLines, plane_octets, IsFilledFew, IsPagePassed, IsPageStart, IsAreaDrawn, IsDrawnUpTo, IsFilledBy, IsPageDrawn, IsBetween, IsFirst, IsRead, items_of, laid_meanings, meant, LaidItem}
+use Rattle.multi_token.specs.Spelling.{IsReading}
 use Rattle.multi_token.proofs.ReadingLemmas.{each_string_has_a_reading, none_found}
 use Rattle.multi_token.proofs.SpellingLemmas.{one_reading}
-use Rattle.multi_tag.specs.declared.tag.Tag.TheVariants.{NewPage, Rect}
-use Rattle.page_plane.specs.Plane.{BitPlane, is_lit}
-use Rattle.sign_font.specs.declared.parts.Defaults.{Defaults}
-use Rattle.sign_font.specs.Sign.{SignData, tallest}
-use Rattle.multi_meaning.specs.Address.{Standing, put_at, spots, standing}
-use Rattle.multi_meaning.specs.Drawn.{has_colour}
 use Rattle.multi_meaning.specs.Drawn as drawn
-use Rattle.multi_meaning.specs.LaidItems.{laid_out}
-use Rattle.multi_meaning.specs.Meaning.{BeginsPage, Does, EndsArea, EndsPage, Faulty, Meaning, Shows, begins_area, is_new_page, meaning, meanings}
-use Rattle.multi_meaning.specs.Picture.{in_plane, picture, shown_colour}
-use Rattle.multi_meaning.specs.kept.Fine.{IsAccepted}
-use Rattle.multi_meaning.specs.kept.Present.{present_area}
-use Rattle.multi_meaning.specs.Verdict.{pages_of}
-use Rattle.multi_meaning.proofs.DrawnLemmas.{covered_begins, covered_ends, covered_same}
-use Rattle.multi_meaning.proofs.SpotsLemmas.{same_page_behind}
-use Rattle.multi_meaning.proofs.StateLemmas.{present_area-new}
-use Rattle.multi_judge.specs.declared.attributes.Attributes.{Attributes}
-use Rattle.multi_judge.specs.declared.item.NextItem.{NextItem}
-use Rattle.multi_judge.proofs.JudgedLemmas.{pages_of-push}
-use Rattle.multi_layout.specs.declared.cursor.Cursor.{Cursor}
-use Rattle.multi_layout.specs.declared.paint.Layer.{Layer}
-use Rattle.multi_layout.specs.declared.read.AreaLines.{AreaLines}
-use Rattle.multi_layout.specs.Limits.{plane_octets}
-use Rattle.multi_layout.specs.kept.PageDrawing.{IsFilledFew, IsPagePassed, IsPageStart}
-use Rattle.multi_layout.specs.kept.AreaDrawing.{IsAreaDrawn, IsDrawnUpTo, IsFilledBy, IsPageDrawn, ReadsArea}
-use Rattle.multi_layout.specs.kept.Cursors.{IsBetween, IsFirst, IsRead, items_of, laid_meanings, meant, LaidItem}
+use Rattle.multi_meaning.specs.Meaning.{EndsPage}
+use Rattle.multi_meaning.specs.Picture.{in_plane}
+use Rattle.multi_meaning.proofs.DrawnLemmas.{covered_begins, covered_ends}
+use Rattle.multi_layout.specs.kept.AreaDrawing.{ReadsArea}
 use Rattle.multi_layout.proofs.AreaDrawLemmas.{area_in, area_over, drawn_more}
 use Rattle.multi_layout.proofs.PieceLemmas.{first_begins, first_ended, laid_pages, no_piece}
 use Rattle.multi_layout.proofs.WalkLemmas.{map_split, within_between}

@@ -1,38 +1,12 @@
 -- The pieces of an accepted string: what each of its items is laid out as.
-use Rattle.std.proofs.Common.{◌≡◌, ℕ, Bool, true, false, cond, inl, inr, List, [], ◌∷◌, ◌++◌, map, Option, Some, None, refl, sym, ap, subst, ◌∙◌, arith, append-nil, rules}
-use Rattle.std.specs.Option.{option_map}
-use Rattle.std.proofs.lemmas.List.{map-append}
-use Rattle.multi_token.specs.Spelling.{Item}
-use Rattle.multi_tag.specs.declared.tag.Tag.{Tag}
-use Rattle.multi_tag.specs.declared.tag.Tag.TheVariants.{NewPage, NewLine}
-use Rattle.sign_font.specs.declared.parts.LineFill.{LineFill}
-use Rattle.sign_font.specs.declared.parts.LineFill.TheVariants.{Off}
-use Rattle.sign_font.specs.Sign.{SignData}
-use Rattle.multi_meaning.specs.Address.{Spot, Standing, is_break, spot_at, spots, standing}
-use Rattle.multi_meaning.specs.Laid.{laid_spot}
-use Rattle.multi_meaning.specs.LaidItems.{laid_item, laid_items, laid_of, laid_out}
+use Rattle.multi_layout.proofs.Common.{◌≡◌, ℕ, Bool, true, false, cond, inl, inr, List, [], ◌∷◌, ◌++◌, map, Option, Some, None, refl, sym, ap, subst, ◌∙◌, arith, append-nil, rules, option_map, map-append, Item, Tag, NewPage, NewLine, LineFill, Off, SignData, Spot, Standing, is_break, spots, standing, laid_spot, laid_item, laid_items, laid_of, laid_out, BeginsPage, Does, EndsArea, Meaning, Shows, begins_area, has_place, meaning, pages_of, IsOrderly, each_after, are_laid, each_after-append, each_after_length, each_after_push, IsStateOf, Cursor, NextItem, KnownItem, Char, meant_by, IsBetween, IsFirst, IsItemRead, IsPlaced, IsRead, items_of, laid_meanings, meant, LaidItem, IsPassing, pages_at, same_times, length-meanings}
+use Rattle.multi_meaning.specs.Address.{spot_at}
 use Rattle.multi_meaning.specs.Line.{given_gap}
-use Rattle.multi_meaning.specs.Meaning.{BeginsPage, Does, EndsArea, Meaning, Shows, begins_area, has_place, meaning}
-use Rattle.multi_meaning.specs.Verdict.{pages_of}
-use Rattle.multi_meaning.specs.kept.Fine.{IsOrderly}
-use Rattle.multi_meaning.specs.Words.{each_after}
-use Rattle.multi_meaning.proofs.LaidItemLemmas.{are_laid}
-use Rattle.multi_meaning.proofs.WordLemmas.{each_after-append, each_after_length, each_after_push}
-use Rattle.multi_meaning.proofs.UnplacedLemmas.{unplaced_item}
-use Rattle.multi_judge.specs.State.{IsStateOf}
-use Rattle.multi_layout.specs.declared.cursor.Cursor.{Cursor}
-use Rattle.multi_judge.specs.declared.item.NextItem.{NextItem}
-use Rattle.multi_judge.specs.declared.item.KnownItem.{KnownItem}
+use Rattle.multi_meaning.proofs.LaidItemLemmas.{unfilled_item}
+use Rattle.multi_meaning.proofs.StandingLemmas.{unplaced_item}
 use Rattle.multi_judge.specs.declared.item.KnownItem.TheVariants as items
-use Rattle.multi_judge.specs.declared.item.KnownItem.TheVariants.{Char}
-use Rattle.multi_judge.specs.KnownItem.{meant_by}
-use Rattle.multi_layout.specs.kept.Cursors.{IsBetween, IsFirst, IsItemRead, IsPieceFirst, IsPlaced, IsRead, items_of, laid_meanings, meant, LaidItem, pieces_of}
-use Rattle.multi_layout.specs.kept.Passing.{IsPassing}
-use Rattle.multi_judge.proofs.FilledStateLemmas.{pages_at, same_times}
-use Rattle.multi_layout.proofs.SkipLemmas.{settled_at}
-use Rattle.multi_meaning.proofs.UnfilledItemLemmas.{unfilled_item}
-use Rattle.multi_meaning.proofs.VerdictLemmas.{length-meanings}
-use Rattle.multi_layout.proofs.WalkLemmas.{few_pieces, laid_here, same_parts}
+use Rattle.multi_layout.specs.kept.Cursors.{IsPieceFirst, pieces_of}
+use Rattle.multi_layout.proofs.WalkLemmas.{settled_at, few_pieces, laid_here, same_parts}
 
 -- THE PIECES OF A STRING
 

@@ -1,13 +1,7 @@
 -- Worked examples of what items mean and of the attributes that they give, computed on the sample sign.
-use Rattle.std.proofs.Common.{◌≡◌, ℕ, Bool, true, false, List, [], ◌∷◌, map, Option, Some, None, inr, refl}
-use Rattle.multi_tag.specs.declared.just.LineJust.TheVariants.{Centre, Full}
-use Rattle.multi_tag.specs.declared.just.PageJust.TheVariants.{Middle, Bottom}
-use Rattle.multi_tag.specs.declared.tag.Tag.TheVariants.{NewLine, NewPage, LineJust, PageJust, CharSpacing, CharSpacingEnd, Flash, FlashEnd, Rect}
-use Rattle.sign_font.specs.Sample.{sample}
-use Rattle.sign_font.specs.declared.parts.Defaults.{Defaults}
-use Rattle.multi_meaning.specs.declared.attributes.FlashTimes.{FlashTimes}
-use Rattle.multi_meaning.specs.Meaning.{Meaning, Shows, Does, Faulty, EndsArea, begins_area, has_place}
-use Rattle.multi_meaning.specs.Attributes.{given_line_just, given_page_just, given_spacing, given_flash, is_inside, rectangle}
+use Rattle.multi_meaning.proofs.Common.{◌≡◌, ℕ, Bool, true, false, List, [], ◌∷◌, map, Option, Some, None, inr, refl, Centre, Full, Middle, Bottom, NewLine, NewPage, Rect, sample, Defaults, FlashTimes, Meaning, Shows, Does, Faulty, EndsArea, begins_area, has_place, is_inside}
+use Rattle.multi_tag.specs.declared.tag.Tag.TheVariants.{LineJust, PageJust, CharSpacing, CharSpacingEnd, Flash, FlashEnd}
+use Rattle.multi_meaning.specs.Attributes.{given_line_just, given_page_just, given_spacing, given_flash, rectangle}
 
 -- MEANING
 

@@ -1,21 +1,61 @@
--- A pixel of a page at one more item, where a page begins and where it ends.
-use Rattle.std.proofs.Common.{◌≡◌, ℕ, ◌+◌, ◌-◌, Bool, false, cond, ◌&&◌, ◌==◌, List, [], ◌∷◌, ◌++◌, Option, Some, None, refl, ap, ◌∙◌, arith, append-nil, subst, ◌⊎◌, inl, inr, nat_le, nat_lt, option_map, unwrap_or, sym}
-use Rattle.std.specs.List.{filter_map, cons_option, All}
-use Rattle.std.proofs.lemmas.Bool.{cases_Bool, eq-eqb}
-use Rattle.std.proofs.lemmas.List.Elements.{All-cons, All-head, All-tail, filter_map-append}
-use Rattle.multi_tag.specs.declared.tag.Tag.TheVariants.{NewPage, Back}
-use Rattle.sign_font.specs.declared.parts.Defaults.{Defaults}
-use Rattle.sign_font.specs.Cell as cells
-use Rattle.sign_font.specs.Sign.{SignData, CellData, cell_numbered, sized}
-use Rattle.multi_meaning.specs.Address.{standing, Put, Glyph, Break, Cover, Spot, put_at, spots}
-use Rattle.multi_meaning.specs.Place.{place_of}
-use Rattle.multi_meaning.specs.Picture.{Thing, thing_at, things_among, things, colour_of, shown_colour, is_lit_at, in_plane}
-use Rattle.multi_meaning.specs.Drawn.{has_colour}
-use Rattle.multi_meaning.specs.Meaning.{Meaning, Shows, Does, BeginsPage, EndsPage}
+-- A cell that is put on a plane.
+use Rattle.multi_meaning.proofs.Common.{◌≡◌, ℕ, ◌+◌, ◌-◌, ◌<◌, ◌≤◌, Bool, ◌&&◌, nat_le, nat_lt, min, List, length, take, arith, ◌^◌, Option, subst, IfSome, cond, ◌==◌, [], ◌∷◌, Some, None, refl, false, ◌++◌, ap, ◌∙◌, append-nil, ◌⊎◌, inl, inr, option_map, unwrap_or, sym, nat_tests, All-cons, All-head, All-tail, filter_map-append, filter_map, cons_option, All, cases_Bool, option_map_or, NewPage, Back, Defaults, SignData, CellData, cell_numbered, thing_at, things_among, things, in_plane, some_after, standing, Put, Glyph, Break, Cover, Spot, put_at, spots, place_of, has_colour, Meaning, Shows, Does}
+use Rattle.std.proofs.Common.{slice_index, get_or-take, length-take-le}
+use Rattle.std.proofs.lemmas.List.{get_or_default}
+use Rattle.std.proofs.lemmas.List.Elements.{All-take}
+use Rattle.std.specs.List.{AllByRecursion}
+use Rattle.std.proofs.lemmas.Bool.{eq-eqb}
+use Rattle.page_plane.specs.Put.{is_put, is_first_put, is_block_put}
+use Rattle.multi_token.specs.Run.{IsRun, taken}
+use Rattle.sign_font.specs.Advance.{AreAdvances}
+use Rattle.sign_font.specs.Sound.{IsWithin}
+use Rattle.sign_font.specs.Text.{HasWidth}
+use Rattle.sign_font.proofs.AdvanceLemmas.{IsOctet, run_width}
+use Rattle.sign_font.specs.Sign.{sized}
+use Rattle.multi_meaning.specs.Picture.{Thing, colour_of, shown_colour, is_lit_at}
+use Rattle.multi_meaning.specs.Meaning.{BeginsPage, EndsPage}
 use Rattle.multi_meaning.proofs.WordLemmas.{last_or-append, some_after_push, some_after-append, cases_Option}
-use Rattle.multi_meaning.proofs.SpotsLemmas.{spots_behind, spots_nothing, spots_more, spots_with, next_page_behind, some_all, IsFrom, pages_behind}
-use Rattle.std.specs.Option.{option_map_or}
-use Rattle.multi_meaning.proofs.StandingLemmas.{standing_push}
+use Rattle.multi_meaning.proofs.StandingLemmas.{spots_behind, spots_nothing, spots_more, spots_with, next_page_behind, some_all, IsFrom, pages_behind, standing_push}
+use Rattle.sign_font.specs.Cell as cells
+
+-- the pixels of a cell with its upper left pixel at a column and a row
+abbrev pub covers : cells.SizedCell → ℕ → ℕ → ℕ → ℕ → Bool
+covers cell column row x y = nat_le column x && nat_le row y && nat_lt y (row + cell.height) && cells.is_lit cell (x - column) (y - row)
+
+-- of the first rows of a cell, as many as are left of the plane, what comes to a pixel of the plane is what the cell has lit there
+pub put_rows_of : (cell : cells.SizedCell) (rows : List ℕ) (column row wide high shown count x y : ℕ) → cell.width ≤ 64
+    → length rows ≡ cell.height → ((r : ℕ) → r < cell.height → cells.IsRowOf cell r (slice_index rows r))
+    → shown ≡ min cell.width wide → count ≡ min cell.height high → x < column + wide → y < row + high
+    → is_block_put column row shown (take count rows) x y ≡ covers cell column row x y
+unfolding is_first_put is_put
+put_rows_of cell rows column row wide high shown count x y narrow all each shown_is count_is inside above =
+    let long = length-take-le count rows (omega (arith, all, count_is)) in
+    let one = λ (h : y - row < cell.height). each (y - row) h (x - column) in
+    grind (arith, nat_tests, long, one, get_or-take count rows (y - row) 0)
+
+module _ (width_of : ℕ → Option ℕ) (word : Bool) (sound : (octet : ℕ) → IfSome (width_of octet) (IsWithin 1 64)) (table : List ℕ) (tables : AreAdvances width_of word table)
+    (gap room : ℕ) (octets : List ℕ) (len : ℕ) (run : IsRun table gap 0 room octets len) (short : room < 32768) (each : (k : ℕ) → slice_index octets k < 2 ^ 8) where
+  pub front_width : HasWidth width_of gap (take len octets) (taken table gap (take len octets))
+  front_width =
+      let octets' = All-take IsOctet len octets (λ k d h. subst IsOctet (get_or_default octets k 0 d h) (each k)) in
+      run_width width_of word sound table tables gap (take len octets) octets' (omega (arith, run.fits, short))
+
+-- what a thing gives a pixel of a page
+abbrev pub pick : ℕ → ℕ → ℕ → Thing → Option ℕ
+pick page column row thing = cond ((thing.page == page) && thing.covers column row) (Some thing.colour) None
+
+-- what a thing gives it, if there is one
+abbrev pub picked : ℕ → ℕ → ℕ → Option Thing → Option ℕ
+picked page column row None = None
+picked page column row (Some thing) = pick page column row thing
+
+-- what items make, one after the other, gives a pixel the same where each gives it the same
+pub all_same : {X : Type 0} (page column row : ℕ) (f g : List X → X → Option Thing) (Holds : X → Type 0)
+    → ((before : List X) (x : X) → Holds x → picked page column row (f before x) ≡ picked page column row (g before x)) → (xs : List X) → AllByRecursion Holds xs
+    → filter_map (pick page column row) (some_after f xs) ≡ filter_map (pick page column row) (some_after g xs)
+all_same page column row f g Holds same [] hold = refl
+all_same page column row f g Holds same (x ∷ xs) hold =
+    grind (arith, all_same page column row (λ before. f (x ∷ before)) (λ before. g (x ∷ before)) Holds (λ before. same (x ∷ before)) xs hold.1)
 
 -- a pixel has the colour of one more thing, if it covers the pixel, else the colour it had
 abbrev covers_at : Thing → ℕ → ℕ → ℕ → Bool

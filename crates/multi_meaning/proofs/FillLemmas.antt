@@ -1,16 +1,12 @@
 -- Filling at one more character: every break is kept, and at most one is added, in the last line.
-use Rattle.std.proofs.Common.{◌≡◌, inl, inr, ℕ, ◌+◌, ◌<◌, ◌≤◌, true, false, cond, ◌&&◌, List, [], ◌∷◌, ◌++◌, length, take, Option, Some, None, zero, suc, refl, ap, arith, length-append, append_assoc, append-nil, nat_le, option_map}
-use Rattle.std.proofs.lemmas.Bool.{false≢true, false_from_ne_true}
-use Rattle.std.proofs.lemmas.Bool.Decides.{nat_tests}
-use Rattle.std.proofs.lemmas.List.{take_all, drop_all, take-append-le, drop-append-le, take-append-drop}
-use Rattle.multi_meaning.specs.Address.{Spot, segment}
-use Rattle.multi_meaning.specs.Line.{width_of}
-use Rattle.multi_meaning.specs.Fit.{fit, line_fits}
-use Rattle.multi_meaning.proofs.CheckLemmas.{extent-append-le}
-use Rattle.std.proofs.lemmas.List.Elements.{filter-append}
-use Rattle.multi_meaning.proofs.WordLemmas.{cases_Option}
-use Rattle.multi_meaning.specs.Filling.{CutAt, longest_prefix, cut_at_last, longer, is_space, dropped, soft_break, broken_off, fill}
-use Rattle.multi_meaning.proofs.FillListLemmas.{longest_push, longest_all, longest_short, is_cut, none_take}
+use Rattle.multi_meaning.proofs.Common.{◌≡◌, inl, inr, ℕ, ◌+◌, ◌<◌, ◌≤◌, true, false, cond, ◌&&◌, List, [], ◌∷◌, ◌++◌, length, take, Option, Some, None, zero, suc, refl, ap, arith, length-append, append_assoc, append-nil, nat_le, option_map, ◌⊎◌, sym, subst, ◌∙◌, false≢true, false_from_ne_true, nat_tests, take_all, drop_all, drop-append-le, length_push, filter-append, All-head, All-tail, All-push, All-weaker, filter, after_last, AllPass, fold-append, Spot, segment, is_glyph, is_break, width_of, fit, line_fits, CutAt, longest_prefix, cut_at_last, longer, is_space, dropped, filled, IsPlacing, ended_lines}
+use Rattle.std.proofs.Common.{All}
+use Rattle.std.proofs.lemmas.List.{take-append-le, take-append-drop}
+use Rattle.std.specs.List.{flat_map, AllZip}
+use Rattle.std.proofs.lemmas.List.Concat.{flat_map-append}
+use Rattle.multi_meaning.proofs.WordLemmas.{extent-append-le, cases_Option, longest_push, longest_all, longest_short, is_cut, none_take, filter_none, All-around, Cut, cut, cut_from, cut_more, longer_part, part, cut_push, cut_behind_is, cut_behind_push, after_last_is, last_push, ended_is}
+use Rattle.multi_meaning.specs.Filling.{soft_break, broken_off, fill, filled_line}
+use Rattle.multi_meaning.proofs.GroupLemmas.{filter_all, lines_ind, open_glyphs, glyph_put, break_put, glyphs_around, ended_break}
 
 -- WHAT FITS ONE LINE
 
@@ -116,3 +112,219 @@ module _ (width : ℕ) where
     | inr (c, some) ↦
         grind (arith, some, broken_later cs s, broken_fits cs, fill_push n c.behind s (omega (arith, shorter cs c some, h)), fits, append_assoc)
   ]
+
+-- CHARACTERS
+
+pub glyph_none : (line : List Spot) → AllPass is_glyph line → filter is_break line ≡ []
+glyph_none line h = filter_none is_break line (All-weaker (λ x. is_glyph x ≡ true) (λ x. is_break x ≡ false) (λ x glyph. (glyph_put x.at x.put glyph).0) line h)
+
+pub glyphs_before : (line : List Spot) (s : Spot) → AllPass is_glyph line → is_break s ≡ true → filter is_glyph (line ++ s ∷ []) ≡ line
+glyphs_before line s h b = filter-append is_glyph line (s ∷ []) ∙ rw (break_put s.at s.put b, filter_all line h) (append-nil line)
+
+pub break_behind : (line : List Spot) (s : Spot) → AllPass is_glyph line → is_break s ≡ true → filter is_break (line ++ s ∷ []) ≡ s ∷ []
+break_behind line s h b = filter-append is_break line (s ∷ []) ∙ rw (glyph_none line h, b) refl
+
+pub flat_map_push : {X Y : Type 0} (f : X → List Y) (xs : List X) (x : X) → flat_map f (xs ++ x ∷ []) ≡ flat_map f xs ++ f x
+flat_map_push f xs x = flat_map-append f xs (x ∷ []) ∙ ap (λ l. flat_map f xs ++ l) (append-nil (f x))
+
+module _ (width : ℕ) where
+  -- THE FILLED GROUP
+
+  -- the lines that an `nl` ended, filled
+  abbrev pub front : List Spot → List Spot
+  front g = flat_map (filled_line width) (cut is_break g).closed
+
+  -- the characters behind the last `nl`, as they are filled
+  abbrev pub last_parts : List Spot → Filled width
+  last_parts g = parts width (length (cut is_break g).open') (cut is_break g).open'
+
+  -- what is ended, and the open line
+  abbrev pub ended : List Spot → List Spot
+  ended g = front g ++ (last_parts g).closed
+
+  abbrev pub open_line : List Spot → List Spot
+  open_line g = (last_parts g).open'
+
+  pub line_of_glyphs : (line : List Spot) → AllPass is_glyph line → filled_line width line ≡ fill (length line) width line
+  line_of_glyphs line h = rw (filter_all line h, glyph_none line h) (append-nil (fill (length line) width line))
+
+  part_filled : (line : List Spot) → AllPass is_glyph line → flat_map (filled_line width) (part is_break line) ≡ fill (length line) width line
+  part_filled [] h = refl
+  part_filled (s ∷ line) h = append-nil (filled_line width (s ∷ line)) ∙ line_of_glyphs (s ∷ line) h
+
+  -- a filled group is what is ended and the open line
+  pub filled_is : (g : List Spot) → All IsPlacing g → filled (Some width) g ≡ ended g ++ open_line g
+  filled_is g placing = grind (arith, cut_behind_is, flat_map-append, part_filled, open_glyphs, fill_is, append_assoc)
+
+  more_filled : (g : List Spot) (s : Spot) → filled (Some width) (g ++ s ∷ []) ≡ front g ++ filled_line width ((cut is_break g).open' ++ s ∷ [])
+  more_filled g s = ap (flat_map (filled_line width)) (cut_behind_push is_break g s) ∙ flat_map_push (filled_line width) (cut is_break g).closed ((cut is_break g).open' ++ s ∷ [])
+
+  -- one more `nl` stands behind the filled group
+  pub filled_break : (g : List Spot) (s : Spot) → All IsPlacing g → is_break s ≡ true → filled (Some width) (g ++ s ∷ []) ≡ filled (Some width) g ++ s ∷ []
+  filled_break g s placing b = grind (arith, glyphs_before, open_glyphs, break_behind, fill_is, more_filled, filled_is, append_assoc)
+
+  -- one more character: what is ended stays, and the open line with it is broken at its last space where it doesn't fit
+  pub filled_character : (g : List Spot) (s : Spot) → All IsPlacing g → is_glyph s ≡ true → line_fits width (open_line g) ≡ true
+      → filled (Some width) (g ++ s ∷ []) ≡ ended g ++ relaid width (open_line g ++ s ∷ [])
+  filled_character g s placing is fits =
+      let o = (cut is_break g).open' in
+      let n = length o in
+      let size : length (o ++ s ∷ []) ≡ suc n = omega (arith, length_push o s) in
+      let steady = parts_more width n o (omega arith) in
+      let fits' : line_fits width (parts width (suc n) o).open' ≡ true = ap (λ (f : Filled width). line_fits width f.open') steady ∙ fits in
+      let line = line_of_glyphs (o ++ s ∷ []) (All-push (λ x. is_glyph x ≡ true) o s (open_glyphs g placing) is) ∙ ap (λ k. fill k width (o ++ s ∷ [])) size ∙ fill_push width (suc n) o s (omega arith) fits' in
+      more_filled g s ∙ grind (arith, line, steady, append_assoc)
+
+  -- THE OPEN LINE OF A FILLED GROUP
+
+  -- a list that is empty or ends with the end of a line
+  abbrev pub Ends : List Spot → Type 0
+  Ends xs = (xs ≡ []) ⊎ ((ys : List Spot) × (b : Spot) × (is_break b ≡ true) × (xs ≡ ys ++ b ∷ []))
+
+  ends_behind : (xs ys : List Spot) → Ends xs → Ends ys → Ends (xs ++ ys)
+  ends_behind xs ys h (inl none) = subst Ends (sym (ap (λ l. xs ++ l) none ∙ append-nil xs)) h
+  ends_behind xs ys h (inr (zs, b, is, e)) = inr (xs ++ zs, b, is, ap (λ l. xs ++ l) e ∙ sym (append_assoc xs zs (b ∷ [])))
+
+  one_ends : (xs : List Spot) (b : Spot) → is_break b ≡ true → Ends (xs ++ b ∷ [])
+  one_ends xs b is = inr (xs, b, is, refl)
+
+  pub open_line_glyphs : (g : List Spot) → All IsPlacing g → AllPass is_glyph (open_line g)
+  open_line_glyphs g placing =
+      fill_ind width (λ cs f. AllPass is_glyph cs → AllPass is_glyph f.open') (λ cs h. h)
+      (λ cs c f is ih h. ih (All-around (λ x. is_glyph x ≡ true) c.before c.item c.behind (subst (AllPass is_glyph) is h)).2)
+      (length (cut is_break g).open') (cut is_break g).open' (open_glyphs g placing)
+
+  pub ended_ends : (g : List Spot) → All IsPlacing g → Ends (ended g)
+  ended_ends g placing =
+      let lines = lines_ind (λ before lines. Ends (flat_map (filled_line width) lines)) (inl refl) (λ before lines line s glyphs e h.
+      let one : Ends (filled_line width (line ++ s ∷ [])) = rw (break_behind line s glyphs e) (one_ends (fill (length (filter is_glyph (line ++ s ∷ []))) width (filter is_glyph (line ++ s ∷ []))) s e) in
+      rw (flat_map_push (filled_line width) lines (line ++ s ∷ []))
+      (ends_behind (flat_map (filled_line width) lines) (filled_line width (line ++ s ∷ [])) h one)) g placing in
+      ends_behind (front g) (last_parts g).closed lines.holds (fill_ind width (λ cs f. Ends f.closed) (λ cs. inl refl) (λ cs c f is ends.
+      subst Ends (append_assoc c.before (dropped c.item ∷ []) f.closed) (ends_behind (c.before ++ dropped c.item ∷ []) f.closed
+      (one_ends c.before (dropped c.item) refl) ends))
+      (length (cut is_break g).open') (cut is_break g).open')
+
+-- a group, filled to a width or to none: nothing, and one more `nl`
+pub filled_none : (o : Option ℕ) → filled o [] ≡ []
+filled_none o = grind arith
+
+pub filled_behind : (o : Option ℕ) (g : List Spot) (s : Spot) → All IsPlacing g → is_break s ≡ true → filled o (g ++ s ∷ []) ≡ filled o g ++ s ∷ []
+filled_behind o g s placing b = grind (arith, filled_break)
+
+-- a cut list with characters behind it
+cut_glyphs : (ys : List Spot) (c : Cut Spot) → AllPass is_glyph ys → cut_from is_break c ys ≡ record { closed = c.closed; open' = c.open' ++ ys }
+cut_glyphs [] c h = ap (λ l. let d : Cut Spot = record { closed = c.closed; open' = l } in d) (sym (append-nil c.open'))
+cut_glyphs (y ∷ ys) c h = grind (arith, All-head, append_assoc, cut_glyphs ys (longer_part is_break c y) (All-tail (λ x. is_glyph x ≡ true) y ys h))
+
+pub cut_with : (ys xs : List Spot) → AllPass is_glyph ys → cut is_break (xs ++ ys) ≡ record { closed = (cut is_break xs).closed; open' = (cut is_break xs).open' ++ ys }
+cut_with ys xs h = fold-append (cut_more is_break) (record { closed = []; open' = [] }) xs ys ∙ cut_glyphs ys (cut is_break xs) h
+
+pub ends_open : (width : ℕ) (xs : List Spot) → Ends width xs → (cut is_break xs).open' ≡ []
+ends_open width xs ends = grind (arith, cut_push)
+
+-- the open line of a filled group stands behind its last end of a line
+pub open_line_is : (width : ℕ) (g : List Spot) → All IsPlacing g → after_last is_break (filled (Some width) g) ≡ open_line width g
+open_line_is width g placing =
+    grind (arith, after_last_is, filled_is width g placing, cut_with (open_line width g) (ended width g) (open_line_glyphs width g placing), ends_open width (ended width g) (ended_ends width g placing))
+
+-- a spot is laid as itself, or, a character, as a dropped one
+abbrev pub LaidAs : Spot → Spot → Type 0
+LaidAs s t = (t ≡ s) ⊎ ((is_glyph s ≡ true) × (t ≡ dropped s))
+
+-- each of these is laid as the one in its place
+abbrev pub LaidAll : List Spot → List Spot → Type 0
+LaidAll xs ys = AllZip LaidAs xs ys
+
+same_laid : (xs : List Spot) → LaidAll xs xs
+same_laid [] = tt
+same_laid (x ∷ xs) = (inl refl, same_laid xs)
+
+laid-append : (as' bs xs ys : List Spot) → LaidAll as' bs → LaidAll xs ys → LaidAll (as' ++ xs) (bs ++ ys)
+laid-append [] [] xs ys h k = k
+laid-append [] (b ∷ bs) xs ys h k = absurd h
+laid-append (a ∷ as') [] xs ys h k = absurd h
+laid-append (a ∷ as') (b ∷ bs) xs ys h k = (h.0, laid-append as' bs xs ys h.1 k)
+
+module _ (width : ℕ) where
+  fill_laid : (n : ℕ) (cs : List Spot) → AllPass is_glyph cs → LaidAll cs ((parts width n cs).closed ++ (parts width n cs).open')
+  fill_laid = fill_ind width (λ cs f. AllPass is_glyph cs → LaidAll cs (f.closed ++ f.open')) (λ cs h. same_laid cs) (λ cs c f is ih h.
+      let (before, space, behind) = All-around (λ x. is_glyph x ≡ true) c.before c.item c.behind (subst (AllPass is_glyph) is h) in
+      subst (λ l. LaidAll l ((c.before ++ dropped c.item ∷ f.closed) ++ f.open')) (sym is)
+      (rw (append_assoc c.before (dropped c.item ∷ f.closed) f.open')
+      (laid-append c.before c.before (c.item ∷ c.behind) (dropped c.item ∷ (f.closed ++ f.open')) (same_laid c.before)
+      (inr (space, refl), ih behind))))
+
+  -- the lines that an `nl` ended, and then all
+  some_laid : (g : List Spot) → All IsPlacing g → LaidAll g (filled (Some width) g)
+  some_laid g placing =
+      let last = last_parts width g in
+      let lines = lines_ind (λ before lines. LaidAll before (flat_map (filled_line width) lines)) tt (λ before lines line s glyphs e h.
+      let laid_line = laid-append line _ (s ∷ []) (s ∷ []) (fill_laid (length line) line glyphs) (inl refl, tt) in
+      let one : LaidAll (line ++ s ∷ []) (filled_line width (line ++ s ∷ [])) =
+      rw (glyphs_before line s glyphs e, break_behind line s glyphs e, fill_is width (length line) line) laid_line in
+      rw (flat_map_push (filled_line width) lines (line ++ s ∷ [])) (laid-append before (flat_map (filled_line width) lines) (line ++ s ∷ [])
+      (filled_line width (line ++ s ∷ [])) h one)) g placing in
+      let all = laid-append lines.before (front width g) (cut is_break g).open' (last.closed ++ last.open') lines.holds
+      (fill_laid (length (cut is_break g).open') (cut is_break g).open' lines.glyphs) in
+      subst (λ l. LaidAll l (filled (Some width) g)) (sym lines.is)
+      (rw (filled_is width g placing, append_assoc (front width g) last.closed last.open') all)
+
+-- a filled group has each of its items in its place
+pub filled_laid : (o : Option ℕ) (g : List Spot) → All IsPlacing g → LaidAll g (filled o g)
+filled_laid o g placing = grind (arith, same_laid, some_laid)
+
+-- THE PARTS OF THE OPEN LINE
+
+-- the parts around a line's last space, at one more character: a space begins a new word, another character lengthens the last
+pub word_begins : (line : List Spot) (s : Spot) → is_space s ≡ true → cut_at_last is_space (line ++ s ∷ []) ≡ Some (record { before = line; item = s; behind = [] })
+word_begins line s space = last_push is_space line s ∙ rw space refl
+
+pub word_grows : (line : List Spot) (s : Spot) (o : Option (CutAt Spot)) → is_space s ≡ false → cut_at_last is_space line ≡ o → cut_at_last is_space (line ++ s ∷ []) ≡ option_map (longer (s ∷ [])) o
+word_grows line s o word e = last_push is_space line s ∙ rw (word, e) refl
+
+-- THE OPEN LINE WITH ONE MORE CHARACTER
+
+module _ (width : ℕ) (g : List Spot) (s : Spot) (placing : All IsPlacing g) (glyph : is_glyph s ≡ true) (fits : line_fits width (open_line width g) ≡ true) where
+  -- the group with an item behind it, by what its open line becomes
+  behind : (y : Spot) → relaid width (open_line width g ++ s ∷ []) ≡ open_line width g ++ y ∷ [] → filled (Some width) (g ++ s ∷ []) ≡ filled (Some width) g ++ y ∷ []
+  behind y is =
+      filled_character width g s placing glyph fits
+      ∙ ap (λ l. ended width g ++ l) is
+      ∙ sym (append_assoc (ended width g) (open_line width g) (y ∷ []))
+      ∙ ap (λ l. l ++ y ∷ []) (sym (filled_is width g placing))
+
+  -- it fits: it stands on the line
+  pub stands : line_fits width (open_line width g ++ s ∷ []) ≡ true → filled (Some width) (g ++ s ∷ []) ≡ filled (Some width) g ++ s ∷ []
+  stands h = behind s (rw h refl)
+
+  -- a space that doesn't fit: it is dropped, and ends the line
+  pub drops : line_fits width (open_line width g ++ s ∷ []) ≡ false → is_space s ≡ true → filled (Some width) (g ++ s ∷ []) ≡ filled (Some width) g ++ dropped s ∷ []
+  drops h space = behind (dropped s) (rw (h, word_begins (open_line width g) s space) refl)
+
+  -- another that doesn't fit, where the line has a space: the last one ends the line, and what stands behind it begins the next
+  pub breaks : (c : CutAt Spot) → line_fits width (open_line width g ++ s ∷ []) ≡ false → is_space s ≡ false → cut_at_last is_space (open_line width g) ≡ Some c
+      → filled (Some width) (g ++ s ∷ []) ≡ ((ended width g ++ c.before) ++ dropped c.item ∷ []) ++ (c.behind ++ s ∷ [])
+  breaks c h word found =
+      filled_character width g s placing glyph fits
+      ∙ rw (h, word_grows (open_line width g) s (Some c) word found) refl
+      ∙ sym (append_assoc (ended width g) c.before (dropped c.item ∷ (c.behind ++ s ∷ [])))
+      ∙ sym (append_assoc (ended width g ++ c.before) (dropped c.item ∷ []) (c.behind ++ s ∷ []))
+
+  -- without a space the line stays, and doesn't fit
+  pub stays : line_fits width (open_line width g ++ s ∷ []) ≡ false → is_space s ≡ false → cut_at_last is_space (open_line width g) ≡ None → filled (Some width) (g ++ s ∷ []) ≡ filled (Some width) g ++ s ∷ []
+  stays h word none = behind s (rw (h, word_grows (open_line width g) s None word none) refl)
+
+-- characters behind a group end no line
+ended_glyphs : (xs ys : List Spot) → AllPass is_glyph ys → ended_lines (xs ++ ys) ≡ ended_lines xs
+ended_glyphs xs ys glyphs = ended_is is_break (xs ++ ys) ∙ ap (λ (d : Cut Spot). d.closed) (cut_with ys xs glyphs) ∙ sym (ended_is is_break xs)
+
+-- the line that is broken ends with the space that is dropped
+pub broken_line : (width : ℕ) (g : List Spot) (s : Spot) → All IsPlacing g → is_glyph s ≡ true → line_fits width (open_line width g) ≡ true
+    → (c : CutAt Spot) → line_fits width (open_line width g ++ s ∷ []) ≡ false → is_space s ≡ false → cut_at_last is_space (open_line width g) ≡ Some c
+    → ended_lines (filled (Some width) (g ++ s ∷ [])) ≡ ended_lines (filled (Some width) g) ++ (c.before ++ dropped c.item ∷ []) ∷ []
+broken_line width g s placing glyph fits c wide word found =
+    let front = ended width g in
+    let glyphs = open_line_glyphs width g placing in
+    let (before, behind) = glyphs_around c.before c.item c.behind (subst (AllPass is_glyph) (is_cut is_space (open_line width g) c found).parts glyphs) in
+    grind (arith, breaks width g s placing glyph fits c wide word found, ended_glyphs front c.before before, filled_is width g placing, ended_glyphs front (open_line width g) glyphs, after_last_is, cut_with c.before front before, ends_open width front (ended_ends width g placing), ended_glyphs ((front ++ c.before) ++ dropped c.item ∷ []) (c.behind ++ s ∷ []) (All-push (λ x. is_glyph x ≡ true) c.behind s behind glyph), ended_break (front ++ c.before) (dropped c.item) refl)

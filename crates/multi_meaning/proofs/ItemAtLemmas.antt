@@ -1,20 +1,27 @@
--- What stands at an offset of a string, from what was read there.
-use Rattle.std.proofs.Common.{◌≡◌, ℕ, ◌+◌, ◌-◌, ◌*◌, ◌^◌, ◌<◌, ◌≤◌, true, false, List, length, slice_get, inr, ◌⊎◌, Option, Err, Some, refl, ◌∙◌, arith, min, nat_eq}
+-- What a token's item means, from what its tag was read as.
+use Rattle.multi_meaning.proofs.Common.{nat_tests, ◌≡◌, ℕ, List, arith, ◌+◌, ◌-◌, ◌*◌, ◌^◌, ◌<◌, ◌≤◌, true, false, length, inr, ◌⊎◌, Option, Some, refl, ◌∙◌, min, nat_eq, Tag, tag_of, Does, meaning, Faulty, Shows}
+use Rattle.std.proofs.lemmas.List.{append-nil, append_assoc}
+use Rattle.std.proofs.Common.{Result, slice_get, Err}
 use Rattle.std.specs.Option.{option_eq}
 use Rattle.multi_token.specs.declared.token.Token.{Token}
-use Rattle.multi_token.specs.declared.token.Kind.TheVariants as kinds
-use Rattle.multi_token.specs.Tokens.{IsTagOf, body_of}
+use Rattle.multi_token.specs.Tokens.{body_of, item_of, IsTagOf}
+use Rattle.multi_tag.specs.declared.tag.TagFault.{TagFault}
 use Rattle.multi_token.proofs.PlaceLemmas.{doubled_token, length-tag}
 use Rattle.multi_tag.specs.Closed.{IsTagAt}
-use Rattle.multi_tag.specs.declared.tag.Tag.{Tag}
-use Rattle.multi_tag.specs.declared.tag.TagFault.{TagFault}
-use Rattle.multi_tag.specs.TagOf.{tag_of}
 use Rattle.multi_tag.proofs.AheadLemmas.{body_long}
 use Rattle.multi_tag.proofs.ShortLemmas.{short_body}
 use Rattle.multi_tag.proofs.TagOfLemmas.{tag_of-spelled}
+use Rattle.multi_meaning.specs.Meaning.{meaning_of_tag, said_by}
 use Rattle.multi_meaning.specs.kept.ItemAt.{IsFaultAt, IsItemAt}
-use Rattle.multi_meaning.specs.Meaning.{Faulty, Shows, meaning_of_tag, said_by}
-use Rattle.multi_meaning.proofs.MeaningLemmas.{meaning-tag}
+use Rattle.multi_token.specs.declared.token.Kind.TheVariants as kinds
+
+-- a tag that says that some tag is done is that tag
+pub does_tag : (said tag : Tag) → said_by said ≡ Does tag → said ≡ tag
+does_tag said tag e = grind arith
+
+-- the item of a tag means what its body is read as
+pub meaning-tag : (octets : List ℕ) (token : Token) (result : Result Tag TagFault) → token.kind ≡ kinds.Tag → tag_of (body_of octets token) ≡ result → meaning (item_of octets token) ≡ meaning_of_tag result
+meaning-tag octets token result kind is = grind (arith, nat_tests, append_assoc, append-nil)
 
 -- an octet that was read, by a comparison
 pub read_is : (found : Option ℕ) (octet : ℕ) → true ≡ option_eq nat_eq found (Some octet) → found ≡ Some octet

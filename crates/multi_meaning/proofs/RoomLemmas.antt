@@ -1,29 +1,120 @@
--- The present area behind the items of an accepted string fits the rectangle in force, and has no more lines than the sign
--- has rows.
-use Rattle.std.proofs.Common.{◌≡◌, inl, inr, ℕ, ◌+◌, ◌≤◌, true, false, cond, ◌&&◌, ◌||◌, length, List, [], ◌∷◌, ◌++◌, Option, Some, None, refl, sym, ap, ◌∙◌, arith, IsSome, option_map}
-use Rattle.std.proofs.lemmas.Bool.{le-leb, not-false, or_parts}
-use Rattle.multi_tag.specs.declared.tag.Tag.TheVariants.{NewPage, NewLine, Back, Rect}
-use Rattle.sign_font.specs.declared.parts.LineFill.{LineFill}
-use Rattle.sign_font.specs.declared.parts.LineFill.TheVariants.{Off}
-use Rattle.sign_font.specs.Sign.{SignData, font_numbered, cell_numbered}
-use Rattle.sign_font.specs.Sound.{IsSound}
-use Rattle.multi_meaning.specs.declared.attributes.Rectangle.{Rectangle}
-use Rattle.multi_meaning.specs.Meaning.{Meaning, Shows, Does, begins_area}
-use Rattle.multi_meaning.specs.Attributes.{given_rectangle, whole_sign}
-use Rattle.multi_meaning.specs.Address.{standing, Put, Glyph, Break, Spot, put_at, spots, is_glyph, is_break, in_group, lines_of}
-use Rattle.multi_meaning.specs.Fit.{area_fits}
-use Rattle.multi_meaning.specs.Laid.{too_big}
-use Rattle.multi_meaning.specs.Offence.{offence, conflicts}
-use Rattle.multi_meaning.specs.kept.Present.{present_area}
-use Rattle.multi_meaning.specs.kept.Fine.{IsFine}
-use Rattle.multi_meaning.specs.Words.{some_after}
-use Rattle.multi_meaning.proofs.InForceLemmas.{area_high, each_ind, rectangle_within}
-use Rattle.multi_meaning.proofs.WordLemmas.{cases_Option}
-use Rattle.multi_meaning.proofs.OffenceLemmas.{offence-undefined, offence-character, offence-break}
-use Rattle.multi_meaning.proofs.LinesFitLemmas.{lines_within}
-use Rattle.multi_meaning.proofs.RectangleLemmas.{rectangle_stays}
-use Rattle.multi_meaning.proofs.StateLemmas.{present_area-placing, present_area-nothing, present_area-cover, present_area-new}
+-- What is in force behind the items of an accepted string: the rectangle is inside the sign, and every font is at least one
+use Rattle.multi_meaning.proofs.Common.{◌≡◌, ℕ, ◌+◌, ◌≤◌, Bool, true, ◌&&◌, ◌||◌, ◌==◌, List, [], ◌∷◌, ◌++◌, Option, None, sym, ◌∙◌, arith, IfSome, inl, inr, false, cond, length, Some, refl, ap, option_map, map, subst, length-append, All, cons_option, find, after_last, nat_tests, All-nil, All-head, All-tail, All-filter, All-weaker, filter-append, or_parts, cases_Bool, cases_eq, map-append, Defaults, SignData, CellData, FontData, font_numbered, cell_numbered, NewPage, NewLine, Back, Rect, LineFill, Off, Words, page_number, Item, Rectangle, Meaning, Shows, Does, begins_area, meaning, given_rectangle, whole_sign, Standing, standing, Spot, put_at, spots, is_glyph, is_break, Put, Glyph, Break, in_group, lines_of, segment, glyph_width, height_of, width_of, offence_by, offence, conflicts, present_area, some_after, area_fits, line_fits, too_big, fill_at, filled, offences}
+use Rattle.std.proofs.Common.{IsSome}
+use Rattle.std.proofs.lemmas.List.Elements.{All-drop}
+use Rattle.std.proofs.lemmas.Bool.{le-leb, not-false}
 use Rattle.std.proofs.lemmas.Option.{none-some}
+use Rattle.sign_font.specs.Sound.{IsSound}
+use Rattle.multi_meaning.specs.Attributes.{default_font, given_font}
+use Rattle.multi_meaning.specs.kept.Present.{IsNarrow, IsNarrowArea}
+use Rattle.multi_meaning.proofs.StandingLemmas.{spots_all, offence-rectangle, standing_push, offence-undefined, offence-character, offence-break, rectangle_stays, present_area-placing, present_area-nothing, present_area-cover, present_area-new, last_fine}
+use Rattle.multi_meaning.proofs.WordLemmas.{left_nil, none_of, push_ind, right_nil, some_after_push, some_after-append, cases_Option, after_last_push}
+use Rattle.multi_meaning.specs.kept.Fine.{IsFine}
+use Rattle.multi_meaning.proofs.GroupLemmas.{lines_within, area_placing, in_group_other, own_group, placing_group, each_just, fit_each, sum_least}
+use Rattle.multi_meaning.specs.kept.FillOpen.{AllOpenFit}
+use Rattle.multi_meaning.proofs.FillLemmas.{nothing_fits, segment_front, filled_behind, filled_none}
+
+-- ---- the items of an accepted string, from the end
+
+module _ (sign : SignData) where
+  -- where no item offends by these errors, none of a front of them does
+  pub none_front : (f : List Meaning → Meaning → Option ℕ) (items behind : List Meaning) → some_after f (items ++ behind) ≡ [] → some_after f items ≡ []
+  none_front f items behind none = left_nil (some_after f items) (some_after (λ more. f (items ++ more)) behind) (sym (some_after-append f items behind) ∙ none)
+
+  -- where no item offends by them, the last one doesn't after those before it
+  pub none_last : (f : List Meaning → Meaning → Option ℕ) (items : List Meaning) (item : Meaning) → some_after f (items ++ item ∷ []) ≡ [] → f items item ≡ None
+  none_last f items item none = none_of (f items item) [] (right_nil (some_after f items) (cons_option (f items item) []) (sym (some_after_push f items item) ∙ none))
+
+  -- what holds before the first item, and behind each that doesn't offend if it holds before it, holds behind them all
+  pub each_ind : (f : List Meaning → Meaning → Option ℕ) (P : List Meaning → Type 0) → P [] → ((before : List Meaning) (x : Meaning) → f before x ≡ None → P before → P (before ++ x ∷ []))
+      → (items : List Meaning) → some_after f items ≡ [] → P items
+  each_ind f P first step = push_ind (λ items. some_after f items ≡ [] → P items) (λ none. first)
+      (λ items item holds none. step items item (none_last f items item none) (holds (none_front f items (item ∷ []) none)))
+
+-- ---- the rectangle in force
+
+-- a rectangle is inside the sign
+abbrev pub IsInSign : SignData → Rectangle → Type 0
+IsInSign sign r = (r.left + r.width ≤ sign.width) × (r.top + r.height ≤ sign.height)
+
+module _ (sign : SignData) (big : List Spot → Spot → Bool) where
+  next_in_sign : (before : List Meaning) (x : Meaning) → offence_by big sign before x ≡ None → IsInSign sign (standing sign before).rectangle → IsInSign sign (standing sign (before ++ x ∷ [])).rectangle
+  next_in_sign before x none old = grind (arith, nat_tests, standing_push sign before x, offence-rectangle)
+
+  -- behind the items of an accepted string the rectangle in force is inside the sign
+  pub rectangle_inside : (items : List Meaning) → some_after (offence_by big sign) items ≡ [] → IsInSign sign (standing sign items).rectangle
+  unfolding standing
+  rectangle_inside = each_ind sign (offence_by big sign) (λ before. IsInSign sign (standing sign before).rectangle)
+      (omega arith, omega arith) next_in_sign
+
+  -- and so the rectangle in force is no higher than the sign
+  pub rectangle_within : (items : List Meaning) → some_after (offence_by big sign) items ≡ [] → (standing sign items).rectangle.height ≤ sign.height
+  rectangle_within items none = omega (arith, (rectangle_inside items none).1)
+
+  -- and no wider
+  pub rectangle_width_within : (items : List Meaning) → some_after (offence_by big sign) items ≡ [] → (standing sign items).rectangle.width ≤ sign.width
+  rectangle_width_within items none = omega (arith, (rectangle_inside items none).0)
+
+-- ---- the font in force
+
+-- what holds of each holds of the one that is found
+found_each : {X : Type 0} (P : X → Type 0) (p : X → Bool) (xs : List X) → All P xs → IfSome (find p xs) P
+found_each P p [] all = tt
+found_each P p (x ∷ xs) all = grind (arith, All-head, found_each P p xs (All-tail P x xs all))
+
+-- a cell of at least one column
+abbrev IsWideCell : CellData → Type 0
+IsWideCell cell = 1 ≤ cell.width
+
+-- a font of at least one row, whose cells have at least one column
+abbrev HighFont : FontData → Type 0
+HighFont font = (1 ≤ font.height) × All IsWideCell font.cells
+
+-- what is put in a font of at least one row is, if it is a character, at least one column wide
+abbrev High : Spot → Type 0
+High s = (1 ≤ s.at.font.height) × (is_glyph s ≡ true → 1 ≤ glyph_width s)
+
+high_numbered : (sign : SignData) (number : ℕ) → IsSound sign → IfSome (font_numbered sign number) HighFont
+high_numbered sign number sound = grind (arith, found_each)
+
+-- what an item puts where the font in force is high
+high_put : (defaults : Defaults) (here : Standing) (x : Meaning) → HighFont here.font → IfSome (put_at defaults here x) (λ put. let spot : Spot = record { at = here; put = put } in High spot)
+high_put defaults here x high = grind (arith, found_each IsWideCell, high.0, high.1)
+
+module _ (sign : SignData) (sound : IsSound sign) (some : IsSome (font_numbered sign sign.defaults.font)) where
+  default_high : HighFont (default_font sign)
+  default_high = grind (arith, high_numbered sign sign.defaults.font sound, some)
+
+  -- the font in force and all that is put are high
+  abbrev AreHigh : List Meaning → Type 0
+  AreHigh items = HighFont (standing sign items).font × All High (spots sign items)
+
+  given_high : (x : Meaning) → IfSome (given_font sign x) HighFont
+  given_high x = grind (arith, high_numbered, default_high)
+
+  first_high : AreHigh []
+  unfolding standing spots
+  first_high = (default_high, All-nil High)
+
+  next_high : (before : List Meaning) (x : Meaning) → AreHigh before → AreHigh (before ++ x ∷ [])
+  next_high before x (font, each) = (
+    grind (arith, standing_push sign before x, given_high x, font),
+    spots_all sign High before x (λ put e. rw e at (high_put sign.defaults (standing sign before) x font)) each,
+  )
+
+  -- whatever the items are, all that they put is high
+  area_high_all : (items : List Meaning) → All High (present_area sign items)
+  area_high_all items =
+      let area = (standing sign items).area in
+      All-filter (λ t. (is_glyph t || is_break t) && (t.at.area == area)) High (spots sign items) (push_ind AreHigh first_high next_high items).1
+
+  -- the placing items of the present area are put in fonts of at least one row
+  pub area_high : (items : List Meaning) → All (λ (s : Spot). 1 ≤ s.at.font.height) (present_area sign items)
+  area_high items = All-weaker High (λ (s : Spot). 1 ≤ s.at.font.height) (λ s h. h.0) (present_area sign items) (area_high_all items)
+
+  -- and its characters are at least one column wide
+  pub area_wide : (items : List Meaning) → All (λ (s : Spot). is_glyph s ≡ true → 1 ≤ glyph_width s) (present_area sign items)
+  area_wide items = All-weaker High (λ (s : Spot). is_glyph s ≡ true → 1 ≤ glyph_width s) (λ s h. h.1) (present_area sign items) (area_high_all items)
 
 -- ---- the present area
 
@@ -109,3 +200,93 @@ module _ (sign : SignData) (sound : IsSound sign) (some : IsSome (font_numbered 
   pub room : IsFine sign items → length (lines_of (in_group 2 (present_area sign items))) + length (lines_of (in_group 3 (present_area sign items)))
       + length (lines_of (in_group 4 (present_area sign items))) ≤ 128
   room none = room_of (area_fits_always sign items none) (rectangle_within sign (too_big Off) items none)
+
+-- the present line of each group fits a width
+abbrev pub LinesFit : ℕ → List Spot → Type 0
+LinesFit width area = (just : ℕ) → line_fits width (after_last is_break (in_group just area)) ≡ true
+
+-- lines are filled to a width of their rectangle, or to none
+module _ (setting : LineFill) (fill : Rectangle → Option ℕ) (is : (at : Standing) → fill_at setting at ≡ fill at.rectangle) (sign : SignData) where
+  -- the open line of each group of an area, as it is filled, fits a rectangle
+  abbrev pub Fits : Rectangle → List Spot → Type 0
+  Fits r area = (just : ℕ) → line_fits r.width (after_last is_break (filled (fill r) (in_group just area))) ≡ true
+
+  pub none_fit : (r : Rectangle) → Fits r []
+  none_fit r just = ap (λ l. line_fits r.width (after_last is_break l)) (filled_none (fill r)) ∙ nothing_fits r.width
+
+  pub fits_joins : (before : List Meaning) (put : Put) → let s : Spot = record { at = standing sign before; put = put } in
+      (is_glyph s || is_break s) ≡ true → too_big setting (spots sign before) s ≡ false → Fits s.at.rectangle (present_area sign before) → Fits s.at.rectangle (present_area sign before ++ s ∷ [])
+  fits_joins before put placing small old just =
+      let s : Spot = record { at = standing sign before; put = put } in
+      let group = page_number s.at.page_just in
+      let area = present_area sign before in
+      let whole = filled (fill_at setting s.at) (in_group group area) in
+      let joined : line_fits s.at.rectangle.width (after_last is_break (filled (fill_at setting s.at) (in_group group (area ++ s ∷ [])))) ≡ true =
+      elim (cases_Bool (is_glyph s)) [
+        | inl glyph ↦ not-false _ (or_parts _ _ (rw glyph at small)).0
+        | inr other ↦
+            let ends : is_break s ≡ true = rw other at placing in
+            let behind =
+            filled_behind (fill_at setting s.at) (in_group group area) s (placing_group group area (area_placing (spots sign before) s)) ends in
+            grind (arith, own_group group area s refl, behind, after_last_push is_break whole s, ends, nothing_fits s.at.rectangle.width)
+      ] in
+      elim (cases_eq group just) [ inl own ↦ grind (arith, own, is, joined) | inr other ↦ grind (arith, in_group_other, old) ]
+
+-- behind the items of an accepted string the present line of each group fits the rectangle in force
+pub lines_fit_always : (sign : SignData) (items : List Meaning) → IsFine sign items → LinesFit (standing sign items).rectangle.width (present_area sign items)
+lines_fit_always sign = holds_always Off sign (Fits Off (λ r. None) (λ at. refl) sign) (none_fit Off (λ r. None) (λ at. refl) sign) (fits_joins Off (λ r. None) (λ at. refl) sign)
+
+-- where lines are filled and no item offends, the open line of each group of the present area fits
+module _ (sign : SignData) where
+  abbrev pub OpenLinesFit : List Meaning → Type 0
+  OpenLinesFit items = AllOpenFit (Some (standing sign items).rectangle.width) (present_area sign items)
+
+  pub open_lines_fit : sign.line_fill ≡ Words → (before : List Item) → offences sign before ≡ [] → OpenLinesFit (map meaning before)
+  open_lines_fit words =
+      let fill = λ (r : Rectangle). Some r.width in
+      let fits = Fits Words fill (λ at. refl) sign in
+      let first = none_fit Words fill (λ at. refl) sign in
+      let joins = fits_joins Words fill (λ at. refl) sign in
+      push_ind (λ before. offences sign before ≡ [] → OpenLinesFit (map meaning before)) (λ none. first_holds Words sign fits first joins) (λ before item ih none.
+      let (earlier, fine) = last_fine sign before item none in
+      let fine' = ap (λ setting. offence setting sign (map meaning before) (meaning item)) (sym words) ∙ fine in
+      subst OpenLinesFit (sym (map-append meaning before (item ∷ []))) (next_holds Words sign fits first joins (map meaning before) (meaning item) fine' (ih earlier)))
+
+-- the characters of a segment are at least one column wide
+wide_segment : (just : ℕ) (line : List Spot) → All (λ (s : Spot). is_glyph s ≡ true → 1 ≤ glyph_width s) line → All (λ (s : Spot). 1 ≤ glyph_width s) (segment just line)
+wide_segment just [] all = All-nil (λ (s : Spot). 1 ≤ glyph_width s)
+wide_segment just (s ∷ line) all =
+    grind (arith, All-head, wide_segment just line (All-tail (λ (s : Spot). is_glyph s ≡ true → 1 ≤ glyph_width s) s line all))
+
+module _ (sign : SignData) (sound : IsSound sign) (items : List Meaning) (fits : LinesFit (standing sign items).rectangle.width (present_area sign items))
+    (high : area_fits (standing sign items).rectangle.height (present_area sign items) ≡ true) (across : (standing sign items).rectangle.width ≤ sign.width) (down : (standing sign items).rectangle.height ≤ sign.height) where
+  -- the present line of each group is narrow
+  narrow : (just : ℕ) → IsNarrow (after_last is_break (in_group just (present_area sign items)))
+  narrow just =
+      let line = after_last is_break (in_group just (present_area sign items)) in
+      let P = λ (s : Spot). is_glyph s ≡ true → 1 ≤ glyph_width s in
+      let wide : All P line = All-drop P _ (in_group just (present_area sign items)) (All-filter (λ t. page_number t.at.page_just == just) P (present_area sign items) (area_wide sign sound sound.font items)) in
+      let many = sum_least glyph_width (segment 5 line) (wide_segment 5 line wide) in
+      record {
+        width = each_just (λ just. width_of (segment just line) ≤ 1024) (grind (arith, nat_tests, fits, across, sound.width.1))
+            (grind (arith, nat_tests, fits, across, sound.width.1)) (grind (arith, nat_tests, fits, across, sound.width.1))
+            (grind (arith, nat_tests, fits, across, sound.width.1));
+        characters = grind (arith, nat_tests, many, fits, across, sound.width.1);
+      }
+
+  -- and no group is higher than a sign
+  height : (just : ℕ) → 2 ≤ just → just ≤ 4 → height_of (lines_of (in_group just (present_area sign items))) ≤ 1024
+  height just low top = grind (arith, fit_each)
+
+  pub narrow_of : IsNarrowArea (present_area sign items)
+  narrow_of = λ just low top. (narrow just, height just low top)
+
+-- and so is that behind the items of an accepted string
+pub narrow_area : (sign : SignData) → IsSound sign → (items : List Meaning) → IsFine sign items → IsNarrowArea (present_area sign items)
+narrow_area sign sound items none =
+    narrow_of sign sound items (lines_fit_always sign items none) (area_fits_always sign items none)
+    (rectangle_width_within sign (too_big Off) items none) (rectangle_within sign (too_big Off) items none)
+
+-- and the front of a narrow line
+pub narrow_front : (line behind : List Spot) → IsNarrow (line ++ behind) → IsNarrow line
+narrow_front line behind whole = grind (arith, segment_front, filter-append, length-append)

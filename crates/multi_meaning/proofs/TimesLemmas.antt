@@ -1,21 +1,17 @@
 -- The times of pages, and the page at a clock.
-use Rattle.std.proofs.Common.{◌≡◌, ℕ, zero, suc, ◌+◌, ◌-◌, ◌%◌, ◌<◌, ◌≤◌, Bool, true, false, ◌||◌, ◌==◌, cond, length, take, get_or, List, [], ◌∷◌, ◌++◌, Option, Some, None, refl, ap, ◌∙◌, arith, append_assoc, append-nil, length-append, take-take}
-use Rattle.std.specs.List.{find, range_with_len, slice_get, count_by}
-use Rattle.std.proofs.lemmas.List.Sums.{sum_by-append, sum_by-cons, sum_by_push, sum_by_more, sum_by-take-le}
+use Rattle.multi_meaning.proofs.Common.{◌≡◌, ℕ, zero, suc, ◌+◌, ◌-◌, ◌<◌, ◌≤◌, Bool, true, false, ◌||◌, ◌==◌, cond, length, take, List, [], ◌∷◌, ◌++◌, Option, Some, None, refl, ap, ◌∙◌, arith, append_assoc, append-nil, length-append, ◌^◌, sym, eq-eqb, find, range_with_len, count_by, sum_by-append, sum_by-cons, sum_by_push, take-append_seam, nat_tests, SignData, NewPage, standing, Meaning, Does, is_new_page, meanings, Page, Times, cycle, is_on, page_times, shown, shown_at, shown_within, pages_of, Accepted, IsCycle, IsVerdict, some_after}
+use Rattle.std.proofs.Common.{◌%◌, get_or, take-take}
+use Rattle.std.specs.List.{slice_get}
+use Rattle.std.proofs.lemmas.List.Sums.{sum_by_more, sum_by-take-le}
 use Rattle.std.proofs.lemmas.List.FromFn.{get_or-range_with_len, length-range_with_len}
 use Rattle.std.proofs.lemmas.Option.{slice_get-get_or}
-use Rattle.std.proofs.Math.Seq.{take-append_seam, get_or-append_seam}
-use Rattle.sign_font.specs.Sign.{SignData}
-use Rattle.multi_tag.specs.declared.tag.Tag.TheVariants.{NewPage}
-use Rattle.multi_meaning.specs.Address.{standing}
-use Rattle.multi_meaning.specs.Meaning.{Meaning, Does, is_new_page, meanings}
-use Rattle.multi_meaning.specs.declared.times.Shown.TheVariants.{Page, Off}
-use Rattle.multi_meaning.specs.Times.{Times, begin, cycle, ended_times, is_on, page_times, shown, shown_at, shown_within, times_at}
-use Rattle.multi_meaning.specs.Verdict.{pages_of}
-use Rattle.multi_meaning.specs.Words.{some_after}
-use Rattle.multi_meaning.proofs.WordLemmas.{some_after-append}
+use Rattle.std.proofs.Math.Seq.{get_or-append_seam}
 use Rattle.std.proofs.lemmas.List.Recursion.{found_at}
-use Rattle.std.proofs.lemmas.Bool.Decides.{nat_tests}
+use Rattle.std.proofs.lemmas.Bool.{or_left, or_right}
+use Rattle.multi_meaning.specs.declared.times.Shown.TheVariants.{Off}
+use Rattle.multi_meaning.specs.Times.{begin, ended_times, times_at}
+use Rattle.multi_meaning.proofs.WordLemmas.{some_after-append}
+use Rattle.multi_meaning.proofs.VerdictLemmas.{accepted_is, cycle_is}
 
 -- THE CYCLE
 
@@ -136,3 +132,30 @@ found_below p a (suc n) k is = grind (arith, is, found_below p (a + 1) n k)
 pub page_below : (sign : SignData) (octets : List ℕ) (clock page phase : ℕ) → shown sign octets clock ≡ Page page phase → page < pages_of (meanings octets)
 unfolding shown_within
 page_below sign octets clock page phase is = grind (arith, times_count, shown_always, found_below, shown_modulo)
+
+-- the string has so many pages and these times together
+module _ (sign : SignData) (octets : List ℕ) (pages tenths : ℕ) (verdict : IsVerdict sign octets (Accepted pages))
+    (together : IsCycle sign octets tenths) (short : length octets < 2 ^ 32) where
+  abbrev times : List Times
+  times = page_times sign (meanings octets)
+
+  count : length times ≡ pages
+  count = times_count sign (meanings octets) ∙ sym (accepted_is sign octets pages verdict short).1
+
+  same : cycle times ≡ tenths
+  same = sym (cycle_is sign octets tenths together)
+
+  -- one page, or a cycle of 0, always shows page 0
+  pub always_one : (clock : ℕ) → pages ≡ 1 → shown sign octets clock ≡ Page 0 clock
+  always_one clock one = shown_always times clock (or_left (length times == 1) _ (eq-eqb (length times) 1 (count ∙ one)))
+
+  pub always_none : (clock : ℕ) → tenths ≡ 0 → shown sign octets clock ≡ Page 0 clock
+  always_none clock none = shown_always times clock (or_right (length times == 1) _ (eq-eqb (cycle times) 0 (same ∙ none)))
+
+  -- else what is shown is that at the clock modulo the cycle
+  pub shown_in_turn : (clock : ℕ) → (pages ≡ 1 → ⊥) → (tenths ≡ 0 → ⊥) → shown sign octets clock ≡ shown_within times (clock % tenths)
+  shown_in_turn clock many some = grind (arith, count, same, shown_modulo)
+
+  -- the clock modulo the cycle is below it
+  pub below_cycle : (clock : ℕ) → (tenths ≡ 0 → ⊥) → clock % tenths < cycle times
+  below_cycle clock some = let h : 0 < tenths = omega arith in omega (arith, same)

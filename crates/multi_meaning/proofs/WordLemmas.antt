@@ -1,10 +1,11 @@
 -- The words on lists, at one more item and at two lists.
-use Rattle.std.proofs.Common.{◌≡◌, ◌⊎◌, inl, inr, ℕ, ◌+◌, ◌≤◌, max, length, List, [], ◌∷◌, ◌++◌, Option, Some, None, suc, refl, sym, ap, subst, ◌∙◌, arith, append_assoc, append-nil}
-use Rattle.std.specs.List.{sum_by, filter_map, last_or, cons_option, All}
-use Rattle.std.specs.Option.{option_map, option_map_or}
-use Rattle.std.proofs.lemmas.List.Elements.{filter_map-append, All-nil, All-head, All-push, All-tail, All-weaker}
-use Rattle.std.proofs.lemmas.List.Sums.{sum_by_push, sum_by-cons, fold_push}
-use Rattle.multi_meaning.specs.Words.{each_after, some_after, successive, largest, extent}
+use Rattle.multi_meaning.proofs.Common.{◌≡◌, ◌⊎◌, inl, inr, ℕ, ◌+◌, ◌≤◌, length, List, [], ◌∷◌, ◌++◌, Option, Some, None, suc, refl, sym, ap, subst, ◌∙◌, arith, append_assoc, append-nil, Bool, false, zero, true, cond, take, length-append, nat_lt, sum_by, filter_map, cons_option, list_any, after_last, option_map_or, filter_map-append, All-nil, All-head, All-push, All-tail, All-weaker, filter-append, sum_by_push, sum_by-cons, fold-append, both_ways, cases_Bool, false≢true, list_any-append, nat_tests, drop_all, drop-append-le, page_number, each_after, some_after, largest, CutAt, longest_prefix, cut_at_last, longer, Spot, goes_back}
+use Rattle.std.proofs.Common.{max, filter, All}
+use Rattle.std.specs.List.{last_or, fold, onto_first}
+use Rattle.std.specs.Option.{option_map}
+use Rattle.std.proofs.lemmas.List.Sums.{fold_push}
+use Rattle.std.proofs.lemmas.List.{reverse-append}
+use Rattle.multi_meaning.specs.Words.{successive, extent, cut_behind}
 
 -- each item of two lists
 pub each_after-append : {X Y : Type 0} (f : List X → X → Y) (xs ys : List X) → each_after f (xs ++ ys) ≡ each_after f xs ++ each_after (λ before. f (xs ++ before)) ys
@@ -111,3 +112,189 @@ none_of o more e = grind arith
 
 pub none_mapped : {X Y : Type 0} (f : X → Y) (o : Option X) → option_map f o ≡ None → o ≡ None
 none_mapped f o e = grind arith
+
+pub filter_none : {X : Type 0} (p : X → Bool) (xs : List X) → All (λ x. p x ≡ false) xs → filter p xs ≡ []
+filter_none p [] h = refl
+filter_none p (x ∷ xs) h = rw (All-head (λ x. p x ≡ false) x xs h) (filter_none p xs (All-tail (λ x. p x ≡ false) x xs h))
+
+-- THE LONGEST PREFIX
+
+-- one more item: the whole, or the longest so far
+pub longest_push : {X : Type 0} (p : List X → Bool) (xs : List X) (x : X) → longest_prefix p (xs ++ x ∷ []) ≡ cond (p (xs ++ x ∷ [])) (xs ++ x ∷ []) (longest_prefix p xs)
+longest_push p xs x = grind (arith, each_after_push, filter-append, last_or-append)
+
+-- it is all of a list that passes
+pub longest_all : {X : Type 0} (p : List X → Bool) (xs : List X) → p xs ≡ true → longest_prefix p xs ≡ xs
+longest_all p = push_ind (λ xs. p xs ≡ true → longest_prefix p xs ≡ xs) (λ h. rw h refl) (λ xs x ih h. longest_push p xs x ∙ rw h refl)
+
+-- it is no longer than the list
+longest_most : {X : Type 0} (p : List X → Bool) (xs : List X) → length (longest_prefix p xs) ≤ length xs
+longest_most p = push_ind (λ xs. length (longest_prefix p xs) ≤ length xs) (grind arith) (λ xs x ih. grind (arith, longest_push, length-append, ih))
+
+-- it is shorter than a list that doesn't pass
+pub longest_short : {X : Type 0} (p : List X → Bool) (xs : List X) → p [] ≡ true → p xs ≡ false → length (longest_prefix p xs) + 1 ≤ length xs
+longest_short p xs some = push_ind (λ xs. p xs ≡ false → length (longest_prefix p xs) + 1 ≤ length xs) (λ none. absurd (both_ways (p []) none some))
+    (λ xs x ih none. let more = longest_push p xs x in omega (arith, ap length (rw none at more), longest_most p xs, length-append xs (x ∷ []))) xs
+
+-- A CUT AT THE LAST
+
+abbrev pub last_more : {X : Type 0} → Bool → List X → X → Option (CutAt X) → Option (CutAt X)
+last_more b xs x o = cond b (Some (record { before = xs; item = x; behind = [] })) (option_map (longer (x ∷ [])) o)
+
+module _ {X : Type 0} (p : X → Bool) where
+  pub last_push : (xs : List X) (x : X) → cut_at_last p (xs ++ x ∷ []) ≡ last_more (p x) xs x (cut_at_last p xs)
+  last_push [] x = grind arith
+  last_push (y ∷ xs) x = grind (arith, last_push xs x)
+
+  -- a cut gives the list's parts, and none that passes stands behind
+  pub record IsCut (xs : List X) (c : CutAt X) : Type 0 where
+    pub parts : xs ≡ c.before ++ c.item ∷ c.behind
+    pub passes : p c.item ≡ true
+    pub last : cut_at_last p c.behind ≡ None
+
+  pub is_cut : (xs : List X) (c : CutAt X) → cut_at_last p xs ≡ Some c → IsCut xs c
+  is_cut [] c e = absurd cc
+  is_cut (x ∷ xs) c e = grind (arith, is_cut xs)
+
+  pub none_take : (xs : List X) (n : ℕ) → cut_at_last p xs ≡ None → cut_at_last p (take n xs) ≡ None
+  none_take xs zero h = refl
+  none_take [] (suc n) h = refl
+  none_take (x ∷ xs) (suc n) h = grind (arith, h, none_take xs n)
+
+pub any_largest : {X : Type 0} (f : X → ℕ) (n : ℕ) (xs : List X) → list_any (λ x. nat_lt n (f x)) xs ≡ nat_lt n (largest f xs)
+any_largest f n = push_ind (λ xs. list_any (λ x. nat_lt n (f x)) xs ≡ nat_lt n (largest f xs)) (grind (arith, nat_tests))
+    (λ xs x ih. grind (arith, nat_tests, list_any-append (λ x. nat_lt n (f x)) xs (x ∷ []), largest_push f xs x, ih))
+
+-- a group goes back exactly where it is below the largest so far
+pub group_goes_back : (s : Spot) (area : List Spot) → list_any (goes_back s) area ≡ nat_lt (page_number s.at.page_just) (largest (λ t. page_number t.at.page_just) area)
+group_goes_back s area = any_largest (λ t. page_number t.at.page_just) (page_number s.at.page_just) area
+
+-- a row is at least as long as its beginning
+pub extent-append-le : {X : Type 0} (size : X → ℕ) (gap : X → X → ℕ) (ys xs : List X) → extent size gap xs ≤ extent size gap (xs ++ ys)
+extent-append-le size gap ys xs = push_ind (λ ys. extent size gap xs ≤ extent size gap (xs ++ ys)) (omega (arith, ap (extent size gap) (append-nil xs)))
+    (λ ys y ih. omega (arith, ih, extent_push size gap (xs ++ ys) y, ap (extent size gap) (append_assoc xs ys (y ∷ [])))) ys
+
+-- the parts that are closed, and what stands behind them
+pub record Cut (X : Type 0) : Type 0 where
+  pub closed : List (List X)
+  pub open' : List X
+
+module _ {X : Type 0} (p : X → Bool) where
+  -- one more item ends the open part, or lengthens it
+  abbrev pub ends_part : Cut X → X → Cut X
+  ends_part c x = record { closed = c.closed ++ (c.open' ++ x ∷ []) ∷ []; open' = [] }
+
+  abbrev pub longer_part : Cut X → X → Cut X
+  longer_part c x = record { closed = c.closed; open' = c.open' ++ x ∷ [] }
+
+  abbrev pub cut_more : Cut X → X → Cut X
+  cut_more c x = cond (p x) (ends_part c x) (longer_part c x)
+
+  abbrev pub cut_from : Cut X → List X → Cut X
+  cut_from c xs = fold cut_more c xs
+
+  abbrev pub cut : List X → Cut X
+  cut xs = cut_from (record { closed = []; open' = [] }) xs
+
+  -- a part that isn't empty
+  abbrev pub part : List X → List (List X)
+  part [] = []
+  part (x ∷ xs) = (x ∷ xs) ∷ []
+
+  -- the first part of a cut list with h put before it
+  abbrev onto : List X → List (List X) → List (List X)
+  onto [] parts = parts
+  onto (x ∷ h) parts = onto_first x (onto h parts)
+
+  onto-nil : (h : List X) → onto h [] ≡ part h
+  onto-nil [] = refl
+  onto-nil (x ∷ []) = refl
+  onto-nil (x ∷ y ∷ h) = ap (onto_first x) (onto-nil (y ∷ h))
+
+  onto-cons : (h : List X) (l : List X) (ls : List (List X)) → onto h (l ∷ ls) ≡ (h ++ l) ∷ ls
+  onto-cons [] l ls = refl
+  onto-cons (x ∷ h) l ls = ap (onto_first x) (onto-cons h l ls)
+
+  onto_push : (h : List X) (x : X) (parts : List (List X)) → onto h (onto_first x parts) ≡ onto (h ++ x ∷ []) parts
+  onto_push [] x parts = refl
+  onto_push (y ∷ h) x parts = ap (onto_first y) (onto_push h x parts)
+
+  -- the closed parts and the open one are the parts
+  abbrev Parts : List X → Cut X → Type 0
+  Parts xs c = (cut_from c xs).closed ++ part (cut_from c xs).open' ≡ c.closed ++ onto c.open' (cut_behind p xs)
+
+  cut_parts : (xs : List X) (c : Cut X) → Parts xs c
+  cut_parts [] c = ap (λ l. c.closed ++ l) (sym (onto-nil c.open'))
+  cut_parts (x ∷ xs) c = grind (arith, onto-cons, onto_push, append_assoc, cut_parts xs (ends_part c x), cut_parts xs (longer_part c x))
+
+  -- the parts of two lists
+  pub cut_append : (xs ys : List X) → cut_behind p (xs ++ ys) ≡ (cut xs).closed ++ onto (cut xs).open' (cut_behind p ys)
+  cut_append xs ys =
+      let whole = cut_parts (xs ++ ys) (record { closed = []; open' = [] }) in
+      sym whole ∙ ap (λ (c : Cut X). c.closed ++ part c.open') (fold-append cut_more (record { closed = []; open' = [] }) xs ys) ∙ cut_parts ys (cut xs)
+
+  pub cut_behind_is : (xs : List X) → cut_behind p xs ≡ (cut xs).closed ++ part (cut xs).open'
+  cut_behind_is xs = sym (cut_parts xs (record { closed = []; open' = [] }))
+
+  -- the part of an item: it, and some items, none where it ends the part
+  first_of : (b : Bool) (x : X) (parts : List (List X)) → (rest : List X) × (others : List (List X))
+      × (cond b ((x ∷ []) ∷ parts) (onto_first x parts) ≡ (x ∷ rest) ∷ others) × (b ≡ true → rest ≡ [])
+  first_of true x parts = ([], parts, refl, λ e. refl)
+  first_of false x [] = ([], [], refl, λ e. refl)
+  first_of false x (part ∷ parts) = (part, parts, refl, λ e. absurd (false≢true e))
+
+  -- a list, an item, and more: the open part has the item, and the closed ones stay
+  pub cut_with_item : (xs : List X) (x : X) (ys : List X)
+      → (rest : List X) × (others : List (List X)) × (cut_behind p (xs ++ x ∷ ys) ≡ (cut xs).closed ++ ((cut xs).open' ++ x ∷ rest) ∷ others)
+      × (p x ≡ true → rest ≡ [])
+  cut_with_item xs x ys =
+      let (rest, others, is, ends) = first_of (p x) x (cut_behind p ys) in (
+        rest,
+        others,
+        cut_append xs (x ∷ ys) ∙ ap (λ l. (cut xs).closed ++ onto (cut xs).open' l) is
+            ∙ ap (λ l. (cut xs).closed ++ l) (onto-cons (cut xs).open' (x ∷ rest) others),
+        ends,
+      )
+
+  pub cut_push : (xs : List X) (x : X) → cut (xs ++ x ∷ []) ≡ cut_more (cut xs) x
+  cut_push xs x = fold_push cut_more (record { closed = []; open' = [] }) xs x
+
+  -- what holds of nothing, and stays where an item ends the open part and where one lengthens it, holds of every cut list
+  pub cut_ind : (P : List X → Cut X → Type 0) → P [] (record { closed = []; open' = [] })
+      → ((xs : List X) (c : Cut X) (x : X) → p x ≡ true → P xs c → P (xs ++ x ∷ []) (ends_part c x))
+      → ((xs : List X) (c : Cut X) (x : X) → p x ≡ false → P xs c → P (xs ++ x ∷ []) (longer_part c x)) → (xs : List X) → P xs (cut xs)
+  cut_ind P none ends lengthens = push_ind (λ xs. P xs (cut xs)) none (λ xs x ih. rw (cut_push xs x) (elim (cases_Bool (p x)) [
+    | inl e ↦ rw e (ends xs (cut xs) x e ih)
+    | inr e ↦ rw e (lengthens xs (cut xs) x e ih)
+  ]))
+
+  -- the same for lists of which something holds of each item
+  pub cut_ind_all : (Q : X → Type 0) (P : Cut X → Type 0) → P (record { closed = []; open' = [] })
+      → ((c : Cut X) (x : X) → Q x → p x ≡ true → P c → P (ends_part c x))
+      → ((c : Cut X) (x : X) → Q x → p x ≡ false → P c → P (longer_part c x)) → (xs : List X) → All Q xs → P (cut xs)
+  cut_ind_all Q P none ends lengthens = cut_ind (λ xs c. All Q xs → P c) (λ all. none)
+      (λ xs c x e ih all. let parts = All-split Q xs x all in ends c x parts.1 e (ih parts.0))
+      (λ xs c x e ih all. let parts = All-split Q xs x all in lengthens c x parts.1 e (ih parts.0))
+
+  -- with one more item the parts are the closed ones, and the open one with the item
+  pub cut_behind_push : (xs : List X) (x : X) → cut_behind p (xs ++ x ∷ []) ≡ (cut xs).closed ++ ((cut xs).open' ++ x ∷ []) ∷ []
+  cut_behind_push xs x = grind (arith, nat_tests, append_assoc, append-nil, cut_append, onto-cons)
+
+module _ {X : Type 0} (p : X → Bool) where
+  pub after_last_push : (xs : List X) (x : X) → after_last p (xs ++ x ∷ []) ≡ cond (p x) [] (after_last p xs ++ x ∷ [])
+  after_last_push xs x = grind (arith, length-append, reverse-append, drop_all, drop-append-le)
+
+  abbrev pub cut_if : Bool → Cut X → X → Cut X
+  cut_if b c x = cond b (record { closed = c.closed ++ (c.open' ++ x ∷ []) ∷ []; open' = [] }) (record { closed = c.closed; open' = c.open' ++ x ∷ [] })
+
+  -- what stands behind the last item that passes is the open part
+  pub after_last_is : (xs : List X) → after_last p xs ≡ (cut p xs).open'
+  after_last_is = cut_ind p (λ xs c. after_last p xs ≡ c.open') refl (λ xs c x e ih. after_last_push xs x ∙ rw e refl) (λ xs c x e ih. after_last_push xs x ∙ rw (e, ih) refl)
+
+  -- the parts that an item ends are the closed ones
+  pub ended_is : (xs : List X) → filter (list_any p) (cut_behind p xs) ≡ (cut p xs).closed
+  ended_is xs =
+      let (closed, none) = cut_ind p (λ xs c. (filter (list_any p) c.closed ≡ c.closed) × (list_any p c.open' ≡ false)) (refl, refl)
+      (λ xs c x e (closed, none). (grind (arith, filter-append, list_any-append, closed, none, e), refl))
+      (λ xs c x e (closed, none). (closed, grind (arith, list_any-append p c.open' (x ∷ []), none, e))) xs in
+      grind (arith, closed, none, cut_behind_is, filter-append, append-nil)

@@ -24,7 +24,7 @@ pub fn broken_bracket_stands()
 {}
 
 /// A law of the definitions: what fits still fits when its parts shrink.
-#[tactic(auto, using(crate::proofs::FitLemmas::smaller_fits))]
+#[tactic(auto, using(crate::proofs::GroupLemmas::smaller_fits))]
 pub fn smaller_fits()
     ensures { SmallerFits }
 {}

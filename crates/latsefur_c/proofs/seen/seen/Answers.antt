@@ -1,7 +1,7 @@
 use Rattle.std.proofs.Common.{◌<◌, ◌≤◌, arith, refl}
 use Rattle.multi_meaning.specs.Meaning.{meanings}
 use Rattle.multi_meaning.specs.Verdict.{pages_of}
-use Rattle.multi_meaning.proofs.AcceptedLemmas.{accepted_is}
+use Rattle.multi_meaning.proofs.VerdictLemmas.{accepted_is}
 use Rattle.page_picture.proofs.ShownLemmas.{there_at}
 use Rattle.latsefur_c.proofs.seen.seen.Goals as goal
 

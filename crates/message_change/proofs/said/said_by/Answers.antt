@@ -2,7 +2,7 @@ use Rattle.std.proofs.Common.{ap, ◌∙◌}
 use Rattle.multi_token.specs.Tokens.{body_of}
 use Rattle.multi_tag.proofs.TagOfLemmas.{tag_of-read}
 use Rattle.multi_meaning.specs.Meaning.{meaning_of_tag}
-use Rattle.multi_meaning.proofs.MeaningLemmas.{meaning-tag}
+use Rattle.multi_meaning.proofs.ItemAtLemmas.{meaning-tag}
 use Rattle.message_change.proofs.NextItemLemmas
 use Rattle.message_change.proofs.said.said_by.Goals as goal
 

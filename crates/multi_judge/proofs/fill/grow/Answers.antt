@@ -1,5 +1,5 @@
-use Rattle.std.proofs.Common.{sym, ◌∙◌}
-use Rattle.multi_judge.proofs.FillSplitLemmas.{split_none, split_space, split_word}
+use Rattle.multi_judge.proofs.Common.{sym, ◌∙◌}
+use Rattle.multi_judge.proofs.FillGroupLemmas.{split_none, split_space, split_word}
 use Rattle.multi_judge.proofs.fill.grow.Goals as goal
 
 pub returns-then-space-clause-sum : goal.returns-then-space-clause-sum

@@ -1,7 +1,4 @@
-use Rattle.std.proofs.Common.{ℕ, List, length, ap, subst, arith}
-use Rattle.multi_judge.specs.FilledState.{IsFilledFor}
-use Rattle.multi_judge.specs.Judging.{IsAt}
-use Rattle.multi_judge.specs.Text.{IsInText}
+use Rattle.multi_judge.proofs.Common.{ℕ, List, length, ap, subst, arith, IsFilledFor, IsAt, IsInText}
 use Rattle.multi_judge.proofs.fill_run.take_text.Goals as goal
 
 pub loop-behind-smaller : goal.loop-behind-smaller

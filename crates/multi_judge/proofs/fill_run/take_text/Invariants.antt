@@ -1,5 +1,4 @@
-use Rattle.std.proofs.Common.{◌-◌, ◌≤◌, length}
-use Rattle.multi_judge.specs.Text.{IsInText}
+use Rattle.multi_judge.proofs.Common.{◌-◌, ◌≤◌, length, IsInText}
 use Rattle.multi_judge.proofs.fill_run.take_text.Given as goal
 
 -- the words before this offset are taken

@@ -1,13 +1,7 @@
-use Rattle.std.proofs.Common.{◌≡◌, ℕ, ◌+◌, ◌-◌, ◌*◌, List, Option, refl, ap, sym, subst, ◌∙◌, arith}
-use Rattle.multi_token.specs.Counted.{Counted, RisesBetween, charged}
+use Rattle.multi_judge.proofs.Common.{◌≡◌, ℕ, ◌+◌, ◌-◌, ◌*◌, List, Option, refl, ap, sym, subst, ◌∙◌, arith, Counted, RisesBetween, charged, SignData, Pass, with_space, with_word, IsFilledFor, IsFilledReady, IsAt}
 use Rattle.multi_token.proofs.StepLemmas.{rises_then}
 use Rattle.multi_meaning.proofs.ItemAtLemmas.{read_is}
-use Rattle.sign_font.specs.Sign.{SignData}
-use Rattle.multi_judge.specs.declared.pass.Pass.{Pass}
-use Rattle.multi_judge.specs.FilledRun.{with_space, with_word}
-use Rattle.multi_judge.specs.FilledState.{IsFilledFor, IsFilledReady}
-use Rattle.multi_judge.specs.Judging.{IsAt}
-use Rattle.multi_judge.proofs.FilledReadLemmas.{filled_ready_here}
+use Rattle.multi_judge.proofs.ReadLemmas.{filled_ready_here}
 use Rattle.multi_judge.proofs.TextLemmas.{text_same, word_ended, word_ready, word_spaced}
 use Rattle.multi_judge.proofs.fill_run.take_word.Goals as goal
 use Rattle.multi_judge.proofs.fill_run.take_word.Goals.{else-eq-via-then-eq+else-take_space, else-eq-via-else-eq}

@@ -1,6 +1,4 @@
-use Rattle.std.proofs.Common.{None, Option, Some, cond, ℕ, not, ap, refl, sym, ◌∙◌}
-use Rattle.std.proofs.lemmas.Bool.{le-leb, lt-leb}
-use Rattle.multi_meaning.specs.Address.{spots}
+use Rattle.multi_judge.proofs.Common.{None, Option, Some, cond, ℕ, not, ap, refl, sym, ◌∙◌, le-leb, lt-leb, spots}
 use Rattle.multi_judge.proofs.LimitLemmas.{break_judged}
 use Rattle.multi_judge.proofs.PlacingLemmas.{line_end, page_here, placed_conflict, spot_of}
 use Rattle.multi_judge.proofs.judge.judge_break.Goals as goal

@@ -1,9 +1,7 @@
-use Rattle.std.proofs.Common.{◌^◌, None, Option, Some, cond, ℕ, not, refl, ap, sym, ◌∙◌}
-use Rattle.sign_font.specs.Sign.{cell_in}
+use Rattle.multi_judge.proofs.Common.{◌^◌, None, Option, Some, cond, ℕ, not, refl, ap, sym, ◌∙◌, cell_in, spots}
 use Rattle.multi_judge.proofs.JudgedLemmas.{cell_found}
 use Rattle.multi_judge.proofs.LimitLemmas.{character_judged}
 use Rattle.multi_judge.proofs.PlacingLemmas.{line_here, page_here, placed_conflict, shown, spot_of}
-use Rattle.multi_meaning.specs.Address.{spots}
 use Rattle.multi_judge.proofs.RunReadLemmas.{cell_of_width}
 use Rattle.multi_judge.proofs.judge.judge_cell.Goals as goal
 

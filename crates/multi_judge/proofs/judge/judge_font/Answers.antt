@@ -1,5 +1,5 @@
-use Rattle.std.proofs.Common.{sym, ◌∙◌}
-use Rattle.multi_judge.proofs.TagLemmas.{judged-default_font, judged-no_font, judged-version, judged-picked}
+use Rattle.multi_judge.proofs.Common.{sym, ◌∙◌}
+use Rattle.multi_judge.proofs.JudgedLemmas.{judged-default_font, judged-no_font, judged-version, judged-picked}
 use Rattle.multi_judge.proofs.judge.judge_font.Goals as goal
 
 pub returns-in_default-clause-judged : goal.returns-in_default-clause-judged

@@ -1,6 +1,4 @@
-use Rattle.std.proofs.Common.{ℕ, ◌+◌, ◌<◌, ◌≤◌, Option, cond, Some, None, refl, ap, ◌∙◌, arith}
-use Rattle.std.proofs.lemmas.Bool.{lt-ltb, le-ltb}
-use Rattle.sign_font.specs.Sign.{SignData}
+use Rattle.multi_judge.proofs.Common.{ℕ, ◌+◌, ◌<◌, ◌≤◌, Option, cond, Some, None, refl, ap, ◌∙◌, arith, lt-ltb, le-ltb, SignData}
 use Rattle.multi_judge.proofs.JudgedLemmas.{judged-page, state-page}
 use Rattle.multi_judge.proofs.judge.judge_page.Goals as goal
 

@@ -1,9 +1,6 @@
-use Rattle.std.proofs.Common.{ℕ, Option, cond, Some, None, refl, ap, ◌∙◌}
-use Rattle.sign_font.specs.Sign.{SignData}
+use Rattle.multi_judge.proofs.Common.{ℕ, Option, cond, Some, None, refl, ap, ◌∙◌, SignData, Attributes}
 use Rattle.multi_meaning.specs.Attributes.{rectangle}
-use Rattle.multi_judge.specs.declared.attributes.Attributes.{Attributes}
-use Rattle.multi_judge.proofs.JudgedLemmas.{judged-rectangle, state-rectangle}
-use Rattle.multi_judge.proofs.TagLemmas.{outside_across, outside_down, inside}
+use Rattle.multi_judge.proofs.JudgedLemmas.{judged-rectangle, state-rectangle, outside_across, outside_down, inside}
 use Rattle.multi_judge.proofs.judge.judge_rectangle.Goals as goal
 
 pub returns-in_default-clause-judged : goal.returns-in_default-clause-judged

@@ -1,5 +1,5 @@
-use Rattle.multi_meaning.specs.Address.{standing}
-use Rattle.multi_judge.proofs.TagLemmas.{judged-simple, simple_of}
+use Rattle.multi_judge.proofs.Common.{standing}
+use Rattle.multi_judge.proofs.JudgedLemmas.{judged-simple, simple_of}
 use Rattle.multi_judge.proofs.judge.judge_tag.Goals as goal
 
 pub returns-in_default-clause-judged : goal.returns-in_default-clause-judged

@@ -1,4 +1,4 @@
-use Rattle.std.proofs.Common.{◌-◌, refl}
+use Rattle.multi_judge.proofs.Common.{◌-◌, refl}
 use Rattle.multi_judge.proofs.PlaceLemmas.{column_is, part_with}
 use Rattle.multi_judge.proofs.place.column_at.Goals as goal
 

@@ -1,5 +1,5 @@
-use Rattle.std.proofs.Common.{Some, None, refl, ◌∙◌}
-use Rattle.multi_judge.proofs.TableLemmas.{height_found}
+use Rattle.multi_judge.proofs.Common.{Some, None, refl, ◌∙◌}
+use Rattle.multi_judge.proofs.PlaceLemmas.{height_found}
 use Rattle.multi_judge.proofs.place.height.Goals as goal
 
 pub returns-in-Some : goal.returns-in-Some

@@ -1,15 +1,7 @@
-use Rattle.std.proofs.Common.{◌≡◌, ◌∷◌, ◌++◌, ◌==◌, ◌^◌, [], sym, ap, ◌∙◌, take}
-use Rattle.std.specs.Prelude.{slice_index_or}
-use Rattle.std.specs.List.{after_last, count_by}
-use Rattle.multi_tag.specs.Just.{line_number}
-use Rattle.multi_meaning.specs.Address.{is_break, lines_of}
-use Rattle.multi_meaning.proofs.DroppedLemmas.{full_known}
-use Rattle.multi_meaning.proofs.EndedLemmas.{ended_count}
-use Rattle.multi_judge.specs.declared.area.Group.{Group}
-use Rattle.multi_judge.specs.Sums.{group_sum}
-use Rattle.multi_judge.specs.Table.{counted_line, width_in}
-use Rattle.multi_judge.proofs.PlaceLemmas.{line_is_there, width_in_is}
-use Rattle.multi_judge.proofs.TableLemmas.{look_up}
+use Rattle.multi_judge.proofs.Common.{◌≡◌, ◌∷◌, ◌++◌, ◌==◌, ◌^◌, [], sym, ap, ◌∙◌, take, slice_index_or, after_last, count_by, line_number, is_break, lines_of, ended_count, Group, group_sum, counted_line}
+use Rattle.multi_meaning.proofs.GroupLemmas.{full_known}
+use Rattle.multi_judge.specs.Table.{width_in}
+use Rattle.multi_judge.proofs.PlaceLemmas.{line_is_there, width_in_is, look_up}
 use Rattle.multi_judge.proofs.place.is_full.Goals as goal
 
 pub width-requires-clause-known : goal.width-requires-clause-known

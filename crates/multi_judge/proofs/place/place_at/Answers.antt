@@ -1,8 +1,4 @@
-use Rattle.std.proofs.Common.{◌≤◌, ap, subst}
-use Rattle.multi_tag.specs.Just.{page_number}
-use Rattle.multi_meaning.specs.Address.{Spot, area_of, group_of, lines_of, line_before}
-use Rattle.multi_meaning.specs.Words.{largest}
-use Rattle.multi_judge.specs.declared.attributes.Attributes.{Attributes}
+use Rattle.multi_judge.proofs.Common.{◌≤◌, ap, subst, page_number, Spot, area_of, group_of, lines_of, line_before, largest, Attributes}
 use Rattle.multi_judge.proofs.PlaceLemmas.{group_with, place_from}
 use Rattle.multi_judge.proofs.place.place_at.Goals as goal
 

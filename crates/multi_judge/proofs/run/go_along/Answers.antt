@@ -1,9 +1,4 @@
-use Rattle.std.proofs.Common.{◌≡◌, ◌+◌, ◌-◌, drop, take, ◌∙◌, subst, arith}
-use Rattle.std.specs.Prelude.{slice_range}
-use Rattle.std.specs.List.{All}
-use Rattle.multi_token.specs.Spelling.{IsPlain}
-use Rattle.sign_font.specs.Text.{HasWidth, width_in}
-use Rattle.multi_judge.specs.Run.{lengthened, line_in_force}
+use Rattle.multi_judge.proofs.Common.{◌≡◌, ◌+◌, ◌-◌, drop, take, ◌∙◌, subst, arith, slice_range, All, IsPlain, HasWidth, width_in, lengthened, line_in_force}
 use Rattle.multi_judge.proofs.run.go_along.Goals as goal
 
 pub returns-clause-run : goal.returns-clause-run

@@ -1,13 +1,7 @@
-use Rattle.std.proofs.Common.{◌≡◌, ℕ, ◌+◌, ◌-◌, sym, ap, subst, arith}
-use Rattle.multi_token.specs.Counted.{Counted, charged}
-use Rattle.multi_judge.specs.declared.state.State.{State}
-use Rattle.multi_judge.specs.Judging.{ReadSoFar}
-use Rattle.multi_judge.specs.State.{IsUnfilledOf}
+use Rattle.multi_judge.proofs.Common.{◌≡◌, ℕ, ◌+◌, ◌-◌, sym, ap, subst, arith, Counted, charged, State, ReadSoFar, IsUnfilledOf, IsAt, IsPassOf, Pass}
+use Rattle.multi_judge.specs.Judging.{IsBehind}
 use Rattle.multi_judge.proofs.RunReadLemmas.{front_read}
-use Rattle.multi_judge.specs.Judging.{IsAt, IsBehind}
-use Rattle.multi_judge.specs.PassState.{IsPassOf}
-use Rattle.multi_judge.proofs.PassLemmas.{is_false}
-use Rattle.multi_judge.specs.declared.pass.Pass.{Pass}
+use Rattle.multi_judge.proofs.ReadLemmas.{is_false}
 use Rattle.multi_judge.proofs.run.judge_run.Goals as goal
 
 pub returns-else-this-ne0-clause-at : goal.returns-else-this-ne0-clause-at

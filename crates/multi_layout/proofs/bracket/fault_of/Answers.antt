@@ -1,9 +1,6 @@
-use Rattle.std.proofs.Common.{◌≡◌, ℕ, ◌+◌, List, Err, refl, ap, subst, ◌∙◌, arith}
-use Rattle.multi_token.specs.Counted.{Counted}
+use Rattle.multi_layout.proofs.Common.{◌≡◌, ℕ, ◌+◌, List, Err, refl, ap, subst, ◌∙◌, arith, Counted, Token, tag_of}
 use Rattle.multi_token.specs.declared.token.Kind.TheVariants as kinds
-use Rattle.multi_token.specs.declared.token.Token.{Token}
 use Rattle.multi_token.specs.Tokens.{IsBracketed, body_of, octets_of}
-use Rattle.multi_tag.specs.TagOf.{tag_of}
 use Rattle.multi_tag.proofs.TagOfLemmas.{tag_of-read}
 use Rattle.multi_meaning.proofs.ItemAtLemmas.{fault_at}
 use Rattle.multi_layout.proofs.WalkLemmas.{steps_of, steps_then, steps_within}

@@ -1,9 +1,6 @@
-use Rattle.std.proofs.Common.{◌≡◌, ℕ, ◌+◌, ◌-◌, length, List, Some, inl, refl, ap, sym, subst, ◌∙◌, arith}
+use Rattle.multi_layout.proofs.Common.{◌≡◌, ℕ, ◌+◌, ◌-◌, length, List, Some, inl, refl, ap, sym, subst, ◌∙◌, arith, slice_get_within, Counted, charged, charged-charged}
 use Rattle.std.specs.Prelude.{min, slice_get}
-use Rattle.std.proofs.lemmas.Option.{slice_get_within}
-use Rattle.multi_token.specs.Counted.{Counted, charged}
 use Rattle.multi_token.proofs.PlaceLemmas.{none_closing}
-use Rattle.multi_token.proofs.StepLemmas.{charged-charged}
 use Rattle.multi_tag.specs.Closed.{IsTagAt}
 use Rattle.multi_meaning.proofs.ItemAtLemmas.{ahead_steps, doubled_at, read_is, read_not, tag_at}
 use Rattle.multi_layout.proofs.WalkLemmas.{same_octets, steps_of, steps_then, steps_within}

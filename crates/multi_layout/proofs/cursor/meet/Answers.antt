@@ -1,4 +1,4 @@
-use Rattle.std.proofs.Common.{refl, sym, ◌∙◌}
+use Rattle.multi_layout.proofs.Common.{refl, sym, ◌∙◌}
 use Rattle.multi_layout.proofs.WalkLemmas.{no_bracket, octet_next}
 use Rattle.multi_layout.proofs.cursor.meet.Goals as goal
 

@@ -1,11 +1,5 @@
-use Rattle.std.proofs.Common.{◌≡◌, true, refl, ap, sym, ◌∙◌, arith}
-use Rattle.std.proofs.lemmas.Bool.{false≢true}
-use Rattle.std.proofs.lemmas.Option.{slice_get_within}
-use Rattle.multi_token.proofs.ReadingLemmas.{spelling_some}
-use Rattle.multi_meaning.specs.Codes.{code_of}
-use Rattle.multi_meaning.specs.Meaning.{Does}
-use Rattle.multi_judge.specs.KnownItem.{is_setting, meant_by}
-use Rattle.multi_layout.proofs.SettingLemmas.{never_refused, setting_fine, setting_is}
+use Rattle.multi_layout.proofs.Common.{◌≡◌, true, refl, ap, sym, ◌∙◌, arith, false≢true, slice_get_within, spelling_some, code_of, Does, is_setting, meant_by}
+use Rattle.multi_layout.proofs.AreaDrawLemmas.{never_refused, setting_fine, setting_is}
 use Rattle.multi_layout.proofs.WalkLemmas.{item_is, next_at, no_fault, steps_then, steps_within}
 use Rattle.multi_layout.proofs.cursor.meet_bracket.Goals as goal
 

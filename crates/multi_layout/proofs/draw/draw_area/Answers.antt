@@ -1,8 +1,5 @@
-use Rattle.std.proofs.Common.{rules, ◌≡◌, ◌+◌, ◌-◌, ◌≤◌, slice_get, sym, ap, ◌∙◌, subst, arith}
-use Rattle.std.proofs.lemmas.Option.{IfSome_then}
-use Rattle.multi_layout.specs.kept.AreaDrawing.{IsFilledBy}
-use Rattle.multi_layout.proofs.AreaDrawLemmas.{area_in, area_met, area_short, filled_longer, filled_none, filled_then, next_met, none_read, octet_stands, read_one}
-use Rattle.multi_layout.proofs.SettingDrawLemmas.{area_set}
+use Rattle.multi_layout.proofs.Common.{rules, ◌≡◌, ◌+◌, ◌-◌, ◌≤◌, slice_get, sym, ap, ◌∙◌, subst, arith, IfSome_then, IsFilledBy}
+use Rattle.multi_layout.proofs.AreaDrawLemmas.{area_in, area_met, area_short, filled_longer, filled_none, filled_then, next_met, none_read, octet_stands, read_one, area_set}
 use Rattle.multi_layout.proofs.WalkLemmas.{no_steps, ready_between, same_octets, steps_of, steps_then, steps_within}
 use Rattle.multi_layout.proofs.draw.draw_area.Goals as goal
 

@@ -1,7 +1,5 @@
-use Rattle.std.proofs.Common.{◌+◌, ◌-◌, ◌*◌, ◌≤◌}
-use Rattle.multi_token.specs.Counted.{RisesBetween}
-use Rattle.multi_layout.specs.kept.AreaDrawing.{DrawsOn, IsFilledBy}
-use Rattle.multi_layout.specs.kept.RunDrawing.{IsReadBehind, octets_read}
+use Rattle.multi_layout.proofs.Common.{◌+◌, ◌-◌, ◌*◌, ◌≤◌, RisesBetween, IsFilledBy, IsReadBehind, octets_read}
+use Rattle.multi_layout.specs.kept.AreaDrawing.{DrawsOn}
 use Rattle.multi_layout.proofs.draw.draw_area.Given as goal
 
 -- the area's items so far are drawn

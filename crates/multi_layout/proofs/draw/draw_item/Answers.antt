@@ -1,18 +1,4 @@
-use Rattle.std.proofs.Common.{rules, ◌≡◌, ℕ, ◌+◌, ◌^◌, [], ◌∷◌, ◌++◌, map, Option, Some, None, refl, sym, ap, subst, ◌∙◌, arith}
-use Rattle.std.specs.Option.{unwrap_or}
-use Rattle.std.proofs.lemmas.Option.{IfSome_then}
-use Rattle.multi_token.proofs.ReadingLemmas.{spelling_some}
-use Rattle.sign_font.specs.Sign.{cell_in}
-use Rattle.multi_meaning.specs.declared.place.Place.{Place}
-use Rattle.multi_meaning.specs.Meaning.{Does, Shows, begins_area, has_place}
-use Rattle.multi_meaning.specs.Offence.{unsized_offence}
-use Rattle.multi_judge.specs.declared.attributes.Attributes.{Attributes}
-use Rattle.multi_judge.specs.KnownItem.{meant_by}
-use Rattle.multi_judge.specs.Placing.{PlacesCharacter}
-use Rattle.multi_judge.proofs.BoundLemmas.{below_more}
-use Rattle.multi_judge.proofs.JudgedLemmas.{unsized-undefined}
-use Rattle.multi_layout.specs.kept.Cursors.{meant}
-use Rattle.multi_layout.specs.kept.RunDrawing.{IsNextDrawn, IsRunDrawn}
+use Rattle.multi_layout.proofs.Common.{rules, ◌≡◌, ℕ, ◌+◌, ◌^◌, [], ◌∷◌, ◌++◌, map, Option, Some, None, refl, sym, ap, subst, ◌∙◌, arith, unwrap_or, IfSome_then, spelling_some, cell_in, Place, Does, Shows, begins_area, has_place, unsized_offence, Attributes, meant_by, PlacesCharacter, below_more, unsized-undefined, meant, IsNextDrawn, IsRunDrawn}
 use Rattle.multi_layout.proofs.AreaDrawLemmas.{area_more}
 use Rattle.multi_layout.proofs.BesideLemmas.{character_beside, character_drawn, next_stands_at, own_width, same_attributes, seen}
 use Rattle.multi_layout.proofs.DrawLemmas.{cell_height, four_octets, low_between, no_page, rows_few, tag_drawn, tag_filled}

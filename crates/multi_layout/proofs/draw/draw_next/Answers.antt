@@ -1,5 +1,4 @@
-use Rattle.std.proofs.Common.{◌≡◌, ◌+◌, ◌-◌, sym, subst, arith}
-use Rattle.multi_layout.specs.kept.AreaDrawing.{IsFilledBy}
+use Rattle.multi_layout.proofs.Common.{◌≡◌, ◌+◌, ◌-◌, sym, subst, arith, IsFilledBy}
 use Rattle.multi_layout.proofs.AreaDrawLemmas.{area_in, filled_then}
 use Rattle.multi_layout.proofs.BesideLemmas.{run_in}
 use Rattle.multi_layout.proofs.WalkLemmas.{same_octets, steps_then, steps_within}

@@ -1,4 +1,4 @@
-use Rattle.std.proofs.Common.{◌≤◌, sym, ◌∙◌, arith}
+use Rattle.multi_layout.proofs.Common.{◌≤◌, sym, ◌∙◌, arith}
 use Rattle.multi_layout.proofs.AreaDrawLemmas.{area_in, filled_longer}
 use Rattle.multi_layout.proofs.PageDrawLemmas.{area_begins, page_in}
 use Rattle.multi_layout.proofs.WalkLemmas.{same_octets, steps_then, steps_within}

@@ -1,11 +1,5 @@
-use Rattle.std.proofs.Common.{rules, ◌≡◌, ◌+◌, ◌*◌, ◌/◌, ◌≤◌, [], ◌∷◌, ◌++◌, length, true, refl, sym, ap, ◌∙◌, subst, arith}
-use Rattle.multi_token.proofs.ReadingLemmas.{spelling_some}
+use Rattle.multi_layout.proofs.Common.{rules, ◌≡◌, ◌+◌, ◌*◌, ◌/◌, ◌≤◌, [], ◌∷◌, ◌++◌, length, true, refl, sym, ap, ◌∙◌, subst, arith, spelling_some, begins_area, has_place, is_new_page, plane_octets, IsFilledBy, meant, item_steps}
 use Rattle.page_plane.specs.Octets.{octet_count}
-use Rattle.multi_meaning.specs.Meaning.{begins_area, has_place, is_new_page}
-use Rattle.multi_layout.specs.Limits.{plane_octets}
-use Rattle.multi_layout.specs.kept.AreaDrawing.{IsFilledBy}
-use Rattle.multi_layout.specs.kept.Cursors.{meant}
-use Rattle.multi_layout.specs.kept.Settings.{item_steps}
 use Rattle.multi_layout.proofs.AreaDrawLemmas.{area_in, filled_longer, filled_none, filled_then}
 use Rattle.multi_layout.proofs.DrawLemmas.{four_octets}
 use Rattle.multi_layout.proofs.PageDrawLemmas.{if_same, last_passed, last_shown, new_page_is, next_area, page_begins, page_ends, page_filled, page_goes_on, page_in, page_passed}

@@ -1,6 +1,4 @@
-use Rattle.std.proofs.Common.{◌-◌, ◌*◌, ◌≤◌, length}
-use Rattle.multi_token.specs.Counted.{RisesBetween}
-use Rattle.multi_layout.specs.kept.AreaDrawing.{IsFilledBy, IsPageDrawn}
+use Rattle.multi_layout.proofs.Common.{◌-◌, ◌*◌, ◌≤◌, length, RisesBetween, IsFilledBy, IsPageDrawn}
 use Rattle.multi_layout.proofs.draw.draw_page.Given as goal
 
 -- the page's areas so far are drawn

@@ -1,10 +1,6 @@
-use Rattle.std.proofs.Common.{rules, ◌^◌, ap, arith, subst, sym, ◌∙◌}
-use Rattle.sign_font.specs.Sound.{IsSound}
-use Rattle.multi_judge.specs.KnownItem.{meant_by}
-use Rattle.multi_judge.specs.Placing.{TellsEnd}
-use Rattle.multi_judge.proofs.BoundLemmas.{below_more}
+use Rattle.multi_layout.proofs.Common.{rules, ◌^◌, ap, arith, subst, sym, ◌∙◌, IsSound, meant_by, TellsEnd, below_more}
 use Rattle.multi_layout.proofs.DrawLemmas.{low_between}
-use Rattle.multi_layout.proofs.FullLemmas.{laid_end, laid_stays}
+use Rattle.multi_layout.proofs.FilledLemmas.{laid_end, laid_stays}
 use Rattle.multi_layout.proofs.PieceLemmas.{read_tag, read_unfilled}
 use Rattle.multi_layout.proofs.draw.lay.Goals as goal
 

@@ -1,12 +1,4 @@
-use Rattle.std.proofs.Common.{◌≡◌, ◌+◌, ◌-◌, ◌≤◌, map, Some, slice_get, sym, ap, subst, ◌∙◌, arith}
-use Rattle.sign_font.specs.Sign.{cell_in}
-use Rattle.multi_meaning.specs.declared.place.Place.{Place}
-use Rattle.multi_judge.specs.Run.{lengthened, line_in_force}
-use Rattle.multi_judge.proofs.RunLemmas.{behind_stays}
-use Rattle.multi_layout.specs.declared.cursor.Cursor.{Cursor}
-use Rattle.multi_layout.specs.kept.AreaDrawing.{IsFilledBy}
-use Rattle.multi_layout.specs.kept.Cursors.{meant}
-use Rattle.multi_layout.specs.kept.RunDrawing.{IsRunDrawn}
+use Rattle.multi_layout.proofs.Common.{◌≡◌, ◌+◌, ◌-◌, ◌≤◌, map, Some, slice_get, sym, ap, subst, ◌∙◌, arith, cell_in, Place, lengthened, line_in_force, behind_stays, Cursor, IsFilledBy, meant, IsRunDrawn}
 use Rattle.multi_layout.proofs.AreaDrawLemmas.{area_short, filled_none, filled_then, octet_stands}
 use Rattle.multi_layout.proofs.BesideLemmas.{has_cell, run_more}
 use Rattle.multi_layout.proofs.DrawLemmas.{cell_height, rows_few}

@@ -1,7 +1,5 @@
-use Rattle.std.proofs.Common.{ℕ, ◌+◌, ◌-◌, ◌*◌, ◌≤◌}
-use Rattle.multi_token.specs.Counted.{RisesBetween}
-use Rattle.multi_layout.specs.kept.AreaDrawing.{IsFilledBy}
-use Rattle.multi_layout.specs.kept.RunDrawing.{IsRunDrawn, cursor_behind}
+use Rattle.multi_layout.proofs.Common.{ℕ, ◌+◌, ◌-◌, ◌*◌, ◌≤◌, RisesBetween, IsFilledBy, IsRunDrawn}
+use Rattle.multi_layout.specs.kept.RunDrawing.{cursor_behind}
 use Rattle.multi_layout.proofs.draw_run.draw_beside.Given as goal
 
 -- the characters so far are drawn, each beside the one before it

@@ -1,4 +1,4 @@
-use Rattle.std.proofs.Common.{arith}
+use Rattle.multi_layout.proofs.Common.{arith}
 use Rattle.multi_layout.proofs.DrawLemmas.{low_between}
 use Rattle.multi_layout.proofs.draw_run.draw_run.Goals as goal
 

@@ -1,10 +1,5 @@
-use Rattle.std.proofs.Common.{◌≡◌, ℕ, ◌-◌, List, ◌∙◌, length, ap, subst, sym, arith}
-use Rattle.multi_token.proofs.StepLemmas.{rises_then}
-use Rattle.multi_meaning.specs.declared.times.Shown.{Shown}
-use Rattle.multi_meaning.specs.Drawn.{Lights}
-use Rattle.multi_meaning.specs.Picture.{picture}
-use Rattle.multi_layout.specs.Limits.{check_limit, reading_limit}
-use Rattle.multi_layout.specs.kept.PageDrawing.{IsStartOf}
+use Rattle.multi_layout.proofs.Common.{◌≡◌, ℕ, ◌-◌, List, ◌∙◌, length, ap, subst, sym, arith, rises_then, Shown, Lights, picture, reading_limit, IsStartOf}
+use Rattle.multi_layout.specs.Limits.{check_limit}
 use Rattle.multi_layout.proofs.PagesLemmas.{drawing_fills, drawing_reads}
 use Rattle.multi_layout.proofs.WalkLemmas.{no_steps, same_octets}
 use Rattle.multi_layout.proofs.pages.draw_told.Goals as goal

@@ -1,7 +1,5 @@
-use Rattle.std.proofs.Common.{subst, arith}
-use Rattle.multi_layout.specs.kept.Passing.{IsPageSkipped}
-use Rattle.multi_layout.proofs.LocateLemmas.{accepted_of, at_start, page_follows, page_starts}
-use Rattle.multi_layout.proofs.PagesLemmas.{if_next}
+use Rattle.multi_layout.proofs.Common.{subst, arith, IsPageSkipped}
+use Rattle.multi_layout.proofs.PagesLemmas.{accepted_of, at_start, page_follows, page_starts, if_next}
 use Rattle.multi_layout.proofs.WalkLemmas.{no_steps, same_octets, steps_then, steps_within}
 use Rattle.multi_layout.proofs.pages.page_start.Goals as goal
 

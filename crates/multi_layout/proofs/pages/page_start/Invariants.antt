@@ -1,6 +1,4 @@
-use Rattle.std.proofs.Common.{◌+◌, ◌-◌, ◌*◌, ◌≤◌, length}
-use Rattle.multi_token.specs.Counted.{RisesBetween}
-use Rattle.multi_layout.specs.kept.Passing.{IsAtPage}
+use Rattle.multi_layout.proofs.Common.{◌+◌, ◌-◌, ◌*◌, ◌≤◌, length, RisesBetween, IsAtPage}
 use Rattle.multi_layout.proofs.pages.page_start.Given as goal
 
 -- a page begins at the cursor, none behind the one that is wanted, and each octet before it took at most nine steps

@@ -1,6 +1,5 @@
-use Rattle.std.proofs.Common.{◌-◌, ◌∙◌, ap, cond, arith}
-use Rattle.page_plane.specs.Plane.{is_lit}
-use Rattle.multi_meaning.proofs.CellLemmas.{put_rows_of}
+use Rattle.multi_layout.proofs.Common.{◌-◌, ◌∙◌, ap, cond, arith, is_lit}
+use Rattle.multi_meaning.proofs.DrawnLemmas.{put_rows_of}
 use Rattle.multi_layout.proofs.paint.put_cell.Goals as goal
 
 pub returns-clause-pixels : goal.returns-clause-pixels

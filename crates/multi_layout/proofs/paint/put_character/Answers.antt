@@ -1,7 +1,4 @@
-use Rattle.std.proofs.Common.{◌==◌, true, false, refl, sym, ap, ◌∙◌}
-use Rattle.sign_font.specs.Sign.{cell_in}
-use Rattle.multi_meaning.specs.Picture.{is_lit_at, shown_colour}
-use Rattle.multi_judge.specs.declared.attributes.Attributes.{Attributes}
+use Rattle.multi_layout.proofs.Common.{◌==◌, true, false, refl, sym, ap, ◌∙◌, cell_in, is_lit_at, shown_colour, Attributes}
 use Rattle.multi_layout.proofs.DrawLemmas.{character_put}
 use Rattle.multi_layout.proofs.paint.put_character.Goals as goal
 

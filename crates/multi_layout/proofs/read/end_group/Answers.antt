@@ -1,11 +1,6 @@
-use Rattle.std.proofs.Common.{rules, ◌+◌, refl, ap, ◌∙◌, arith}
-use Rattle.std.specs.List.{after_last}
-use Rattle.multi_meaning.specs.Address.{in_group, is_break}
-use Rattle.multi_meaning.proofs.GroupLemmas.{placing_group}
-use Rattle.multi_judge.specs.declared.area.Area.{Area}
-use Rattle.multi_judge.proofs.AreaSumLemmas.{group_of_own, own_line}
+use Rattle.multi_layout.proofs.Common.{rules, ◌+◌, refl, ap, ◌∙◌, arith, after_last, in_group, is_break, placing_group, Area, group_of_own, open_entry}
+use Rattle.multi_judge.proofs.AreaSumLemmas.{own_line}
 use Rattle.multi_layout.proofs.KnownLinesLemmas.{behind_empty, known_later, last_known, last_room, nothing_left}
-use Rattle.multi_judge.proofs.TableLemmas.{open_entry}
 use Rattle.multi_layout.proofs.read.end_group.Goals as goal
 
 pub of-requires : goal.of-requires

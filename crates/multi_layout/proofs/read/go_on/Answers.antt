@@ -1,4 +1,4 @@
-use Rattle.std.proofs.Common.{arith}
+use Rattle.multi_layout.proofs.Common.{arith}
 use Rattle.multi_layout.proofs.WalkLemmas.{steps_of, steps_then, steps_within}
 use Rattle.multi_layout.proofs.read.go_on.Goals as goal
 

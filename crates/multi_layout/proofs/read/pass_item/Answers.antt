@@ -1,13 +1,7 @@
-use Rattle.std.proofs.Common.{◌≡◌, ◌==◌, not, ℕ, Option, None, Some, map, refl, sym, ap, subst, ◌∙◌, ◌^◌}
-use Rattle.sign_font.specs.Sign.{cell_in}
-use Rattle.multi_tag.specs.declared.tag.Tag.{Tag}
-use Rattle.multi_meaning.specs.Codes.{code_of}
-use Rattle.multi_meaning.specs.Meaning.{Does, begins_area, meaning}
-use Rattle.multi_judge.specs.declared.item.KnownItem.{KnownItem}
-use Rattle.multi_judge.specs.KnownItem.{ends_line, meant_by}
+use Rattle.multi_layout.proofs.Common.{◌≡◌, ◌==◌, not, ℕ, Option, None, Some, map, refl, sym, ap, subst, ◌∙◌, ◌^◌, cell_in, Tag, code_of, Does, begins_area, meaning, KnownItem, ends_line, meant_by}
 use Rattle.multi_judge.specs.PassState.{IsItemJudged}
-use Rattle.multi_judge.proofs.KnownStepLemmas.{ends_not}
-use Rattle.multi_judge.proofs.PassLemmas.{pass_undefined}
+use Rattle.multi_judge.proofs.PlacingLemmas.{ends_not}
+use Rattle.multi_judge.proofs.ReadLemmas.{pass_undefined}
 use Rattle.multi_judge.proofs.RunReadLemmas.{no_cell}
 use Rattle.multi_layout.proofs.AreaReadLemmas.{item_left, next_fine, next_order, read_below, read_lines, read_ready, step_closed, step_ended, step_just, step_last, step_narrow, step_room, step_stays, tag_ends, tag_group, tag_stays}
 use Rattle.multi_layout.proofs.read.pass_item.Goals as goal

@@ -1,13 +1,9 @@
-use Rattle.std.proofs.Common.{rules, ◌==◌, not, ◌≡◌, ◌+◌, ◌-◌, ◌*◌, ◌++◌, length, refl, sym, ap, subst, ◌∙◌, arith}
+use Rattle.multi_layout.proofs.Common.{rules, ◌==◌, not, ◌≡◌, ◌+◌, ◌-◌, ◌*◌, ◌++◌, length, refl, sym, ap, subst, ◌∙◌, arith, GoesOn, IsFirst, items_of, item_steps}
 use Rattle.std.specs.Prelude.{slice_get}
 use Rattle.multi_judge.specs.declared.item.KnownItem.TheVariants as known
-use Rattle.multi_layout.specs.kept.AreaReading.{GoesOn}
-use Rattle.multi_layout.specs.kept.Cursors.{IsFirst, items_of}
-use Rattle.multi_layout.specs.kept.Settings.{item_steps}
-use Rattle.multi_layout.proofs.AreaLinesLemmas.{all_counted, area_ended, area_read, met_stays, no_more, none_ends, none_known, nothing_read, placed_in, read_on, setting_read, so_advances, so_met, so_next, so_read, steps_gone}
+use Rattle.multi_layout.proofs.AreaLinesLemmas.{all_counted, area_ended, area_read, met_stays, no_more, none_ends, none_known, nothing_read, placed_in, read_on, setting_read, so_advances, so_met, so_next, so_read, steps_gone, gone_forward, ready_state, went_on}
 use Rattle.multi_layout.proofs.AreaReadLemmas.{read_below, read_lines, read_ready, read_state}
-use Rattle.multi_judge.proofs.PassLemmas.{limited_of}
-use Rattle.multi_layout.proofs.RunLinesLemmas.{gone_forward, ready_state, went_on}
+use Rattle.multi_judge.proofs.ReadLemmas.{limited_of}
 use Rattle.multi_layout.proofs.WalkLemmas.{no_steps, same_octets, steps_of, steps_then, steps_within}
 use Rattle.multi_layout.proofs.read.read_lines.Goals as goal
 

@@ -1,9 +1,4 @@
-use Rattle.std.proofs.Common.{◌==◌, not, ◌≡◌, ◌≤◌, ◌+◌, ◌-◌, ◌*◌, List, [], map, length, slice_get}
-use Rattle.std.specs.Prelude.{IfSome}
-use Rattle.multi_token.specs.Counted.{RisesBetween}
-use Rattle.multi_meaning.specs.kept.Present.{present_area}
-use Rattle.multi_layout.specs.kept.Cursors.{IsBetween, meant, LaidItem}
-use Rattle.multi_layout.specs.kept.Settings.{IsNextAt, item_steps}
+use Rattle.multi_layout.proofs.Common.{◌==◌, not, ◌≡◌, ◌≤◌, ◌+◌, ◌-◌, ◌*◌, List, [], map, length, slice_get, IfSome, RisesBetween, present_area, IsBetween, meant, LaidItem, IsNextAt, item_steps}
 use Rattle.multi_layout.proofs.AreaLinesLemmas.{SoFar}
 use Rattle.multi_layout.proofs.read.read_lines.Given as goal
 

@@ -1,7 +1,5 @@
-use Rattle.std.proofs.Common.{◌==◌, subst, arith}
-use Rattle.multi_layout.specs.kept.Passing.{IsPageSkipped, IsShownIn}
-use Rattle.multi_layout.proofs.LocateLemmas.{accepted_of, at_start, page_behind, page_starts, shown_here, starts_shown}
-use Rattle.multi_layout.proofs.PagesLemmas.{at_most, if_next}
+use Rattle.multi_layout.proofs.Common.{◌==◌, subst, arith, IsPageSkipped, IsShownIn}
+use Rattle.multi_layout.proofs.PagesLemmas.{accepted_of, at_start, page_behind, page_starts, shown_here, starts_shown, at_most, if_next}
 use Rattle.multi_layout.proofs.WalkLemmas.{no_steps, same_octets, steps_then, steps_within}
 use Rattle.multi_layout.proofs.times.find_page.Goals as goal
 

@@ -1,6 +1,6 @@
-use Rattle.std.proofs.Common.{sym, ◌∙◌, arith}
-use Rattle.multi_meaning.proofs.ClockLemmas.{always_one, always_none, shown_in_turn, below_cycle}
-use Rattle.multi_layout.proofs.LocateLemmas.{at_start, first_starts}
+use Rattle.multi_layout.proofs.Common.{sym, ◌∙◌, arith}
+use Rattle.multi_meaning.proofs.TimesLemmas.{always_one, always_none, shown_in_turn, below_cycle}
+use Rattle.multi_layout.proofs.PagesLemmas.{at_start, first_starts}
 use Rattle.multi_layout.proofs.times.find_shown.Goals as goal
 use Rattle.multi_layout.proofs.times.find_shown.Goals.{then-told-eq1-via-then-told-eq1, then-told-eq1-via-else-told-eq1+then-told-eq0}
 

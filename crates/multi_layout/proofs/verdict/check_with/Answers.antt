@@ -1,6 +1,5 @@
-use Rattle.std.proofs.Common.{subst}
-use Rattle.sign_font.specs.Sign.{SignData}
-use Rattle.multi_meaning.specs.Verdict.{Accepted, IsVerdict}
+use Rattle.multi_layout.proofs.Common.{subst, SignData, IsVerdict}
+use Rattle.multi_meaning.specs.Verdict.{Accepted}
 use Rattle.multi_layout.proofs.verdict.check_with.Goals as goal
 
 pub returns-in-Ok-clause-accepted : goal.returns-in-Ok-clause-accepted

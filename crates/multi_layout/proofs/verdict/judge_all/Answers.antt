@@ -1,8 +1,7 @@
-use Rattle.std.proofs.Common.{ℕ, ◌==◌, [], not, subst, sym}
-use Rattle.multi_layout.specs.kept.Told.{IsTold}
-use Rattle.multi_judge.specs.State.{IsLimited, IsStateOf}
+use Rattle.multi_layout.proofs.Common.{ℕ, ◌==◌, [], not, subst, sym, IsTold, IsStateOf}
+use Rattle.multi_judge.specs.State.{IsLimited}
 use Rattle.multi_layout.proofs.AtLemmas.{pass_told}
-use Rattle.multi_judge.proofs.PassLemmas.{pass_start}
+use Rattle.multi_judge.proofs.ReadLemmas.{pass_start}
 use Rattle.multi_layout.proofs.verdict.judge_all.Goals as goal
 
 pub judge_items-requires-clause-start : goal.judge_items-requires-clause-start

@@ -1,15 +1,7 @@
-use Rattle.std.proofs.Common.{ℕ, ◌-◌, ◌*◌, ◌==◌, not, map, sym, ap, ◌∙◌, arith}
-use Rattle.multi_token.specs.Counted.{Counted, RisesBetween, charged}
-use Rattle.multi_token.proofs.ReadingLemmas.{spelling_some}
-use Rattle.multi_token.specs.Tokens.{item_of}
-use Rattle.multi_token.proofs.StepLemmas.{charged-charged}
+use Rattle.multi_layout.proofs.Common.{ℕ, ◌-◌, ◌*◌, ◌==◌, not, map, sym, ap, ◌∙◌, arith, Counted, RisesBetween, charged, spelling_some, item_of, charged-charged, IsItemAt, Meaning, meaning, meant_by, IsPassOf}
 use Rattle.multi_layout.proofs.WalkLemmas.{no_bracket, steps_then, steps_within}
-use Rattle.multi_meaning.specs.kept.ItemAt.{IsItemAt}
-use Rattle.multi_meaning.specs.Meaning.{Meaning, meaning}
-use Rattle.multi_judge.specs.KnownItem.{meant_by}
-use Rattle.multi_judge.specs.PassState.{IsPassOf}
 use Rattle.multi_layout.proofs.AtLemmas.{fault_refused, item_behind, item_offends, octet_behind, octet_offends}
-use Rattle.multi_judge.proofs.PassLemmas.{pass_ready_here}
+use Rattle.multi_judge.proofs.ReadLemmas.{pass_ready_here}
 use Rattle.multi_layout.proofs.verdict.judge_from.Goals as goal
 
 -- the steps of reading an item and of judging it

@@ -1,6 +1,4 @@
-use Rattle.std.proofs.Common.{◌-◌, ◌==◌, not, length}
-use Rattle.multi_judge.specs.Judging.{IsAt}
-use Rattle.multi_judge.specs.PassState.{IsPassOf}
+use Rattle.multi_layout.proofs.Common.{◌-◌, ◌==◌, not, length, IsAt, IsPassOf}
 use Rattle.multi_layout.proofs.verdict.judge_items.Given as goal
 
 -- the items before this octet are judged

@@ -1,7 +1,7 @@
 use Rattle.std.proofs.Common.{◌<◌, ◌≤◌, ◌^◌, length, ap, subst, arith, List, ℕ}
 use Rattle.multi_meaning.specs.Meaning.{meanings}
 use Rattle.multi_meaning.specs.Verdict.{pages_of}
-use Rattle.multi_meaning.proofs.AcceptedLemmas.{accepted_is}
+use Rattle.multi_meaning.proofs.VerdictLemmas.{accepted_is}
 use Rattle.sign_control.proofs.page.text_with_page.Goals as goal
 
 pub returns-then-page-pages-clause-found : goal.returns-then-page-pages-clause-found

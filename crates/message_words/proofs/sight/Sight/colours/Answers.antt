@@ -1,6 +1,6 @@
 use Rattle.std.proofs.Common.{◌<◌, ◌^◌, length, ap, ◌∙◌, arith}
 use Rattle.multi_token.specs.Counted.{Counted}
-use Rattle.multi_meaning.proofs.AcceptedLemmas.{accepted_is}
+use Rattle.multi_meaning.proofs.VerdictLemmas.{accepted_is}
 use Rattle.message_words.proofs.sight.Sight.colours.Goals as goal
 
 pub new-requires-2-clause-page : goal.new-requires-2-clause-page

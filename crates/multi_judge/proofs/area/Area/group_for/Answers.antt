@@ -1,5 +1,4 @@
-use Rattle.std.proofs.Common.{arith}
-use Rattle.multi_tag.specs.Just.{page_number}
+use Rattle.multi_judge.proofs.Common.{arith, page_number}
 use Rattle.multi_judge.proofs.AreaSumLemmas.{group_of_later}
 use Rattle.multi_judge.proofs.area.Area.group_for.Goals as goal
 

@@ -1,9 +1,4 @@
-use Rattle.std.proofs.Common.{◌≡◌, ◌<◌, ◌+◌, ◌==◌, [], refl, sym, arith}
-use Rattle.std.proofs.lemmas.Bool.{le-leb}
-use Rattle.std.proofs.lemmas.Bool.Decides.{nat_tests}
-use Rattle.multi_tag.specs.Just.{page_number}
-use Rattle.multi_judge.specs.Run.{kept_height}
-use Rattle.multi_judge.specs.Sums.{group_sum}
+use Rattle.multi_judge.proofs.Common.{◌≡◌, ◌<◌, ◌+◌, ◌==◌, [], refl, sym, arith, le-leb, nat_tests, page_number, kept_height, group_sum}
 use Rattle.multi_judge.proofs.RunLemmas.{area_turned, cond_most, kept_group_height}
 use Rattle.multi_judge.proofs.area.Area.leave.Goals as goal
 use Rattle.multi_judge.proofs.area.Area.leave.Goals.{in-2, in-3, in_default}

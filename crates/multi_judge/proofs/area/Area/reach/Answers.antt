@@ -1,9 +1,5 @@
-use Rattle.std.proofs.lemmas.Grind.{common_steps}
-use Rattle.std.proofs.Common.{◌≡◌, ◌≤◌, Bool, true, false, refl, arith, rules}
-use Rattle.std.proofs.lemmas.Bool.{le-leb}
-use Rattle.multi_meaning.proofs.FitLemmas.{room_alone}
-use Rattle.multi_tag.proofs.JustLemmas.{page_number_known}
-use Rattle.multi_judge.specs.declared.area.Area.{Area}
+use Rattle.multi_judge.proofs.Common.{common_steps, ◌≡◌, ◌≤◌, Bool, true, false, refl, arith, rules, le-leb, page_number_known, Area}
+use Rattle.multi_meaning.proofs.GroupLemmas.{room_alone}
 use Rattle.multi_judge.proofs.AreaSumLemmas.{empty_area}
 use Rattle.multi_judge.proofs.RunLemmas.{area_turned}
 use Rattle.multi_judge.proofs.area.Area.reach.Goals as goal

@@ -1,5 +1,5 @@
-use Rattle.std.proofs.Common.{◌∙◌}
-use Rattle.multi_judge.proofs.GroupHeightLemmas.{group_break}
+use Rattle.multi_judge.proofs.Common.{◌∙◌}
+use Rattle.multi_judge.proofs.LineSumLemmas.{group_break}
 use Rattle.multi_judge.proofs.area.Group.add_break.Goals as goal
 
 pub returns-clause-sum : goal.returns-clause-sum

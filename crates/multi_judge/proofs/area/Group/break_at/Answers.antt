@@ -1,8 +1,5 @@
-use Rattle.std.proofs.lemmas.Grind.{common_steps}
-use Rattle.std.proofs.Common.{rules, arith}
-use Rattle.multi_judge.specs.declared.area.Group.{Group}
-use Rattle.multi_judge.specs.declared.line.Line.{Line}
-use Rattle.multi_judge.proofs.BreakLemmas.{all_glyphs, none_behind, relined}
+use Rattle.multi_judge.proofs.Common.{common_steps, rules, arith, Group, Line}
+use Rattle.multi_judge.proofs.LineSumLemmas.{all_glyphs, none_behind, relined}
 use Rattle.multi_judge.proofs.area.Group.break_at.Goals as goal
 
 -- with another present line

@@ -1,9 +1,6 @@
-use Rattle.std.proofs.Common.{◌+◌, ◌^◌, sym, ◌∙◌, subst, arith}
-use Rattle.std.proofs.lemmas.Bool.{le-leb, lt-leb}
-use Rattle.multi_judge.specs.FillSums.{IsSplitBelow}
-use Rattle.multi_judge.specs.Sums.{IsLineBelow}
+use Rattle.multi_judge.proofs.Common.{◌+◌, ◌^◌, sym, ◌∙◌, subst, arith, le-leb, lt-leb, IsSplitBelow, IsLineBelow}
 use Rattle.multi_judge.proofs.FillGroupLemmas.{Joins, breaks_there, drops_there, present_glyphs, present_line, put_line, stands_there, stays_there}
-use Rattle.multi_judge.proofs.BoundLemmas.{lined_below, split_more}
+use Rattle.multi_judge.proofs.JudgedLemmas.{lined_below, split_more}
 use Rattle.multi_judge.proofs.area.Group.fill_character.Goals as goal
 
 pub returns-then-self-most-clause-sum : goal.returns-then-self-most-clause-sum

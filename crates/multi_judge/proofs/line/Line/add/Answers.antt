@@ -1,7 +1,4 @@
-use Rattle.std.proofs.Common.{◌≤◌, ◌||◌, max, ap, ◌∙◌, refl, arith}
-use Rattle.std.specs.Prelude.{nat_lt}
-use Rattle.multi_tag.specs.Just.{line_number}
-use Rattle.multi_judge.specs.Sums.{line_sum}
+use Rattle.multi_judge.proofs.Common.{◌≤◌, ◌||◌, max, ap, ◌∙◌, refl, arith, nat_lt, line_number, line_sum}
 use Rattle.multi_judge.proofs.LineSumLemmas.{in_order, line_with, no_character, turned}
 use Rattle.multi_judge.proofs.line.Line.add.Goals as goal
 

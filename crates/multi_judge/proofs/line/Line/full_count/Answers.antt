@@ -1,4 +1,4 @@
-use Rattle.std.proofs.Common.{length, ap, sym, arith}
+use Rattle.multi_judge.proofs.Common.{length, ap, sym, arith}
 use Rattle.multi_judge.proofs.LineSumLemmas.{none_of_later}
 use Rattle.multi_judge.proofs.line.Line.full_count.Goals as goal
 

@@ -1,5 +1,4 @@
-use Rattle.std.proofs.Common.{◌∙◌, ap, refl}
-use Rattle.multi_judge.specs.Sums.{line_sum}
+use Rattle.multi_judge.proofs.Common.{◌∙◌, ap, refl, line_sum}
 use Rattle.multi_judge.proofs.LineSumLemmas.{no_character}
 use Rattle.multi_judge.proofs.line.Line.put.Goals as goal
 

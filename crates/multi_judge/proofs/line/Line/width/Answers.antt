@@ -1,6 +1,4 @@
-use Rattle.std.proofs.Common.{ap, sym, arith}
-use Rattle.multi_meaning.specs.Line.{width_of}
-use Rattle.multi_judge.specs.declared.line.Line.{Line}
+use Rattle.multi_judge.proofs.Common.{ap, sym, arith, width_of, Line}
 use Rattle.multi_judge.proofs.LineSumLemmas.{none_of_later, width_other_of}
 use Rattle.multi_judge.proofs.line.Line.width.Goals as goal
 

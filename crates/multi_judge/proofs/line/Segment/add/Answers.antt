@@ -1,4 +1,4 @@
-use Rattle.std.proofs.Common.{◌∙◌}
+use Rattle.multi_judge.proofs.Common.{◌∙◌}
 use Rattle.multi_judge.proofs.LineSumLemmas.{segment_own}
 use Rattle.multi_judge.proofs.line.Segment.add.Goals as goal
 

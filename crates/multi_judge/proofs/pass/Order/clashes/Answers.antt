@@ -1,4 +1,4 @@
-use Rattle.std.proofs.Common.{sym}
+use Rattle.multi_judge.proofs.Common.{sym}
 use Rattle.multi_judge.proofs.LineSumLemmas.{line_clashes}
 use Rattle.multi_judge.proofs.pass.Order.clashes.Goals as goal
 

@@ -1,6 +1,5 @@
-use Rattle.std.proofs.lemmas.Grind.{common_steps}
-use Rattle.std.proofs.Common.{rules, arith}
-use Rattle.multi_judge.proofs.FilledOrderLemmas.{order_more}
+use Rattle.multi_judge.proofs.Common.{common_steps, rules, arith}
+use Rattle.multi_judge.proofs.FilledStateLemmas.{order_more}
 use Rattle.multi_judge.proofs.pass.Order.with.Goals as goal
 
 pub returns : goal.returns

@@ -1,8 +1,4 @@
-use Rattle.std.proofs.Common.{None, ap, cond, sym, ◌∙◌, Option, ℕ, Some}
-use Rattle.sign_font.specs.declared.parts.LineFill.{LineFill}
-use Rattle.sign_font.specs.Sign.{cell_in}
-use Rattle.multi_meaning.specs.Meaning.{Shows}
-use Rattle.multi_meaning.specs.Offence.{offence}
+use Rattle.multi_judge.proofs.Common.{None, ap, cond, sym, ◌∙◌, Option, ℕ, Some, LineFill, cell_in, Shows, offence}
 use Rattle.multi_judge.proofs.FilledJudgedLemmas.{filled_conflict, filled_free}
 use Rattle.multi_judge.proofs.RunReadLemmas.{cell_of_width}
 use Rattle.multi_judge.proofs.pass.Pass.fill_cell.Goals as goal

@@ -1,6 +1,5 @@
-use Rattle.std.proofs.lemmas.Grind.{common_steps}
-use Rattle.std.proofs.Common.{rules, arith}
-use Rattle.multi_judge.proofs.PassLemmas.{is_false, judged_unfilled}
+use Rattle.multi_judge.proofs.Common.{common_steps, rules, arith}
+use Rattle.multi_judge.proofs.ReadLemmas.{is_false, judged_unfilled}
 use Rattle.multi_judge.proofs.pass.Pass.judge_cell.Goals as goal
 
 pub returns-else-this-ne0-clause-judged : goal.returns-else-this-ne0-clause-judged

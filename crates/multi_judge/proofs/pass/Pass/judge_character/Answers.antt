@@ -1,6 +1,5 @@
-use Rattle.std.proofs.lemmas.Grind.{common_steps}
-use Rattle.std.proofs.Common.{rules, arith}
-use Rattle.multi_judge.proofs.PassLemmas.{pass_undefined}
+use Rattle.multi_judge.proofs.Common.{common_steps, rules, arith}
+use Rattle.multi_judge.proofs.ReadLemmas.{pass_undefined}
 use Rattle.multi_judge.proofs.RunReadLemmas.{no_cell}
 use Rattle.multi_judge.proofs.pass.Pass.judge_character.Goals as goal
 

@@ -1,6 +1,5 @@
-use Rattle.std.proofs.Common.{sym, ◌∙◌}
-use Rattle.sign_font.specs.Sign.{cell_in}
-use Rattle.multi_judge.proofs.PassLemmas.{pass_undefined}
+use Rattle.multi_judge.proofs.Common.{sym, ◌∙◌, cell_in}
+use Rattle.multi_judge.proofs.ReadLemmas.{pass_undefined}
 use Rattle.multi_judge.proofs.RunReadLemmas.{no_cell}
 use Rattle.multi_judge.proofs.pass.Pass.judge_octet.Goals as goal
 

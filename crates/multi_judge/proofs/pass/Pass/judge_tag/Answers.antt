@@ -1,8 +1,6 @@
-use Rattle.std.proofs.lemmas.Grind.{common_steps}
-use Rattle.std.proofs.Common.{rules, arith}
-use Rattle.multi_meaning.proofs.RoomLemmas.{area_fits_always}
-use Rattle.multi_judge.proofs.FilledBehindLemmas.{judged-begins, judged-stays}
-use Rattle.multi_judge.proofs.PassLemmas.{is_false, is_true, judged_unfilled}
+use Rattle.multi_judge.proofs.Common.{common_steps, rules, arith, area_fits_always}
+use Rattle.multi_judge.proofs.FilledJudgedLemmas.{judged-begins, judged-stays}
+use Rattle.multi_judge.proofs.ReadLemmas.{is_false, is_true, judged_unfilled}
 use Rattle.multi_judge.proofs.pass.Pass.judge_tag.Goals as goal
 use Rattle.multi_judge.proofs.pass.Pass.judge_tag.Goals.{else-this-ne0-via-then-this-ne0+else-begins_line, else-this-ne0-via-else-this-ne0}
 

@@ -1,7 +1,5 @@
-use Rattle.std.proofs.Common.{None, subst, sym}
-use Rattle.multi_judge.specs.declared.pass.Order.{Order}
-use Rattle.multi_judge.specs.FilledState.{IsFilledOf}
-use Rattle.multi_judge.proofs.FilledBehindLemmas.{filled_start}
+use Rattle.multi_judge.proofs.Common.{None, subst, sym, Order, IsFilledOf}
+use Rattle.multi_judge.proofs.FilledJudgedLemmas.{filled_start}
 use Rattle.multi_judge.proofs.pass.Pass.new.Goals as goal
 
 pub returns-clause-filled : goal.returns-clause-filled

@@ -1,14 +1,7 @@
-use Rattle.std.proofs.lemmas.Grind.{common_steps}
-use Rattle.std.proofs.Common.{◌≡◌, None, Some, Option, ℕ, Bool, cond, refl, true, false, subst, sym, rules, arith}
-use Rattle.sign_font.specs.declared.parts.LineFill.{LineFill}
-use Rattle.multi_meaning.specs.Meaning.{Shows}
-use Rattle.multi_meaning.specs.Offence.{offence}
-use Rattle.multi_meaning.proofs.OrderlyLemmas.{unsized_if}
-use Rattle.multi_judge.specs.declared.pass.Pass.{Pass}
+use Rattle.multi_judge.proofs.Common.{common_steps, ◌≡◌, None, Some, Option, ℕ, Bool, cond, refl, true, false, subst, sym, rules, arith, LineFill, Shows, offence, unsized_if, Pass, IsBehindCharacter}
 use Rattle.multi_judge.specs.Passed.{PassesCharacter}
-use Rattle.multi_judge.specs.Run.{IsBehindCharacter}
-use Rattle.multi_judge.proofs.PassedLemmas.{plain_passed}
-use Rattle.multi_judge.proofs.PassLemmas.{is_false, is_true, known_judged, state_judged}
+use Rattle.multi_judge.proofs.PlacingLemmas.{plain_passed}
+use Rattle.multi_judge.proofs.ReadLemmas.{is_false, is_true, known_judged, state_judged}
 use Rattle.multi_judge.proofs.pass.Pass.pass_cell.Goals as goal
 
 -- what has no error fits

@@ -1,12 +1,5 @@
-use Rattle.std.proofs.Common.{◌*◌, length, ap, refl, subst, sym, ◌==◌}
-use Rattle.sign_font.specs.Sign.{cell_in}
-use Rattle.multi_judge.specs.declared.state.State.{State}
-use Rattle.multi_judge.specs.Adding.{character_of}
-use Rattle.multi_judge.specs.Passed.{IsFilledPut}
-use Rattle.multi_judge.specs.Run.{is_within}
-use Rattle.multi_judge.specs.State.{IsLimited}
-use Rattle.multi_judge.specs.Sums.{IsBelow}
-use Rattle.multi_judge.proofs.FilledKeptLemmas.{filled_put, laid_count}
+use Rattle.multi_judge.proofs.Common.{◌*◌, length, ap, refl, subst, sym, ◌==◌, cell_in, State, character_of, IsFilledPut, is_within, IsLimited, IsBelow}
+use Rattle.multi_judge.proofs.ReadLemmas.{filled_put, laid_count}
 use Rattle.multi_judge.proofs.RunReadLemmas.{cell_of_width}
 use Rattle.multi_judge.proofs.pass.Pass.put_filled.Goals as goal
 

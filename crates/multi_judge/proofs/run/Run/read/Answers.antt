@@ -1,11 +1,9 @@
-use Rattle.std.proofs.Common.{◌≡◌, ℕ, drop, take, Option, sym, ap, subst, ◌∙◌, arith}
-use Rattle.std.specs.Prelude.{IfSome, if◌then◌else◌, unwrap_or}
+use Rattle.multi_judge.proofs.Common.{◌≡◌, ℕ, drop, take, Option, sym, ap, subst, ◌∙◌, arith, if◌then◌else◌, IsWithin, width_in}
+use Rattle.std.specs.Prelude.{IfSome, unwrap_or}
 use Rattle.multi_token.specs.Run.{taken}
 use Rattle.sign_font.specs.Advance.{AreAdvances, ends_run}
-use Rattle.sign_font.specs.Sound.{IsWithin}
-use Rattle.sign_font.specs.Text.{width_in}
 use Rattle.sign_font.proofs.SoundLemmas.{width_sound}
-use Rattle.multi_meaning.proofs.FrontLemmas.{front_width}
+use Rattle.multi_meaning.proofs.DrawnLemmas.{front_width}
 use Rattle.multi_judge.proofs.run.Run.read.Goals as goal
 
 pub returns-clause-width : goal.returns-clause-width

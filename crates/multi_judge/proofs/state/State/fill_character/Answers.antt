@@ -1,14 +1,5 @@
-use Rattle.std.proofs.Common.{◌≡◌, ◌^◌, Some, refl, sym, ap, ◌∙◌, subst, arith}
-use Rattle.std.specs.List.{after_last}
-use Rattle.std.proofs.lemmas.Bool.{le-leb}
-use Rattle.multi_tag.specs.Just.{page_number}
-use Rattle.multi_meaning.specs.Address.{is_break}
-use Rattle.multi_meaning.specs.Filling.{filled}
-use Rattle.multi_tag.proofs.JustLemmas.{page_number_known}
-use Rattle.multi_judge.specs.declared.area.Area.{Area}
-use Rattle.multi_judge.specs.FillSums.{IsSplitBelow, split_sum}
-use Rattle.multi_judge.specs.Sums.{IsCharacter, group_sum}
-use Rattle.multi_judge.proofs.AreaFillLemmas.{area_filled, nothing_yet, reached_below, reached_group, reached_line, regrouped_below}
+use Rattle.multi_judge.proofs.Common.{◌≡◌, ◌^◌, Some, refl, sym, ap, ◌∙◌, subst, arith, after_last, le-leb, page_number, is_break, filled, page_number_known, Area, IsSplitBelow, split_sum, IsCharacter, group_sum}
+use Rattle.multi_judge.proofs.AreaSumLemmas.{area_filled, nothing_yet, reached_below, reached_group, reached_line, regrouped_below}
 use Rattle.multi_judge.proofs.state.State.fill_character.Goals as goal
 use Rattle.multi_judge.proofs.state.State.fill_character.Goals.{then-number-self, else-number-self}
 

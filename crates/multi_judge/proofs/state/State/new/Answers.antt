@@ -1,5 +1,4 @@
-use Rattle.std.proofs.Common.{ap}
-use Rattle.sign_font.specs.Sign.{SignData}
+use Rattle.multi_judge.proofs.Common.{ap, SignData}
 use Rattle.multi_judge.proofs.JudgedLemmas.{state-start}
 use Rattle.multi_judge.proofs.state.State.new.Goals as goal
 

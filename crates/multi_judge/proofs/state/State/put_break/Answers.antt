@@ -1,13 +1,5 @@
-use Rattle.std.proofs.Common.{◌^◌, refl, sym, ap, ◌∙◌}
-use Rattle.std.proofs.lemmas.Bool.{false≢true}
-use Rattle.multi_tag.specs.Just.{page_number}
-use Rattle.multi_meaning.specs.Address.{in_group}
-use Rattle.multi_meaning.proofs.GroupLemmas.{own_group, placing_group}
-use Rattle.multi_tag.proofs.JustLemmas.{page_number_known}
-use Rattle.multi_judge.specs.declared.area.Area.{Area}
-use Rattle.multi_judge.specs.Sums.{group_sum}
-use Rattle.multi_judge.proofs.AreaFillLemmas.{reached_below, reached_conflicts, regrouped_below}
-use Rattle.multi_judge.proofs.AreaSumLemmas.{area_with}
+use Rattle.multi_judge.proofs.Common.{◌^◌, refl, sym, ap, ◌∙◌, false≢true, page_number, in_group, own_group, placing_group, page_number_known, Area, group_sum}
+use Rattle.multi_judge.proofs.AreaSumLemmas.{reached_below, reached_conflicts, regrouped_below, area_with}
 use Rattle.multi_judge.proofs.state.State.put_break.Goals as goal
 
 pub returns-then-not-reach-clause-conflicts : goal.returns-then-not-reach-clause-conflicts

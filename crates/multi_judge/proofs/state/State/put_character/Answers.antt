@@ -1,17 +1,7 @@
-use Rattle.std.proofs.Common.{◌^◌, refl, sym, subst, ap, ◌∙◌}
-use Rattle.std.specs.List.{after_last}
-use Rattle.std.proofs.lemmas.Bool.{false≢true}
-use Rattle.multi_tag.specs.Just.{page_number}
-use Rattle.multi_meaning.specs.Address.{area_of, in_group, is_break}
-use Rattle.multi_meaning.proofs.GroupLemmas.{area_placing}
-use Rattle.multi_tag.proofs.JustLemmas.{page_number_known}
-use Rattle.multi_judge.specs.declared.area.Area.{Area}
-use Rattle.multi_judge.specs.declared.line.Character.{Character}
-use Rattle.multi_judge.specs.Adding.{PutsCharacter, character_of}
-use Rattle.multi_judge.proofs.BoundLemmas.{lined_below}
-use Rattle.multi_judge.proofs.AreaFillLemmas.{reached_below, reached_conflicts, reached_group, reached_line, regrouped_below}
-use Rattle.multi_judge.proofs.AreaSumLemmas.{area_with}
-use Rattle.multi_judge.proofs.GroupSumLemmas.{group_character, present_glyphs}
+use Rattle.multi_judge.proofs.Common.{◌^◌, refl, sym, subst, ap, ◌∙◌, after_last, false≢true, page_number, area_of, in_group, is_break, area_placing, page_number_known, Area, Character, PutsCharacter, character_of}
+use Rattle.multi_judge.proofs.JudgedLemmas.{lined_below}
+use Rattle.multi_judge.proofs.AreaSumLemmas.{reached_below, reached_conflicts, reached_group, reached_line, regrouped_below, area_with}
+use Rattle.multi_judge.proofs.LineSumLemmas.{group_character, present_glyphs}
 use Rattle.multi_judge.proofs.state.State.put_character.Goals as goal
 
 pub returns-then-not-reach-clause-conflicts : goal.returns-then-not-reach-clause-conflicts

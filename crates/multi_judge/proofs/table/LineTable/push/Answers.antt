@@ -1,8 +1,7 @@
-use Rattle.std.proofs.lemmas.Grind.{common_steps}
-use Rattle.std.proofs.Common.{◌≡◌, ◌++◌, [], ◌∷◌, refl, ap, ◌∙◌, arith, rules}
-use Rattle.std.specs.Prelude.{◌==◌, if◌then◌else◌}
-use Rattle.multi_judge.specs.Table.{TableLines, group_lines, split_lines}
-use Rattle.multi_judge.proofs.SplitLemmas.{each_group, pushed_middle, pushed_top}
+use Rattle.multi_judge.proofs.Common.{common_steps, ◌≡◌, ◌++◌, [], ◌∷◌, refl, ap, ◌∙◌, arith, rules, if◌then◌else◌, TableLines, split_lines}
+use Rattle.std.specs.Prelude.{◌==◌}
+use Rattle.multi_judge.specs.Table.{group_lines}
+use Rattle.multi_judge.proofs.RunLemmas.{each_group, pushed_middle, pushed_top}
 use Rattle.multi_judge.proofs.table.LineTable.push.Goals as goal
 
 pub returns-in-2 : goal.returns-in-2

@@ -1,8 +1,6 @@
-use Rattle.std.proofs.Common.{◌≡◌, length, ap, arith}
-use Rattle.std.proofs.lemmas.Bool.Decides.{nat_tests}
-use Rattle.multi_layout.proofs.LocateLemmas.{accepted_of}
+use Rattle.multi_layout.proofs.Common.{◌≡◌, length, ap, arith, nat_tests}
+use Rattle.multi_layout.proofs.PagesLemmas.{accepted_of, drawing_reads}
 use Rattle.multi_layout.proofs.WalkLemmas.{same_octets}
-use Rattle.multi_layout.proofs.PagesLemmas.{drawing_reads}
 use Rattle.multi_layout.proofs.checked.Checked.draw.Goals as goal
 
 pub returns-then-page-self-clause-exists : goal.returns-then-page-self-clause-exists

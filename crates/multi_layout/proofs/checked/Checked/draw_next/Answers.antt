@@ -1,6 +1,4 @@
-use Rattle.std.proofs.Common.{◌≡◌, ◌-◌, length, refl, subst, arith}
-use Rattle.multi_meaning.specs.Drawn.{Lights}
-use Rattle.multi_meaning.specs.Picture.{picture}
+use Rattle.multi_layout.proofs.Common.{◌≡◌, ◌-◌, length, refl, subst, arith, Lights, picture}
 use Rattle.multi_layout.proofs.PagesLemmas.{drawing_fills, drawing_reads, turns_to}
 use Rattle.multi_layout.proofs.WalkLemmas.{no_steps}
 use Rattle.multi_layout.proofs.checked.Checked.draw_next.Goals as goal

@@ -1,6 +1,5 @@
-use Rattle.std.proofs.Common.{refl}
-use Rattle.multi_layout.proofs.LocateLemmas.{at_start, first_starts}
-use Rattle.multi_layout.proofs.PagesLemmas.{under_way_first}
+use Rattle.multi_layout.proofs.Common.{refl}
+use Rattle.multi_layout.proofs.PagesLemmas.{at_start, first_starts, under_way_first}
 use Rattle.multi_layout.proofs.checked.Checked.each_page.Goals as goal
 
 pub invariant_of-result : goal.invariant_of-result

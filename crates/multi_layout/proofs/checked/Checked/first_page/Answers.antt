@@ -1,5 +1,5 @@
-use Rattle.std.proofs.Common.{arith}
-use Rattle.multi_layout.proofs.LocateLemmas.{at_start, first_starts}
+use Rattle.multi_layout.proofs.Common.{arith}
+use Rattle.multi_layout.proofs.PagesLemmas.{at_start, first_starts}
 use Rattle.multi_layout.proofs.checked.Checked.first_page.Goals as goal
 
 pub returns : goal.returns

@@ -1,15 +1,7 @@
-use Rattle.std.proofs.Common.{◌≡◌, ◌+◌, ◌*◌, [], ◌∷◌, ◌++◌, length, map, not, None, refl, sym, ap, ◌∙◌, subst}
-use Rattle.std.proofs.lemmas.Bool.{not-false}
-use Rattle.sign_font.specs.Sign.{cell_in}
-use Rattle.multi_meaning.specs.Meaning.{Meaning, Shows}
-use Rattle.multi_meaning.specs.Offence.{unsized_offence}
+use Rattle.multi_layout.proofs.Common.{◌≡◌, ◌+◌, ◌*◌, [], ◌∷◌, ◌++◌, length, map, not, None, refl, sym, ap, ◌∙◌, subst, not-false, cell_in, Meaning, Shows, unsized_offence, meant, IsStateOf, state-limits, cell_of_width}
 use Rattle.multi_judge.specs.Adding.{character_of}
-use Rattle.multi_layout.specs.kept.Cursors.{meant}
-use Rattle.multi_judge.specs.State.{IsStateOf}
-use Rattle.multi_judge.proofs.JudgedLemmas.{state-limits}
 use Rattle.multi_judge.proofs.LimitLemmas.{behind_added}
 use Rattle.multi_judge.proofs.PlacingLemmas.{character-accepted, character-free}
-use Rattle.multi_judge.proofs.RunReadLemmas.{cell_of_width}
 use Rattle.multi_layout.proofs.WalkLemmas.{ready_between, never_offends, between_more}
 use Rattle.multi_layout.proofs.cursor.Cursor.pass_character.Goals as goal
 

@@ -1,9 +1,7 @@
-use Rattle.std.proofs.Common.{rules, ◌+◌, length, slice_get, sym, ap, subst, ◌∙◌, arith}
-use Rattle.multi_layout.specs.kept.Passing.{IsPageSkipped}
-use Rattle.multi_layout.proofs.LocateLemmas.{in_page_in, in_page_text, met_in, next_in, page_more, page_over, passed_last, set_here}
+use Rattle.multi_layout.proofs.Common.{rules, ◌+◌, length, slice_get, sym, ap, subst, ◌∙◌, arith, IsPageSkipped}
+use Rattle.multi_layout.proofs.PagesLemmas.{in_page_in, in_page_text, met_in, next_in, page_more, page_over, passed_last, set_here}
 use Rattle.multi_layout.proofs.PageDrawLemmas.{if_same}
-use Rattle.multi_layout.proofs.SkipLemmas.{ready_there}
-use Rattle.multi_layout.proofs.WalkLemmas.{same_octets, steps_of, steps_then, steps_within, within}
+use Rattle.multi_layout.proofs.WalkLemmas.{ready_there, same_octets, steps_of, steps_then, steps_within, within}
 use Rattle.multi_layout.proofs.cursor.Cursor.pass_page.Goals as goal
 
 pub meet-requires : goal.meet-requires

@@ -1,6 +1,5 @@
-use Rattle.std.proofs.Common.{◌-◌, ◌*◌, ◌≤◌, length}
-use Rattle.multi_token.specs.Counted.{RisesBetween}
-use Rattle.multi_layout.proofs.LocateLemmas.{IsInPage}
+use Rattle.multi_layout.proofs.Common.{◌-◌, ◌*◌, ◌≤◌, length, RisesBetween}
+use Rattle.multi_layout.proofs.PagesLemmas.{IsInPage}
 use Rattle.multi_layout.proofs.cursor.Cursor.pass_page.Given as goal
 
 -- the page goes on, and each octet passed took at most nine steps

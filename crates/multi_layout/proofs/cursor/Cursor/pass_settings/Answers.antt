@@ -1,8 +1,6 @@
-use Rattle.std.proofs.Common.{rules, ◌+◌, slice_get, sym, ap, subst, ◌∙◌, arith}
-use Rattle.multi_judge.specs.declared.state.State.{State}
-use Rattle.multi_layout.specs.kept.AreaDrawing.{IsPageDrawn}
+use Rattle.multi_layout.proofs.Common.{rules, ◌+◌, slice_get, sym, ap, subst, ◌∙◌, arith, State, IsPageDrawn}
 use Rattle.multi_layout.proofs.PageDrawLemmas.{page_in}
-use Rattle.multi_layout.proofs.SettingDrawLemmas.{page_set}
+use Rattle.multi_layout.proofs.AreaDrawLemmas.{page_set}
 use Rattle.multi_layout.proofs.WalkLemmas.{ready_between, same_octets, steps_of, steps_then, steps_within, within_between}
 use Rattle.multi_layout.proofs.cursor.Cursor.pass_settings.Goals as goal
 

@@ -1,5 +1,4 @@
-use Rattle.std.proofs.Common.{◌≡◌, ◌-◌, ◌*◌, ◌≤◌, length, slice_get}
-use Rattle.multi_token.specs.Counted.{RisesBetween}
+use Rattle.multi_layout.proofs.Common.{◌≡◌, ◌-◌, ◌*◌, ◌≤◌, length, slice_get, RisesBetween}
 use Rattle.multi_layout.specs.kept.Settings.{PassesSettings}
 use Rattle.multi_layout.proofs.cursor.Cursor.pass_settings.Given as goal
 

@@ -1,12 +1,4 @@
-use Rattle.std.proofs.Common.{◌≡◌, ◌+◌, ◌*◌, [], ◌∷◌, ◌++◌, length, map, not, sym, ap, subst, ◌∙◌}
-use Rattle.std.proofs.lemmas.Bool.{not-false}
-use Rattle.multi_tag.specs.declared.tag.Tag.TheVariants.{NewLine}
-use Rattle.multi_meaning.specs.Meaning.{Does, Meaning}
-use Rattle.multi_meaning.specs.Offence.{unsized_offence}
-use Rattle.multi_layout.specs.kept.Cursors.{meant}
-use Rattle.multi_judge.specs.KnownItem.{meant_by}
-use Rattle.multi_judge.specs.State.{IsStateOf}
-use Rattle.multi_judge.proofs.JudgedLemmas.{state-limits}
+use Rattle.multi_layout.proofs.Common.{◌≡◌, ◌+◌, ◌*◌, [], ◌∷◌, ◌++◌, length, map, not, sym, ap, subst, ◌∙◌, not-false, NewLine, Does, Meaning, unsized_offence, meant, meant_by, IsStateOf, state-limits}
 use Rattle.multi_judge.proofs.PlacingLemmas.{break-accepted, break-free}
 use Rattle.multi_layout.proofs.WalkLemmas.{between_more, never_offends, ready_between}
 use Rattle.multi_layout.proofs.cursor.Cursor.pass_tag.Goals as goal

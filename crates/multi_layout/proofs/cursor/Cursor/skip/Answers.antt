@@ -1,7 +1,5 @@
-use Rattle.std.proofs.Common.{map, sym, ◌∙◌}
-use Rattle.multi_meaning.specs.Meaning.{meaning}
-use Rattle.multi_layout.specs.kept.Passing.{unplaced}
-use Rattle.multi_layout.proofs.SkipLemmas.{fine_passing, passing_tag, ready_there}
+use Rattle.multi_layout.proofs.Common.{map, sym, ◌∙◌, meaning, unplaced}
+use Rattle.multi_layout.proofs.WalkLemmas.{fine_passing, passing_tag, ready_there}
 use Rattle.multi_layout.proofs.cursor.Cursor.skip.Goals as goal
 
 pub skip_tag-requires-clause-ready : goal.skip_tag-requires-clause-ready

@@ -1,11 +1,5 @@
-use Rattle.std.proofs.Common.{◌≡◌, Some, None, sym, ap, ◌∙◌}
-use Rattle.std.proofs.lemmas.Bool.{false≢true}
-use Rattle.sign_font.specs.declared.parts.LineFill.TheVariants.{Off}
-use Rattle.multi_meaning.specs.Codes.{code_of}
-use Rattle.multi_meaning.specs.Meaning.{Does, has_place}
-use Rattle.multi_meaning.specs.Offence.{unsized_offence}
-use Rattle.multi_meaning.proofs.UnplacedLemmas.{sized}
-use Rattle.multi_judge.specs.KnownItem.{meant_by}
+use Rattle.multi_layout.proofs.Common.{◌≡◌, Some, None, sym, ap, ◌∙◌, false≢true, Off, code_of, Does, has_place, unsized_offence, meant_by}
+use Rattle.multi_meaning.proofs.StandingLemmas.{sized}
 use Rattle.multi_layout.proofs.cursor.Cursor.skip_tag.Goals as goal
 
 pub unreachable-requires-in-Err : goal.unreachable-requires-in-Err

@@ -1,8 +1,5 @@
-use Rattle.std.proofs.Common.{◌≡◌, ◌+◌, drop, length, take, subst, sym, arith}
-use Rattle.std.proofs.lemmas.List.{length-drop, length-take-le, take-append-drop}
-use Rattle.multi_layout.specs.kept.Passing.{IsOnTheWay}
-use Rattle.multi_layout.proofs.SkipLemmas.{moved, text_skipped}
-use Rattle.multi_layout.proofs.WalkLemmas.{same_octets, steps_of, steps_then, steps_within}
+use Rattle.multi_layout.proofs.Common.{◌≡◌, ◌+◌, drop, length, take, subst, sym, arith, length-drop, length-take-le, take-append-drop, IsOnTheWay}
+use Rattle.multi_layout.proofs.WalkLemmas.{moved, text_skipped, same_octets, steps_of, steps_then, steps_within}
 use Rattle.multi_layout.proofs.cursor.Cursor.skip_text.Goals as goal
 
 pub returns-clause-passed : goal.returns-clause-passed

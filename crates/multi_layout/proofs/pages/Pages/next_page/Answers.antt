@@ -1,6 +1,4 @@
-use Rattle.std.proofs.Common.{◌≡◌, ◌<◌, ◌∙◌, refl, arith}
-use Rattle.multi_meaning.proofs.AcceptedLemmas.{accepted_is}
-use Rattle.multi_layout.specs.Pages.{IsSized, page_count}
+use Rattle.multi_layout.proofs.Common.{◌≡◌, ◌<◌, ◌∙◌, refl, arith, accepted_is, IsSized, page_count}
 use Rattle.multi_layout.proofs.PagesLemmas.{turns_page, under_way_further}
 use Rattle.multi_layout.proofs.pages.Pages.next_page.Goals as goal
 

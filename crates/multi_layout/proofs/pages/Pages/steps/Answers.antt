@@ -1,4 +1,4 @@
-use Rattle.std.proofs.Common.{arith}
+use Rattle.multi_layout.proofs.Common.{arith}
 use Rattle.multi_layout.proofs.PagesLemmas.{all_drawn, all_few, risen_few}
 use Rattle.multi_layout.proofs.pages.Pages.steps.Goals as goal
 
