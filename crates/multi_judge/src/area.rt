@@ -10,7 +10,7 @@ ghost use Rattle.multi_meaning.specs.kept.Present.{IsPlacing};
 ghost use Rattle.multi_judge.specs.Adding.{ReachesGroup};
 ghost use Rattle.multi_judge.specs.Run.{kept_height};
 ghost use Rattle.multi_judge.specs.State.{group_room};
-ghost use Rattle.multi_judge.specs.Sums.{IsBare, group_sum, area_sum, area_sum_in, IsBreak, IsGroupBelow, IsBelow};
+ghost use Rattle.multi_judge.specs.Sums.{IsBare, group_sum, area_sum, IsBreak, IsGroupBelow, IsBelow};
 
 use crate::line::{Line, gap_or_average, room_for};
 use multi_tag::PageJust;

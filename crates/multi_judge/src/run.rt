@@ -9,7 +9,7 @@ ghost use Rattle.sign_font.specs.Text.{AreWidthsOf, HasWidth, IsNoSpace, width_i
 ghost use Rattle.multi_judge.specs.PassState.{IsPassBehind, IsPassOf};
 ghost use Rattle.multi_judge.specs.Judging.{IsAt, IsBehind};
 ghost use Rattle.multi_judge.specs.Run.{IsBehindCharacter, IsRun, IsRunPassed, is_within, lengthened, line_in_force};
-ghost use Rattle.multi_judge.specs.State.{IsLimited, IsReady, IsUnfilledOf};
+ghost use Rattle.multi_judge.specs.State.{IsLimited, IsReady};
 
 use crate::fill_run::judge_text;
 use crate::pass::Pass;
