@@ -1,12 +1,6 @@
 -- The sums of an area after one more placing item, and what is judged by them.
-use Rattle.multi_judge.proofs.Common.{◌≡◌, ℕ, ◌<◌, ◌≤◌, Bool, true, false, not, ◌&&◌, ◌||◌, ◌==◌, List, [], ◌∷◌, ◌++◌, refl, sym, ap, ◌∙◌, arith, rules, inl, inr, ◌+◌, Option, Some, None, nat_lt, list_any, after_last, or_parts, cases_eq, cases_lt, eq-eqb, le-ltb, lt-ltb, ne_eqb, cases_Bool, false≢true, le-leb, lt-leb, All-head, All-weaker, page_number, largest, Off, Spot, is_glyph, is_break, area_of, in_group, line_before, line_fits, area_fits, too_big, clashes, conflicts, page_number_known, largest_most, largest_push, filter_none, own_group, in_group_other, filled, IsFilledOn, Area, Group, group_sum, area_sum, area_sum_in, line_sum, IsBelow, IsGroupBelow, Split, split_sum, IsMost, group_room}
-use Rattle.std.proofs.lemmas.Bool.{ltb-false, leb-false, leb-true}
-use Rattle.multi_meaning.specs.Offence.{goes_back}
-use Rattle.multi_meaning.proofs.WordLemmas.{group_goes_back}
-use Rattle.multi_meaning.proofs.GroupLemmas.{break_put}
-use Rattle.multi_judge.specs.Sums.{IsBare}
+use Rattle.multi_judge.proofs.Common.{◌≡◌, ℕ, ◌<◌, ◌≤◌, Bool, true, false, not, ◌&&◌, ◌||◌, ◌==◌, List, [], ◌∷◌, ◌++◌, refl, sym, ap, ◌∙◌, arith, rules, inl, inr, ◌+◌, Option, Some, None, nat_lt, list_any, after_last, or_parts, cases_eq, cases_lt, eq-eqb, le-ltb, lt-ltb, ne_eqb, cases_Bool, false≢true, le-leb, lt-leb, All-head, All-weaker, page_number, largest, Off, Spot, is_glyph, is_break, area_of, in_group, line_before, line_fits, area_fits, too_big, clashes, conflicts, page_number_known, largest_most, largest_push, filter_none, own_group, in_group_other, filled, IsFilledOn, Area, Group, group_sum, area_sum, area_sum_in, line_sum, IsBelow, IsGroupBelow, Split, split_sum, IsMost, group_room, ltb-false, leb-false, leb-true, goes_back, group_goes_back, break_put, IsBare, ReachesGroup}
 use Rattle.multi_judge.proofs.LineSumLemmas.{present_push}
-use Rattle.multi_judge.specs.Adding.{ReachesGroup}
 
 -- no item of an area is in a group behind the one with the largest justification
 pub group_behind : (just : ℕ) (area : List Spot) → largest (λ (t : Spot). page_number t.at.page_just) area < just → in_group just area ≡ []

@@ -1,13 +1,6 @@
 -- The sums around the last space of a line, at one more character.
-use Rattle.multi_judge.proofs.Common.{◌≡◌, true, false, List, [], ◌∷◌, ◌++◌, Option, Some, None, sym, ap, subst, ◌∙◌, rules, arith, ◌≤◌, inl, inr, ℕ, Bool, cond, not, ◌&&◌, ◌==◌, refl, append_assoc, append-nil, or_parts, and_from, and_parts, false≢true, AllPass, list_any, after_last, All, option_map, list_any-append, nat_le, sum_by-append, All-nil, All-cons, All-head, All-tail, Spot, is_glyph, is_break, segment, CutAt, is_space, filled, clashes, le_test, open_line, open_line_is, cut_with, none_mapped, Cut, after_last_is, smaller_fits, ended_break, ended_glyph, line_number, char_gap, glyph_width, width_of, fit, line_fits, IsPlacing, ended_lines, Split, Character, Line, split_sum, EndsLine, IsCharacter, line_sum, IsBreak, group_sum, Group, PutsCharacter, FitsBefore, IsMost, segment_room}
-use Rattle.multi_meaning.specs.Filling.{cut_at_last, longer, dropped}
-use Rattle.multi_meaning.proofs.FillLemmas.{word_begins, word_grows, broken_line, breaks, drops, stands, stays, LaidAll, LaidAs, filled_laid, ended, ended_ends, ends_open, open_line_glyphs, filled_is}
-use Rattle.multi_meaning.proofs.WordLemmas.{is_cut, All-around}
-use Rattle.multi_meaning.proofs.GroupLemmas.{glyphs_around}
-use Rattle.multi_meaning.specs.Words.{successive}
-use Rattle.multi_judge.specs.FillSums.{parts_sum, BreaksGroup}
-use Rattle.multi_judge.proofs.JudgedLemmas.{some_mapped}
-use Rattle.multi_judge.proofs.LineSumLemmas.{all_glyphs, none_behind, relined, present_push}
+use Rattle.multi_judge.proofs.Common.{◌≡◌, true, false, List, [], ◌∷◌, ◌++◌, Option, Some, None, sym, ap, subst, ◌∙◌, rules, arith, ◌≤◌, inl, inr, ℕ, Bool, cond, not, ◌&&◌, ◌==◌, refl, append_assoc, append-nil, or_parts, and_from, and_parts, false≢true, AllPass, list_any, after_last, All, option_map, list_any-append, nat_le, sum_by-append, All-nil, All-cons, All-head, All-tail, Spot, is_glyph, is_break, segment, CutAt, is_space, filled, clashes, le_test, open_line, open_line_is, cut_with, none_mapped, Cut, after_last_is, smaller_fits, ended_break, ended_glyph, line_number, char_gap, glyph_width, width_of, fit, line_fits, IsPlacing, ended_lines, Split, Character, Line, split_sum, EndsLine, IsCharacter, line_sum, IsBreak, group_sum, Group, PutsCharacter, FitsBefore, IsMost, segment_room, cut_at_last, longer, dropped, word_begins, word_grows, broken_line, breaks, drops, stands, stays, LaidAll, LaidAs, filled_laid, ended, ended_ends, ends_open, open_line_glyphs, filled_is, is_cut, All-around, glyphs_around, successive, info_of, parts_sum}
+use Rattle.multi_judge.proofs.Sums.{some_mapped, all_glyphs, none_behind, relined, present_push}
 use Rattle.multi_judge.proofs.LimitLemmas.{fits_behind, none_before, told_behind}
 
 -- what doesn't clash with a line doesn't with its end
@@ -75,6 +68,19 @@ line_behind front line none glyphs = search (rules, Cut, after_last_is, cut_with
 pub lined_anew : (front line other : List Spot) → after_last is_break front ≡ [] → AllPass is_glyph line → AllPass is_glyph other → (self : Group) → self ≡ group_sum (front ++ line)
     → (l : Line) → l ≡ line_sum other → with_line self l ≡ group_sum (front ++ other)
 lined_anew front line other none glyphs others self e l is = search (rules, relined)
+
+-- a group is broken at the last space of its present line, where these are the sums of the group and of that line's parts around the
+-- space: it is then the group with that space dropped (own)
+abbrev BreaksGroup : Group → Split → Group → Type 0
+BreaksGroup old split new =
+    (front before behind : List Spot) (space : Spot) → All IsPlacing (front ++ before) → after_last is_break front ≡ []
+    → AllPass is_glyph before → AllPass is_glyph behind → is_glyph space ≡ true
+    → old ≡ group_sum (front ++ (before ++ space ∷ behind)) → split.before ≡ line_sum before → split.font ≡ info_of space.at.font → split.behind ≡ line_sum behind
+    → new ≡ group_sum (((front ++ before) ++ dropped space ∷ []) ++ behind)
+
+broken_at : (old : Group) (split : Split) (new : Group)
+    → ((g : List Spot) (t : Spot) → All IsPlacing g → with_line old split.before ≡ group_sum g → IsBreak t None split.font → new ≡ group_sum (g ++ t ∷ [])) → BreaksGroup old split (with_line new split.behind)
+broken_at old split new ends = search (rules, all_glyphs, none_behind, relined)
 
 laid_one : (s t : Spot) → IsPlacing s → LaidAs s t → IsPlacing t
 laid_one s t h (inl e) = subst IsPlacing (sym e) h
@@ -183,11 +189,12 @@ module _ {width : ℕ} {group : List Spot} {s : Spot} {character : Character} {s
         )
 
     -- the line is broken at its last space: what stands before it is ended, and what stands behind it fits, since the whole line did
-    pub breaks_there : nat_le grown.part.width most ≡ false → is_space s ≡ false → (parts : Split) → Some parts ≡ split_sum open' → (first : Group)
-        → BreaksGroup self parts first → (next : Line)
-        → ((l : List Spot) → AllPass is_glyph l → first.line ≡ line_sum l → list_any (clashes s) l ≡ false → next ≡ line_sum (l ++ s ∷ []))
-        → Joined width group s (with_line first next) None (Some parts.before)
-    breaks_there big word parts o first breaks_at next puts =
+    pub breaks_there : nat_le grown.part.width most ≡ false → is_space s ≡ false → (parts : Split) → Some parts ≡ split_sum open' → (new : Group)
+        → ((g : List Spot) (t : Spot) → All IsPlacing g → with_line self parts.before ≡ group_sum g → IsBreak t None parts.font → new ≡ group_sum (g ++ t ∷ [])) → (next : Line)
+        → ((l : List Spot) (t : Spot) → AllPass is_glyph l → IsCharacter t character → parts.behind ≡ line_sum l → list_any (clashes t) l ≡ false → next ≡ line_sum (l ++ t ∷ []))
+        → Joined width group s (with_line new next) None (Some parts.before)
+    breaks_there big word parts o new ends next puts =
+        let first = with_line new parts.behind in
         let (c, found', same, before, behind, away) = parts_of open' s parts present_glyphs j.apart o in
         let found = ap (cut_at_last is_space) (sym line_is) ∙ found' in
         let cut = is_cut is_space line c found in
@@ -198,10 +205,10 @@ module _ {width : ℕ} {group : List Spot} {s : Spot} {character : Character} {s
         let parted = all_is ∙ ap (λ l. front ++ l) cut.parts in
         let around = All-around IsPlacing (front ++ c.before) c.item c.behind (subst (All IsPlacing) (parted ∙ sym (append_assoc front c.before (c.item ∷ c.behind))) whole) in
         let space = (All-around (λ x. is_glyph x ≡ true) c.before c.item c.behind (subst (AllPass is_glyph) cut.parts glyphs)).1 in
-        let first_is = breaks_at front c.before c.behind c.item around.0 none before behind space (j.sum ∙ ap group_sum parted)
+        let first_is = broken_at self parts new ends front c.before c.behind c.item around.0 none before behind space (j.sum ∙ ap group_sum parted)
         (ap (λ (p : Split). p.before) (sym same)) (ap (λ (p : Split). p.font) (sym same)) (ap (λ (p : Split). p.behind) (sym same)) in
         let empty = none_behind (front ++ c.before) (dropped c.item) refl in
-        let next_is = puts c.behind behind (ap (λ (g : Group). g.line) first_is ∙ ap line_sum (line_behind broken c.behind empty behind)) away in
+        let next_is = puts c.behind s behind j.is (ap (λ (p : Split). p.behind) (sym same)) away in
         let behind_fits = part_fits width (c.before ++ c.item ∷ []) c.behind (ap (line_fits width) (append_assoc c.before (c.item ∷ []) c.behind ∙ sym cut.parts) ∙ fits) in (
           lined_anew broken c.behind (c.behind ++ s ∷ []) empty behind (glyphs_more c.behind behind) first first_is next next_is ∙ ap group_sum (sym is),
           ap (option_map parts_sum) (sym (word_grows c.behind s None word cut.last))

@@ -1,16 +1,9 @@
 -- What is kept behind one more tag, where lines are filled.
-use Rattle.multi_judge.proofs.Common.{◌≡◌, ℕ, ◌*◌, ◌≤◌, true, false, List, [], ◌∷◌, ◌++◌, length, Option, Some, None, Result, Ok, Err, refl, sym, ap, subst, ◌∙◌, arith, append-nil, ◌&&◌, rules, Bool, cond, not, ◌||◌, ◌==◌, after_last, list_any, cases_eq, le-leb, length-append, Tag, NewPage, NewLine, Rect, page_number, LineFill, Off, Words, SignData, CellData, cell_in, cell_numbered, SyntaxError, Break, Spot, Standing, in_area, in_group, is_break, spots, standing, Glyph, area_of, group_of, filled, is_space, line_fits, area_fits, too_big, laid_items, Meaning, Does, Shows, conflicts, offence, clashes, first_code, never_big, unsized_offence, present_area, largest, in_group_other, own_group, placing_group, area_placing, nothing_fits, largest_laid, are_laid, offence-break, no_conflict, standing_push, present_area-new, present_area-placing, offence-character, largest_push, SizedCell, page_number_known, area_sum, IsBelow, IsCharacter, line_sum, Area, Pass, State, IsFilledOf, begins_line, order_sum, split_sum, IsSplitBelow, EndsLine, FillsArea, IsItemJudged, AreaFits, IsJudged, IsLimited, IsStateOf, attributes_of, Split, Character, Line, Attributes, is_within, FitsBefore, Limits}
-use Rattle.std.proofs.Common.{nat_lt}
+use Rattle.multi_judge.proofs.Common.{nat_lt, ◌≡◌, ℕ, ◌*◌, ◌≤◌, true, false, List, [], ◌∷◌, ◌++◌, length, Option, Some, None, Result, Ok, Err, refl, sym, ap, subst, ◌∙◌, arith, append-nil, ◌&&◌, rules, Bool, cond, not, ◌||◌, ◌==◌, after_last, list_any, cases_eq, le-leb, length-append, Tag, NewPage, NewLine, Rect, page_number, LineFill, Off, Words, SignData, CellData, cell_in, cell_numbered, SyntaxError, Break, Spot, Standing, in_area, in_group, is_break, spots, standing, Glyph, area_of, group_of, filled, is_space, line_fits, area_fits, too_big, laid_items, Meaning, Does, Shows, conflicts, offence, clashes, first_code, never_big, unsized_offence, present_area, largest, in_group_other, own_group, placing_group, area_placing, nothing_fits, largest_laid, are_laid, offence-break, no_conflict, standing_push, present_area-new, present_area-placing, offence-character, largest_push, SizedCell, page_number_known, area_sum, IsBelow, IsCharacter, line_sum, Area, Pass, State, IsFilledOf, begins_line, order_sum, split_sum, IsSplitBelow, EndsLine, FillsArea, IsItemJudged, AreaFits, IsJudged, IsLimited, IsStateOf, attributes_of, Split, Character, Line, Attributes, is_within, FitsBefore, Limits, filled_break, offends_as_laid, laid_tag, fits_next, after_last_push}
+use Rattle.multi_judge.proofs.Sums.{area_stays, split_more, cell_found, cell_missing, no_back, empty_area, both_fit, no_clash, present_glyphs}
 use Rattle.multi_meaning.specs.kept.FillOpen.{AllOpenFit}
-use Rattle.multi_meaning.proofs.FillLemmas.{filled_break}
-use Rattle.multi_meaning.proofs.LaidItemLemmas.{offends_as_laid, laid_tag}
-use Rattle.multi_meaning.proofs.RoomLemmas.{fits_next}
-use Rattle.multi_meaning.proofs.WordLemmas.{after_last_push}
-use Rattle.multi_judge.proofs.JudgedLemmas.{area_stays, split_more, cell_found, cell_missing}
 use Rattle.multi_judge.proofs.LimitLemmas.{limited_none, area_told, open_told, groups_fit_before}
-use Rattle.multi_judge.proofs.AreaSumLemmas.{no_back, empty_area, both_fit, no_clash}
 use Rattle.multi_judge.proofs.FilledStateLemmas.{area_with, conflicts_by, doesn't_fit, goes_behind, offends_by, offends_without, present_is, shown, no_clash_filled}
-use Rattle.multi_judge.proofs.LineSumLemmas.{present_glyphs}
 
 -- the group that is present is the last one of the items, whether they are laid out or not
 pub present_laid : (sign : SignData) (items : List Meaning) (state : State) → IsStateOf sign (laid_items Words sign items items) state

@@ -1,16 +1,7 @@
 -- What is kept of the items of a string as they are laid out, behind one more character.
-use Rattle.multi_judge.proofs.Common.{◌≡◌, ℕ, ◌+◌, ◌*◌, Bool, true, false, cond, List, [], ◌∷◌, ◌++◌, length, Option, Some, None, refl, sym, ap, subst, ◌∙◌, arith, append_assoc, append-nil, rules, not, ◌&&◌, ◌||◌, ◌==◌, zero, suc, cons_option, after_last, list_any, All, eq-eqb, le-ltb, or_parts, list_any-append, LineFill, SignData, CellData, cell_numbered, font_numbered, Glyph, Standing, in_area, spots, standing, Spot, area_of, group_of, in_group, is_break, too_big, laid_item, laid_items, Meaning, Shows, is_new_page, present_area, standing_behind, IsFilledOn, IsPlacing, Times, cycle, ended_times, times_at, pages_of, are_laid, largest_laid, standing_push, each_after_push, push_ind, some_after_push, after_last_is, cut, largest_push, page_number, line_number, Words, area_fits, line_fits, clashes, conflicts, first_code, offence, offence_by, largest, CutAt, filled, open_line, open_line_is, Area, Limits, State, IsStateOf, attributes_of, IsBelow, area_sum, line_sum, Order, order_sum}
-use Rattle.std.proofs.Common.{nat_lt}
+use Rattle.multi_judge.proofs.Common.{nat_lt, ◌≡◌, ℕ, ◌+◌, ◌*◌, Bool, true, false, cond, List, [], ◌∷◌, ◌++◌, length, Option, Some, None, refl, sym, ap, subst, ◌∙◌, arith, append_assoc, append-nil, rules, not, ◌&&◌, ◌||◌, ◌==◌, zero, suc, cons_option, after_last, list_any, All, eq-eqb, le-ltb, or_parts, list_any-append, LineFill, SignData, CellData, cell_numbered, font_numbered, Glyph, Standing, in_area, spots, standing, Spot, area_of, group_of, in_group, is_break, too_big, laid_item, laid_items, Meaning, Shows, is_new_page, present_area, standing_behind, IsFilledOn, IsPlacing, Times, cycle, ended_times, times_at, pages_of, are_laid, largest_laid, standing_push, each_after_push, push_ind, some_after_push, after_last_is, cut, largest_push, page_number, line_number, Words, area_fits, line_fits, clashes, conflicts, first_code, offence, offence_by, largest, CutAt, filled, open_line, open_line_is, Area, Limits, State, IsStateOf, attributes_of, IsBelow, area_sum, line_sum, Order, order_sum, laid, filled_on, same_width, too_big_laid, spots_more, character_cases, soft_break, broken_parts, parts, parts_off}
+use Rattle.multi_judge.proofs.Sums.{cycle-stays, conflicts_kept, no_back, any_more, in_order, line_clashes}
 use Rattle.std.proofs.Math.Bool.{or_comm}
-use Rattle.multi_meaning.specs.Laid.{laid}
-use Rattle.multi_meaning.proofs.LaidItemLemmas.{filled_on, same_width, too_big_laid}
-use Rattle.multi_meaning.proofs.StandingLemmas.{spots_more}
-use Rattle.multi_meaning.specs.Offence.{character_cases}
-use Rattle.multi_meaning.specs.Filling.{soft_break}
-use Rattle.multi_meaning.proofs.FillLemmas.{broken_parts, parts, parts_off}
-use Rattle.multi_judge.proofs.JudgedLemmas.{cycle-stays}
-use Rattle.multi_judge.proofs.AreaSumLemmas.{conflicts_kept, no_back}
-use Rattle.multi_judge.proofs.LineSumLemmas.{any_more, in_order, line_clashes}
 use Rattle.multi_judge.proofs.RunLemmas.{not_full, or_same}
 
 one_of : (b c : Bool) → cond {A = ℕ} b 1 0 ≡ cond c 1 0 → b ≡ c

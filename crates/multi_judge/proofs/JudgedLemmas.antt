@@ -1,16 +1,6 @@
 -- Bounds on the sums that are kept: what is below one is below a larger one.
-use Rattle.multi_judge.proofs.Common.{ℕ, ◌+◌, ◌≤◌, Option, Some, None, arith, rules, ◌≡◌, ◌*◌, ◌^◌, true, false, cond, inl, inr, List, [], ◌∷◌, ◌++◌, length, refl, sym, ap, ◌∙◌, append-nil, ◌-◌, not, ◌==◌, subst, nat_lt, count_by, cons_option, option_map, unwrap_or, option_map_or, cases_Bool, eqb-true, length-append, sum_by-append, nat_tests, Tag, Back, NewLine, NewPage, Rect, Off, too_big, SizedCell, SignData, CellData, FontData, cell_in, cell_numbered, font_numbered, FontInfo, Spot, Cover, Glyph, spots, standing, Meaning, Shows, Does, is_new_page, conflicts, never_big, offence, unsized_offence, offence_by, present_area, standing_behind, Times, cycle, ended_times, times_at, pages_of, offence-undefined, offence-character, standing_push, present_area-nothing, present_area-cover, present_area-new, some_after_push, none_mapped, Area, Group, Split, Line, Segment, IsSplitBelow, IsBelow, IsGroupBelow, IsLineBelow, area_sum, lengthened_line, begins_line, Attributes, Limits, State, IsReady, IsStateOf, attributes_of}
-use Rattle.std.specs.List.{find}
-use Rattle.std.specs.Option.{option_and_then}
-use Rattle.std.proofs.lemmas.Option.{same_Some}
-use Rattle.std.proofs.lemmas.List.Sums.{sum_by_push}
-use Rattle.multi_tag.specs.declared.tag.Tag.TheVariants.{Font}
-use Rattle.sign_font.specs.Sign.{info_of, sized}
-use Rattle.multi_meaning.specs.Attributes.{default_font, default_line_just, default_page_just, whole_sign, is_inside}
-use Rattle.multi_meaning.proofs.StandingLemmas.{offence-page, offence-rectangle, offence-font, offence-no_font}
+use Rattle.multi_judge.proofs.Common.{ℕ, ◌+◌, ◌≤◌, Option, Some, None, arith, rules, ◌≡◌, ◌*◌, ◌^◌, true, false, cond, inl, inr, List, [], ◌∷◌, ◌++◌, length, refl, sym, ap, ◌∙◌, append-nil, ◌-◌, not, ◌==◌, subst, nat_lt, count_by, cons_option, option_map, unwrap_or, option_map_or, cases_Bool, eq-eqb, eqb-true, length-append, sum_by-append, nat_tests, Tag, Back, NewLine, NewPage, Rect, Off, too_big, SizedCell, SignData, CellData, FontData, cell_in, cell_numbered, font_numbered, FontInfo, Spot, Cover, Glyph, spots, standing, Meaning, Shows, Does, is_new_page, conflicts, never_big, offence, unsized_offence, offence_by, present_area, standing_behind, Times, cycle, ended_times, times_at, pages_of, offence-undefined, offence-character, standing_push, present_area-nothing, present_area-cover, present_area-new, some_after_push, none_mapped, Area, Group, Split, Line, Segment, IsSplitBelow, IsBelow, IsGroupBelow, IsLineBelow, area_sum, lengthened_line, begins_line, Attributes, Limits, State, IsReady, IsStateOf, attributes_of, find, option_and_then, same_Some, sum_by_push, Font, info_of, sized, default_line_just, default_page_just, whole_sign, is_inside, offence-page, offence-rectangle, offence-font, offence-no_font, IsSegmentBelow, IsSimple}
 use Rattle.multi_tag.specs.declared.tag.FontPick.{FontPick}
-use Rattle.multi_judge.specs.Sums.{IsSegmentBelow}
-use Rattle.multi_judge.specs.State.{IsSimple}
 use Rattle.multi_meaning.proofs.StandingLemmas as unplaced
 
 segment_more : (k m : ℕ) (segment : Segment) → k ≤ m → IsSegmentBelow k segment → IsSegmentBelow m segment
@@ -127,6 +117,10 @@ shown_free sign items number cell found fine =
     let spot : Spot = record { at = standing sign items; put = Glyph cell } in
     unplaced.no_conflict (conflicts (spots sign items) spot) false (sym (offence-character never_big sign items number cell found) ∙ fine)
 
+-- an area of no item has nothing
+none_below : (area : Area) → area ≡ area_sum [] → IsBelow 0 area
+none_below area e = rw e (search rules)
+
 module _ (sign : SignData) (items : List Meaning) (state : State) (st : IsStateOf sign items state) where
   -- the font in force
   font_number : state.attributes.font.number ≡ (standing sign items).font.number
@@ -158,11 +152,11 @@ module _ (sign : SignData) (items : List Meaning) (state : State) (st : IsStateO
 
   -- a new page: the times of the one before are ended, and the whole sign and an empty area begin
   pub state-page : (new : State) → new.pages ≡ state.pages + 1 → new.cycle ≡ state.cycle + (state.attributes.on + state.attributes.off)
-      → new.attributes ≡ record state.attributes { rectangle = whole_sign sign } → new.area ≡ area_sum [] → IsBelow 0 new.area
+      → new.attributes ≡ record state.attributes { rectangle = whole_sign sign } → new.area ≡ area_sum []
       → state.attributes.on ≤ 255 → state.attributes.off ≤ 255
       → IsStateOf sign (items ++ Does NewPage ∷ []) new
-  state-page new pages times attributes area below on_bound off_bound =
-      search (rules, below_more, cycle-grows, pages_of-push, present_area-new, standing_push)
+  state-page new pages times attributes area on_bound off_bound =
+      search (rules, none_below, below_more, cycle-grows, pages_of-push, present_area-new, standing_push)
 
   pub judged-rectangle : (x y w h : ℕ) → offence Off sign items (Does (Rect x y w h)) ≡ cond (Rattle.multi_meaning.specs.Attributes.is_inside sign x y w h) None (Some 4)
   judged-rectangle x y w h = offence-rectangle (too_big Off) sign items x y w h
@@ -170,7 +164,7 @@ module _ (sign : SignData) (items : List Meaning) (state : State) (st : IsStateO
 -- ---- the start
 
 -- the state before the first item
-pub state-start : (sign : SignData) (info : FontInfo) (area : Area) (limits : Limits) → option_map info_of (font_numbered sign sign.defaults.font) ≡ Some info → area ≡ area_sum [] → IsBelow 0 area
+pub state-start : (sign : SignData) (info : FontInfo) (area : Area) (limits : Limits) → option_map info_of (font_numbered sign sign.defaults.font) ≡ Some info → area ≡ area_sum []
     → IsStateOf sign [] (record {
       pages = 1;
       cycle = 0;
@@ -190,7 +184,7 @@ pub state-start : (sign : SignData) (info : FontInfo) (area : Area) (limits : Li
       limits = limits;
     })
 unfolding standing spots
-state-start sign info area limits is sum below = search (rules, found_again)
+state-start sign info area limits is sum = search (rules, none_below, found_again)
 
 -- a state within these bounds has room for one more item
 pub ready : (sign : SignData) (items : List Meaning) (state : State) → IsStateOf sign items state → length items ≤ 2 ^ 32 → IsReady state
@@ -200,10 +194,10 @@ ready sign items state st few = search (rules, below_more)
 pub state-rectangle : (sign : SignData) (items : List Meaning) (state new : State) (x y w h : ℕ) → IsStateOf sign items state
     → new.pages ≡ state.pages → new.cycle ≡ state.cycle
     → new.attributes ≡ attributes_of (standing_behind sign (standing sign items) (Does (Rect x y w h)))
-    → new.area ≡ area_sum [] → IsBelow 0 new.area
+    → new.area ≡ area_sum []
     → IsStateOf sign (items ++ Does (Rect x y w h) ∷ []) new
-state-rectangle sign items state new x y w h st pages times attributes area below =
-    search (rules, below_more, present_area-new, state-same_page)
+state-rectangle sign items state new x y w h st pages times attributes area =
+    search (rules, none_below, below_more, present_area-new, state-same_page)
 
 -- a tag that is none of these is a simple one
 pub simple_of : (tag : Tag) → (tag ≡ NewPage → ⊥) → ((gap : Option ℕ) → tag ≡ NewLine gap → ⊥) → ((pick : Option FontPick) → tag ≡ Font pick → ⊥) → ((x y w h : ℕ) → tag ≡ Rect x y w h → ⊥) → IsSimple tag
@@ -258,13 +252,13 @@ pub judged-no_font : (sign : SignData) (items : List Meaning) (pick : FontPick) 
 judged-no_font sign items pick none = offence-no_font (too_big Off) sign items pick (none_mapped info_of (font_numbered sign pick.number) none)
 
 -- the version that is asked for is another, where the font doesn't agree with it
-other_version : (o : Option ℕ) (n : ℕ) → option_map_or (λ v. not (v == n)) o false ≡ not (option_map_or (λ v. v == n) o true)
-other_version None n = refl
+other_version : (o : Option ℕ) (n : ℕ) → option_map_or (λ v. not (v == n)) o false ≡ not (unwrap_or o n == n)
+other_version None n = ap not (sym (eq-eqb n n refl))
 other_version (Some v) n = refl
 
 -- a font of another version
 pub judged-version : (sign : SignData) (items : List Meaning) (pick : FontPick) (info : FontInfo) → option_map info_of (font_numbered sign pick.number) ≡ Some info
-    → option_map_or (λ v. v == info.version) pick.version true ≡ false → offence Off sign items (Does (Font (Some pick))) ≡ Some 13
+    → (unwrap_or pick.version info.version == info.version) ≡ false → offence Off sign items (Does (Font (Some pick))) ≡ Some 13
 judged-version sign items pick info is differs =
     let (font, found, same) = some_mapped info_of (font_numbered sign pick.number) info is in
     let versions : font.version ≡ info.version = ap (λ (i : FontInfo). i.version) (sym same) in
@@ -274,7 +268,7 @@ judged-version sign items pick info is differs =
 
 -- the font that is asked for, in its version
 pub judged-picked : (sign : SignData) (items : List Meaning) (state : State) (st : IsStateOf sign items state) (pick : FontPick) (info : FontInfo)
-    → option_map info_of (font_numbered sign pick.number) ≡ Some info → option_map_or (λ v. v == info.version) pick.version true ≡ true
+    → option_map info_of (font_numbered sign pick.number) ≡ Some info → (unwrap_or pick.version info.version == info.version) ≡ true
     → CheckedData sign items state st (record state.attributes { font = info }) (Font (Some pick))
 judged-picked sign items state st pick info is agrees =
     let (font, found, same) = some_mapped info_of (font_numbered sign pick.number) info is in

@@ -4,6 +4,7 @@ pub mod FillGroupLemmas
 pub mod FilledJudgedLemmas
 pub mod FilledStateLemmas
 pub mod JudgedLemmas
+pub mod Lemmas
 pub mod LimitLemmas
 pub mod LineSumLemmas
 pub mod PlaceLemmas
@@ -11,4 +12,5 @@ pub mod PlacingLemmas
 pub mod ReadLemmas
 pub mod RunLemmas
 pub mod RunReadLemmas
+pub mod Sums
 pub mod TextLemmas

@@ -1,15 +1,8 @@
 -- What fits behind one more character, where what was before it fits: only the present segment and the present group can be too much.
-use Rattle.multi_judge.proofs.Common.{◌≡◌, ℕ, ◌≤◌, Bool, true, List, [], ◌∷◌, ◌++◌, refl, ap, arith, rules, inl, inr, ◌+◌, ◌*◌, false, cond, ◌&&◌, not, length, Option, Some, None, sym, subst, ◌∙◌, nat_le, if◌then◌else◌, All, AllPass, list_any, and_from, and_parts, cases_eq, eq-eqb, ne_eqb, false≢true, le-leb, nat_tests, All-head, All-push, line_number, page_number, le_test, nothing_fits, Off, SignData, cell_in, Spot, in_group, lines_of, segment, spots, standing, Standing, area_of, is_glyph, line_before, area_fits, fit, line_fits, height_of, width_of, Meaning, Does, Shows, offence, clashes, conflicts, IsPlacing, present_area, some_after, largest, smaller_fits, each_just, area_placing, in_group_other, area_fits_always, too_big, largest_most, largest_push, line_number_known, page_number_known, SizedCell, NewLine, Area, Line, group_room, AreaFits, IsLimited, IsMost, IsStateOf, segment_room, FitsBefore, kept_height, kept_width, lengthened_line, IsBehindCharacter, is_within, kept_fits, area_sum, line_sum, IsBelow, Group, State, Attributes, AddsCharacter, character_of}
-use Rattle.std.specs.Prelude.{◌==◌}
-use Rattle.multi_meaning.specs.Fit.{FitsWithout, room_for}
-use Rattle.multi_meaning.proofs.GroupLemmas.{room_end, room_middle, room_start}
-use Rattle.multi_meaning.proofs.RoomLemmas.{lines_fit_always}
+use Rattle.multi_judge.proofs.Common.{◌==◌, ◌≡◌, ℕ, ◌≤◌, Bool, true, List, [], ◌∷◌, ◌++◌, refl, ap, arith, rules, inl, inr, ◌+◌, ◌*◌, false, cond, ◌&&◌, not, length, Option, Some, None, sym, subst, ◌∙◌, nat_le, if◌then◌else◌, All, AllPass, list_any, and_from, and_parts, cases_eq, eq-eqb, ne_eqb, false≢true, le-leb, nat_tests, All-head, All-push, line_number, page_number, le_test, nothing_fits, Off, SignData, cell_in, Spot, in_group, lines_of, segment, spots, standing, Standing, area_of, is_glyph, line_before, area_fits, fit, line_fits, height_of, width_of, Meaning, Does, Shows, offence, clashes, conflicts, IsPlacing, present_area, some_after, largest, smaller_fits, each_just, area_placing, in_group_other, area_fits_always, too_big, largest_most, largest_push, line_number_known, page_number_known, SizedCell, NewLine, Area, Line, group_room, AreaFits, IsLimited, IsMost, IsStateOf, segment_room, FitsBefore, kept_height, kept_width, lengthened_line, IsBehindCharacter, is_within, kept_fits, area_sum, line_sum, IsBelow, Group, State, Attributes, AddsCharacter, character_of, FitsWithout, room_for, room_end, room_middle, room_start, lines_fit_always, AddsBreak}
+use Rattle.multi_judge.proofs.Sums.{kept_width_is, segment_other, in_order, no_character, fits_break, fits_character, group_of_own, no_clash, present_line, cell_found, state-limits}
 use Rattle.multi_meaning.specs.declared.attributes.Rectangle.{Rectangle}
-use Rattle.multi_judge.proofs.LineSumLemmas.{kept_width_is, segment_other, in_order, no_character}
 use Rattle.multi_judge.proofs.RunLemmas.{kept_group_height, kept_group_height_is, kept_area_fits, kept_fits_is}
-use Rattle.multi_judge.specs.Adding.{AddsBreak}
-use Rattle.multi_judge.proofs.AreaSumLemmas.{fits_break, fits_character, group_of_own, no_clash, present_line}
-use Rattle.multi_judge.proofs.JudgedLemmas.{cell_found, state-limits}
 use Rattle.multi_judge.proofs.PlacingLemmas.{IsFound, Placed, break-grown, character-grown, line_end, item_of, line_here, page_here, placed_order, placed_size, shown, spot_of, state-placed}
 
 -- ---- the line of a character

@@ -1,14 +1,5 @@
 -- The sums of a line after one more character.
-use Rattle.multi_judge.proofs.Common.{◌≡◌, ℕ, ◌+◌, ◌<◌, ◌≤◌, max, Bool, true, false, cond, ◌&&◌, ◌||◌, ◌==◌, List, [], ◌∷◌, ◌++◌, Option, Some, None, refl, sym, ap, ◌∙◌, arith, rules, length, subst, nat_lt, list_any, AllPass, last_or, after_last, cons_option, All, unwrap_or, option_map, option_map_or, and_right, cases_eq, cases_lt, eq-eqb, false≢true, le-ltb, lt-ltb, ne_eqb, or_parts, All-weaker, All-head, All-tail, All-cons, list_any-append, line_number, page_number, largest, Spot, is_glyph, segment, Break, is_break, in_group, lines_of, average, char_gap, width_of, height_of, clashes, largest_most, largest_push, last_or_push, filter_none, Cut, cut, after_last_is, ended_is, cut_behind_is, each_just, filter_yes, open_glyphs, own_group, placing_group, IsPlacing, FontInfo, cut_with, Character, Segment, Line, kept_width, segment_sum, width_before, line_sum, IsCharacter, group_sum, IsBreak, Group}
-use Rattle.std.proofs.Common.{length-append}
-use Rattle.std.specs.List.{filter_map}
-use Rattle.std.proofs.lemmas.List.{append-nil}
-use Rattle.std.proofs.lemmas.List.Elements.{filter-append, filter_map-append, All-append}
-use Rattle.multi_meaning.specs.Line.{bearers, line_height, line_spacing, line_gap, given_gap}
-use Rattle.multi_meaning.proofs.WordLemmas.{gap_before, any_largest, extent_push, cut_push, cut_if, part}
-use Rattle.multi_meaning.proofs.GroupLemmas.{any_glyph, bearers_glyphs, bearers_ended, bearers_empty, glyph_put}
-use Rattle.multi_meaning.proofs.StandingLemmas.{width_push}
-use Rattle.multi_judge.specs.Sums.{ended_sum}
+use Rattle.multi_judge.proofs.Common.{length-append, append-nil, ◌≡◌, ℕ, ◌+◌, ◌<◌, ◌≤◌, max, Bool, true, false, cond, ◌&&◌, ◌||◌, ◌==◌, List, [], ◌∷◌, ◌++◌, Option, Some, None, refl, sym, ap, ◌∙◌, arith, rules, length, subst, nat_lt, list_any, AllPass, last_or, after_last, cons_option, All, unwrap_or, option_map, option_map_or, and_right, cases_eq, cases_lt, eq-eqb, false≢true, le-ltb, lt-ltb, ne_eqb, or_parts, All-weaker, All-head, All-tail, All-cons, list_any-append, line_number, page_number, largest, Spot, is_glyph, segment, Break, is_break, in_group, lines_of, average, char_gap, width_of, height_of, clashes, largest_most, largest_push, last_or_push, filter_none, Cut, cut, after_last_is, ended_is, cut_behind_is, each_just, filter_yes, open_glyphs, own_group, placing_group, IsPlacing, FontInfo, cut_with, Character, Segment, Line, kept_width, segment_sum, width_before, line_sum, IsCharacter, group_sum, IsBreak, Group, filter_map, filter-append, filter_map-append, All-append, bearers, line_height, line_spacing, line_gap, given_gap, gap_before, any_largest, extent_push, cut_push, cut_if, part, any_glyph, bearers_glyphs, bearers_ended, bearers_empty, glyph_put, width_push, ended_sum}
 use Rattle.multi_judge.specs.declared.area.Ended.{Ended}
 
 -- the gap before one more character, from the spacing of the last one's font

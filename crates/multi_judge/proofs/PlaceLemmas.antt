@@ -1,17 +1,9 @@
 -- The line table of a group: what one more `nl` adds to it, what its last line adds, and what is looked up in it.
-use Rattle.multi_judge.proofs.Common.{◌≡◌, ℕ, ◌+◌, ◌-◌, ◌<◌, Bool, true, false, length, take, List, [], ◌∷◌, ◌++◌, Option, Some, None, refl, sym, ap, ◌∙◌, suc, zero, arith, rules, ◌≤◌, ◌&&◌, ◌==◌, subst, slice_index_or, if◌then◌else◌, last_or, list_any, after_last, All, count_by, option_map_or, length-append, eq-eqb, eqb-true, largest, Spot, is_glyph, is_break, lines_of, area_of, segment, group_of, line_before, height_of, width_of, glyph_width, ended_lines, IsPlacing, each_after_length, each_after_push, last_or_push, push_ind, cut, cut_behind_is, after_last_is, ended_is, largest_push, open_glyphs, own_group, filter_yes, ended_count, ended_glyph, each_just, line_number, page_number, clashes, line_number_known, CountedLine, counted_line, Area, Group, Attributes, Line, Segment, attributes_of, area_sum, line_sum, segment_sum}
-use Rattle.std.specs.Prelude.{slice_get}
-use Rattle.std.proofs.lemmas.List.{append-nil, take_more}
-use Rattle.std.proofs.lemmas.List.Sums.{length-filter, count_by-le-length}
-use Rattle.std.proofs.lemmas.Option.{slice_get_within}
-use Rattle.multi_meaning.specs.Words.{each_after}
-use Rattle.multi_meaning.proofs.WordLemmas.{cut_with_item}
-use Rattle.multi_meaning.proofs.GroupLemmas.{closed_count}
+use Rattle.multi_judge.proofs.Common.{append-nil, slice_get, ◌≡◌, ℕ, ◌+◌, ◌-◌, ◌<◌, Bool, true, false, length, take, List, [], ◌∷◌, ◌++◌, Option, Some, None, refl, sym, ap, ◌∙◌, suc, zero, arith, rules, ◌≤◌, ◌&&◌, ◌==◌, subst, slice_index_or, if◌then◌else◌, last_or, list_any, after_last, All, count_by, option_map_or, length-append, eq-eqb, eqb-true, largest, Spot, is_glyph, is_break, lines_of, area_of, segment, group_of, line_before, height_of, width_of, glyph_width, ended_lines, IsPlacing, each_after_length, each_after_push, last_or_push, push_ind, cut, cut_behind_is, after_last_is, ended_is, largest_push, open_glyphs, own_group, filter_yes, ended_count, ended_glyph, each_just, line_number, page_number, clashes, line_number_known, CountedLine, counted_line, Area, Group, Attributes, Line, Segment, attributes_of, area_sum, line_sum, segment_sum, take_more, length-filter, count_by-le-length, slice_get_within, each_after, cut_with_item, closed_count, line_entry, table_of, column_in}
+use Rattle.multi_judge.proofs.Sums.{part_none, part_some, present_push, in_order, group_of_own}
 use Rattle.multi_meaning.specs.declared.place.Place.{Place}
 use Rattle.multi_meaning.specs.Place.{place_of, start, spread}
-use Rattle.multi_judge.specs.Table.{line_entry, table_of, width_in, column_in}
-use Rattle.multi_judge.proofs.LineSumLemmas.{part_none, part_some, present_push, in_order}
-use Rattle.multi_judge.proofs.AreaSumLemmas.{group_of_own}
+use Rattle.multi_judge.specs.Table.{width_in}
 
 -- ONE MORE LINE
 

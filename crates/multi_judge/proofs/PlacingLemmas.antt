@@ -1,13 +1,7 @@
 -- What a placing item makes of the state, from what the sums of the present area answer.
-use Rattle.multi_judge.proofs.Common.{◌≡◌, ℕ, ◌+◌, ◌*◌, ◌≤◌, inl, inr, Bool, true, false, cond, not, List, [], ◌∷◌, ◌++◌, length, Option, Some, None, refl, sym, ap, ◌∙◌, arith, append-nil, rules, subst, All, after_last, list_any, option_map, unwrap_or, false≢true, none_more, NewLine, NewPage, Back, Rect, page_number, Off, too_big, SizedCell, CellData, SignData, cell_in, cell_numbered, Break, Glyph, Spot, area_of, in_group, is_break, is_glyph, spots, standing, Cover, Meaning, Shows, Does, clashes, conflicts, never_big, offence, offence_by, unsized_offence, present_area, IsPlacing, ended_lines, area_placing, in_group_other, own_group, ended_break, ended_glyph, offence-break, offence-character, offence-undefined, present_area-placing, no_conflict, present_area-nothing, present_area-cover, Tag, unsized_if, Area, Attributes, Character, State, IsStateOf, IsLimited, IsUnfilledOf, IsBelow, IsBreak, IsCharacter, area_sum, line_sum, Line, EndsLine, Pass}
-use Rattle.multi_meaning.proofs.WordLemmas.{cases_Option}
-use Rattle.multi_meaning.specs.Address.{Put}
-use Rattle.multi_meaning.specs.Meaning.{has_place, begins_area}
-use Rattle.multi_meaning.proofs.LaidItemLemmas.{laid_plain}
-use Rattle.multi_judge.proofs.AreaSumLemmas.{no_back, no_clash, present_behind}
-use Rattle.multi_judge.proofs.JudgedLemmas.{cell_found, state-same_page}
+use Rattle.multi_judge.proofs.Common.{◌≡◌, ℕ, ◌+◌, ◌*◌, ◌≤◌, inl, inr, Bool, true, false, cond, not, List, [], ◌∷◌, ◌++◌, length, Option, Some, None, refl, sym, ap, ◌∙◌, arith, append-nil, rules, subst, All, after_last, list_any, option_map, unwrap_or, false≢true, none_more, NewLine, NewPage, Back, Rect, page_number, Off, too_big, SizedCell, CellData, SignData, cell_in, cell_numbered, Break, Glyph, Spot, area_of, in_group, is_break, is_glyph, spots, standing, Cover, Meaning, Shows, Does, clashes, conflicts, never_big, offence, offence_by, unsized_offence, present_area, IsPlacing, ended_lines, area_placing, in_group_other, own_group, ended_break, ended_glyph, offence-break, offence-character, offence-undefined, present_area-placing, no_conflict, present_area-nothing, present_area-cover, Tag, unsized_if, Area, Attributes, Character, State, IsStateOf, IsLimited, IsUnfilledOf, IsBelow, IsBreak, IsCharacter, area_sum, line_sum, Line, EndsLine, Pass, cases_Option, Put, has_place, begins_area, laid_plain, IsItemPassed}
+use Rattle.multi_judge.proofs.Sums.{no_back, no_clash, present_behind, cell_found, state-same_page}
 use Rattle.multi_judge.specs.KnownItem.{ends_line}
-use Rattle.multi_judge.specs.Passed.{IsItemPassed}
 
 -- an item with a place: a character with its cell, or the end of a line with the gap that it gives
 pub data Placed : Type 0 where

@@ -1,24 +1,13 @@
 -- What is kept behind one more character, where lines are filled.
-use Rattle.multi_judge.proofs.Common.{◌≡◌, ℕ, ◌+◌, ◌*◌, ◌≤◌, Bool, true, false, ◌==◌, inl, inr, List, [], ◌∷◌, ◌++◌, length, Option, Some, None, refl, sym, ap, subst, ◌∙◌, arith, append-nil, rules, ◌^◌, ◌<◌, drop, map, slice_get, append_assoc, Result, Ok, Err, not, after_last, list_any, All, option_map, and_parts, cases_eq, eq-eqb, eqb-true, false≢true, cases_lt, ne_eqb, length-append, length-drop, All-push, All-nil, sum_by-append, page_number, LineFill, Words, Off, SizedCell, SignData, CellData, cell_in, cell_numbered, Glyph, Spot, Standing, group_of, in_group, is_break, spots, standing, filled, area_fits, line_fits, laid_item, laid_items, Meaning, Shows, meaning, clashes, conflicts, first_code, offence, unsized_offence, present_area, in_group_other, own_group, are_laid, standing_push, present_area-placing, each_after_length, none_more, Token, IsTokenOf, cycle, ended_times, pages_of, SyntaxError, some_after, Area, Attributes, Split, Pass, Character, Order, Limits, Line, IsFilledPut, IsFilledFor, IsFilledOf, IsFilledReady, EndsLine, IsSplitBelow, order_sum, split_sum, is_within, IsLimited, IsReady, IsStateOf, IsUnfilledOf, attributes_of, IsJudged, IsBelow, IsCharacter, area_sum, State, ReadSoFar, IsItemJudged, IsPassOf}
-use Rattle.std.proofs.lemmas.List.{drop_all, map-append}
-use Rattle.std.proofs.lemmas.Option.{slice_get-get_or}
+use Rattle.multi_judge.proofs.Common.{◌≡◌, ℕ, ◌+◌, ◌*◌, ◌≤◌, Bool, true, false, ◌==◌, inl, inr, List, [], ◌∷◌, ◌++◌, length, Option, Some, None, refl, sym, ap, subst, ◌∙◌, arith, append-nil, rules, ◌^◌, ◌<◌, drop, map, slice_get, append_assoc, Result, Ok, Err, not, after_last, list_any, All, and_parts, cases_eq, eq-eqb, eqb-true, false≢true, cases_lt, ne_eqb, length-append, length-drop, All-push, All-nil, sum_by-append, page_number, LineFill, Words, Off, SizedCell, SignData, CellData, cell_in, cell_numbered, Spot, Standing, group_of, in_group, is_break, spots, standing, filled, area_fits, line_fits, laid_item, laid_items, Meaning, Shows, meaning, clashes, conflicts, first_code, offence, unsized_offence, present_area, in_group_other, own_group, are_laid, standing_push, present_area-placing, each_after_length, none_more, Token, IsTokenOf, cycle, ended_times, pages_of, SyntaxError, some_after, Area, Attributes, Split, Pass, Character, Order, Limits, Line, IsFilledPut, IsFilledFor, IsFilledOf, IsFilledReady, EndsLine, IsSplitBelow, order_sum, split_sum, is_within, IsLimited, IsReady, IsStateOf, IsUnfilledOf, attributes_of, IsJudged, IsBelow, IsCharacter, area_sum, State, ReadSoFar, IsItemJudged, IsPassOf, drop_all, map-append, slice_get-get_or, spaces_is, Item, IsItem, spelling, spell, HasNoItem, IsReading, item_of, Accepted, IsCycle, IsVerdict, Refused, broken, of_first, verdict, item_refused, length-meanings, offences_push, one_verdict, IsPassReady, fill_of}
+use Rattle.multi_judge.proofs.Sums.{both_fit, group_behind, no_back, no_clash, present_push, shown_free, ready, split_more, judged-undefined}
 use Rattle.std.proofs.lemmas.List.Concat.{flat_map-append}
-use Rattle.std.specs.Prelude.{OnOk}
-use Rattle.multi_meaning.specs.Address.{put_at}
-use Rattle.multi_meaning.proofs.GroupLemmas.{spaces_is}
-use Rattle.multi_token.specs.Spelling.{Item, IsItem, spelling, spell, HasNoItem, IsReading}
-use Rattle.multi_token.specs.Tokens.{item_of}
 use Rattle.multi_token.proofs.ReadingLemmas.{none_found, spelling_some}
 use Rattle.multi_meaning.specs.Times.{page_times}
-use Rattle.multi_meaning.specs.Verdict.{Accepted, IsCycle, IsVerdict, Refused, broken, of_first, verdict, verdict_on}
-use Rattle.multi_meaning.proofs.VerdictLemmas.{item_refused, length-meanings, offences_push, one_verdict}
+use Rattle.multi_meaning.specs.Verdict.{verdict_on}
 use Rattle.multi_meaning.specs.Codes.{code_of}
-use Rattle.multi_judge.proofs.AreaSumLemmas.{both_fit, group_behind, no_back, no_clash}
 use Rattle.multi_judge.proofs.FilledStateLemmas.{area_with, doesn't_fit, goes_behind, offends_by, offends_without, present_is, shown, filled_state, pages_at, same_times}
 use Rattle.multi_judge.proofs.FilledJudgedLemmas.{Fills, attributes_here, filled_grown, filled_size, found_here, shown_character, filled_of, filled_undefined}
-use Rattle.multi_judge.proofs.LineSumLemmas.{present_push}
-use Rattle.multi_judge.proofs.JudgedLemmas.{shown_free, ready, split_more, judged-undefined}
-use Rattle.multi_judge.specs.PassState.{IsPassReady, fill_of}
 
 none_of_both : (a b : Bool) → first_code ((a, 11) ∷ (b, 5) ∷ []) ≡ None → (a ≡ false) × (b ≡ false)
 none_of_both true b e = cc
@@ -252,16 +241,6 @@ pub judged_unfilled : (sign : SignData) (items : List Meaning) (item : Meaning) 
 judged_unfilled sign items item (Ok done) pass off none limited (fine, st) =
     (subst (λ (setting : LineFill). offence setting sign items item ≡ None) (sym off) fine, record { off = off; fine = none_more (offence Off sign) items item none fine; state_is = st; limited = limited })
 judged_unfilled sign items item (Err error) pass off none limited offends = subst (λ (setting : LineFill). offence setting sign items item ≡ Some (code_of error)) (sym off) offends
-
--- and the state behind one that doesn't offend
-pub state_judged : (sign : SignData) (items : List Meaning) (item : Meaning) (result : Result (Unit {0}) SyntaxError) (state : State) → IsJudged sign items item result state → offence Off sign items item ≡ None → IsStateOf sign (items ++ item ∷ []) state
-state_judged sign items item (Ok done) state (fine, st) none = st
-state_judged sign items item (Err error) state offends none = let wrong : Some (code_of error) ≡ None = sym offends ∙ none in absurd (cc)
-
--- and what is known if it doesn't
-pub known_judged : (sign : SignData) (items : List Meaning) (item : Meaning) (result : Result (Unit {0}) SyntaxError) (state : State) (P : Type 0) → OnOk result P → IsJudged sign items item result state → offence Off sign items item ≡ None → P
-known_judged sign items item (Ok done) state P p judged none = p
-known_judged sign items item (Err error) state P p offends none = let wrong : Some (code_of error) ≡ None = sym offends ∙ none in absurd (cc)
 
 -- before the first item
 pub pass_start : (sign : SignData) (pass : Pass) (words : Bool) → sign.line_fill ≡ fill_of words → IsStateOf sign [] pass.state → IsLimited pass.state

@@ -1,13 +1,8 @@
 -- One list of lines, split into those of the top, the middle and the bottom group.
-use Rattle.multi_judge.proofs.Common.{◌≡◌, ℕ, ◌+◌, ◌-◌, ◌≤◌, length, take, drop, List, [], ◌∷◌, ◌++◌, sym, ap, ◌∙◌, subst, arith, ◌*◌, Bool, true, false, cond, ◌<◌, ◌&&◌, ◌||◌, ◌==◌, inl, inr, Some, None, refl, rules, slice_range, nat_lt, if◌then◌else◌, cases_eq, eq-eqb, le-ltb, ne_eqb, length-drop, All, AllPass, after_last, list_any, option_map_or, unwrap_or, line_number, page_number, SizedCell, SignData, cell_in, Spot, in_group, is_break, is_glyph, lines_of, spots, area_fits, fit, line_fits, average, height_of, Meaning, Shows, clashes, unsized_offence, IsPlacing, largest, placing_group, CountedLine, TableLines, split_lines, Area, Group, Character, Line, Segment, State, character_of, IsBehindCharacter, IsRun, kept_fits, kept_height, lengthened, lengthened_area, lengthened_line, line_in_force, IsStateOf, IsBelow, IsCharacter, area_sum, area_sum_in, group_sum, line_sum, segment_sum, width_before}
-use Rattle.std.proofs.Common.{⊎_elim}
-use Rattle.std.proofs.lemmas.List.{drop-append-le, length-take, length_push, take-append-le, take_all}
-use Rattle.multi_judge.specs.Table.{IsOrdered}
-use Rattle.multi_judge.specs.Sums.{height_before}
-use Rattle.multi_judge.proofs.AreaSumLemmas.{area_stays, area_with, group_of_own, none_of_later_group, own_line}
-use Rattle.multi_judge.proofs.LineSumLemmas.{height_ended, height_present, group_character, present_glyphs, kept_width_is, line_with, segment_own, whole_before}
+use Rattle.multi_judge.proofs.Common.{◌≡◌, ℕ, ◌+◌, ◌-◌, ◌≤◌, length, take, drop, List, [], ◌∷◌, ◌++◌, sym, ap, ◌∙◌, subst, arith, ◌*◌, Bool, true, false, cond, ◌<◌, ◌&&◌, ◌||◌, ◌==◌, inl, inr, Some, None, refl, rules, slice_range, nat_lt, if◌then◌else◌, cases_eq, eq-eqb, le-ltb, ne_eqb, length-drop, All, AllPass, after_last, list_any, option_map_or, unwrap_or, line_number, page_number, SizedCell, SignData, cell_in, Spot, in_group, is_break, is_glyph, lines_of, spots, area_fits, fit, line_fits, average, height_of, Meaning, Shows, clashes, unsized_offence, IsPlacing, largest, placing_group, CountedLine, TableLines, split_lines, Area, Group, Character, Line, Segment, State, character_of, IsBehindCharacter, IsRun, kept_fits, kept_height, lengthened, lengthened_area, lengthened_line, line_in_force, IsStateOf, IsBelow, IsCharacter, area_sum, area_sum_in, group_sum, line_sum, segment_sum, width_before, ⊎_elim, drop-append-le, length-take, length_push, take-append-le, take_all, IsOrdered, height_before}
+use Rattle.multi_judge.proofs.Sums.{area_with, group_of_own, none_of_later_group, own_line, height_ended, height_present, group_character, present_glyphs, kept_width_is, line_with, segment_own, whole_before, lined_below, part_below}
+use Rattle.multi_judge.proofs.AreaSumLemmas.{area_stays}
 use Rattle.multi_judge.proofs.PlacingLemmas.{character-accepted}
-use Rattle.multi_judge.proofs.JudgedLemmas.{lined_below, part_below}
 
 -- what holds of the page justifications top, middle and bottom
 pub each_group : (P : ℕ → Type 0) → P 2 → P 3 → P 4 → (just : ℕ) → 2 ≤ just → just ≤ 4 → P just

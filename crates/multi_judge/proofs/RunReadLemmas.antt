@@ -1,19 +1,13 @@
 -- One more octet of a run, in the string that is read.
-use Rattle.multi_judge.proofs.Common.{◌≡◌, ℕ, suc, ◌+◌, ◌^◌, ◌<◌, ◌≤◌, List, [], ◌∷◌, ◌++◌, length, map, drop, take, slice_get, Option, Some, None, refl, sym, ◌∙◌, arith, true, false, ◌&&◌, ◌||◌, ◌==◌, ap, ◌-◌, ◌*◌, Bool, cond, subst, rules, nat_le, nat_lt, All, after_last, AllPass, list_any, and_from, and_right, le-leb, le-ltb, eq-eqb, false≢true, option_map, unwrap_or, length-drop, All-head, All-tail, sum_by-append, line_number, page_number, Off, IsPlain, Token, IsTokenOf, SizedCell, SignData, cell_in, IsWithin, HasWidth, width_in, Spot, area_of, is_break, is_glyph, in_group, Meaning, Shows, meaning, conflicts, offence, clashes, some_after, none_mapped, filled, is_space, line_number_known, Area, Line, State, ReadSoFar, IsRun, is_within, kept_height, lengthened, line_in_force, lengthened_area, lengthened_line, IsStateOf, IsUnfilledOf, area_sum, line_sum, IsBelow, IsCharacter, IsLineBelow, area_sum_in, group_sum, AddsCharacter, character_of, order_sum, FillsArea, IsSplitBelow, split_sum, Attributes, Split, Pass, IsFilledRun, even_line, longer_line, with_run, with_run_behind, IsFilledFor}
-use Rattle.std.specs.List.{sum_by}
-use Rattle.std.proofs.lemmas.List.{length-take-le, take-append-drop}
+use Rattle.multi_judge.proofs.Common.{◌≡◌, ℕ, suc, ◌+◌, ◌^◌, ◌<◌, ◌≤◌, List, [], ◌∷◌, ◌++◌, length, map, drop, take, slice_get, Option, Some, None, refl, sym, ◌∙◌, arith, true, false, ◌&&◌, ◌||◌, ◌==◌, ap, ◌-◌, ◌*◌, Bool, cond, subst, rules, nat_le, nat_lt, All, after_last, AllPass, list_any, and_from, and_right, le-leb, le-ltb, eq-eqb, false≢true, option_map, unwrap_or, length-drop, All-head, All-tail, sum_by-append, line_number, page_number, Off, IsPlain, Token, IsTokenOf, SizedCell, SignData, cell_in, IsWithin, HasWidth, width_in, Spot, area_of, is_break, is_glyph, in_group, Meaning, Shows, meaning, conflicts, offence, clashes, some_after, none_mapped, filled, is_space, line_number_known, Area, Line, State, ReadSoFar, IsRun, is_within, kept_height, lengthened, line_in_force, lengthened_area, lengthened_line, IsStateOf, IsUnfilledOf, area_sum, line_sum, IsBelow, IsCharacter, IsLineBelow, area_sum_in, group_sum, AddsCharacter, character_of, order_sum, FillsArea, IsSplitBelow, split_sum, Attributes, Split, Pass, IsFilledRun, even_line, longer_line, with_run, with_run_behind, IsFilledFor, sum_by, length-take-le, take-append-drop, IsBehindOne, GoesOnBehind}
+use Rattle.multi_judge.proofs.Sums.{conflicts_kept, own_line, area_filled, group_of_own, some_mapped, part_below, no_character}
 use Rattle.multi_token.proofs.PlaceLemmas.{drop_read, read_drop, single_token}
-use Rattle.multi_judge.specs.Run.{IsBehindOne}
-use Rattle.multi_judge.proofs.AreaSumLemmas.{conflicts_kept, own_line, area_filled, group_of_own}
 use Rattle.multi_judge.proofs.LimitLemmas.{character_judged}
 use Rattle.multi_judge.proofs.ReadLemmas.{unfilled_more, filled_put, laid_count, read_more}
 use Rattle.multi_judge.proofs.RunLemmas.{area_beside, behind_stays, longer_below, run_stays, line_lengthened}
-use Rattle.multi_judge.proofs.JudgedLemmas.{some_mapped, part_below}
 use Rattle.multi_judge.proofs.FilledStateLemmas.{order_apart, order_stays}
-use Rattle.multi_judge.specs.FilledRun.{GoesOnBehind}
 use Rattle.multi_judge.proofs.FillGroupLemmas.{Joins, present_glyphs, present_line, stands_there, split_none, split_space, split_word}
 use Rattle.multi_judge.proofs.FilledJudgedLemmas.{filled_free}
-use Rattle.multi_judge.proofs.LineSumLemmas.{no_character}
 use Rattle.multi_token.specs.declared.token.Kind.TheVariants as kinds
 use Rattle.multi_judge.proofs.JudgedLemmas as bounds
 

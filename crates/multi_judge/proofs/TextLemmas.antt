@@ -1,6 +1,6 @@
 -- A word behind a character with the same attributes, where lines are filled: what is kept with it.
-use Rattle.multi_judge.proofs.Common.{◌≡◌, ℕ, ◌+◌, ◌-◌, ◌^◌, ◌<◌, ◌≤◌, false, cond, ◌==◌, List, [], ◌∷◌, length, take, drop, slice_get, Option, Some, None, refl, ap, subst, ◌∙◌, arith, rules, ◌*◌, true, sym, All, option_map, cases_eq, ne_eqb, All-cons, All-head, All-nil, All-tail, IsPlain, SignData, FontData, IsWithin, HasWidth, width_in, Counted, RisesBetween, charged, Attributes, Split, Pass, Line, IsFilledRun, even_line, longer_line, with_run, with_run_behind, with_word, with_space, IsFilledFor, IsFilledReady, ReadSoFar, IsAt, IsRun, line_in_force, IsInText}
-use Rattle.sign_font.specs.Text.{IsNoSpace, width_numbered}
+use Rattle.multi_judge.proofs.Common.{◌≡◌, ℕ, ◌+◌, ◌-◌, ◌^◌, ◌<◌, ◌≤◌, false, ◌==◌, List, [], ◌∷◌, length, take, drop, slice_get, Option, Some, None, refl, ap, subst, ◌∙◌, arith, rules, ◌*◌, true, sym, All, option_map, cases_eq, ne_eqb, All-cons, All-head, All-nil, All-tail, IsPlain, SignData, FontData, IsWithin, HasWidth, width_in, Counted, RisesBetween, charged, Attributes, Split, Pass, Line, IsFilledRun, even_line, with_run, with_run_behind, with_word, with_space, IsFilledFor, IsFilledReady, ReadSoFar, IsAt, IsRun, line_in_force, IsInText, AreWidthsOf, IsNoSpace, TakesSpace}
+use Rattle.multi_token.proofs.StepLemmas.{rises_then}
 use Rattle.multi_judge.proofs.RunReadLemmas.{one_goes_on, one_taken, run_some, with_one, front_taken}
 use Rattle.multi_judge.proofs.RunLemmas.{run_stays}
 use Rattle.multi_judge.specs.declared.run.Run.{Run}
@@ -82,56 +82,80 @@ module _ (sign : SignData) (octets : List ℕ) (at : ℕ) (kept : Pass) (r : Rea
       let many : 0 + len ≡ len = omega arith in
       subst (λ (x : ℕ × ℕ). ReadSoFar sign octets (at + len) (IsFilledFor sign (with_word gap x.0 x.1 kept)) × IsFilledRun (with_word gap x.0 x.1 kept)) (λ i. (wide i, many i)) (all.read, all.goes_on)
 
-module _ (sign : SignData) (cells : FontData) (octets : List ℕ) (at : ℕ) (run : Run) (pass : Pass) (source : Counted) (short : length octets < 2 ^ 63) (text : IsInText sign cells octets at run pass source)
-    (len pixels : ℕ) (within : at + len ≤ length octets) (plain : All IsPlain (take len (drop at octets))) (word : All IsNoSpace (take len (drop at octets)))
-    (has : HasWidth (width_in sign pass.state.attributes.font.number) run.gap (take len (drop at octets)) pixels) (narrow : pixels ≤ run.left)
-    (behind : Counted) (rises : RisesBetween source behind (2 * len + 1) (2 * len + 3)) where
+-- a text with the same run and pass
+text_same : (sign : SignData) (cells : FontData) (octets : List ℕ) (at : ℕ) (gap left gap' left' : ℕ) (pass pass' : Pass) (source : Counted) → gap' ≡ gap → left' ≡ left → pass' ≡ pass
+    → IsInText sign cells octets at (record { gap = gap; left = left }) pass source → IsInText sign cells octets at (record { gap = gap'; left = left' }) pass' source
+text_same sign cells octets at gap left gap' left' pass pass' source g l p text = rw (g, l, p) text
+
+-- a word was read behind a character: octets that stand for themselves, none of them a space, of so many pixels, which go into what is left
+pub record ReadsWord (sign : SignData) (cells : FontData) (octets : List ℕ) (at : ℕ) (run : Run) (pass : Pass) (source : Counted) (len pixels : ℕ) : Type 0 where
+  pub text : IsInText sign cells octets at run pass source
+  pub small : length octets < 2 ^ 32
+  pub within : at + len ≤ length octets
+  pub plain : All IsPlain (take len (drop at octets))
+  pub word : All IsNoSpace (take len (drop at octets))
+  pub has : HasWidth (width_in sign pass.state.attributes.font.number) run.gap (take len (drop at octets)) pixels
+  pub narrow : pixels ≤ run.left
+
+pub words : {sign : SignData} {cells : FontData} {octets whole : List ℕ} {at : ℕ} {run : Run} {pass : Pass} {source : Counted} (len pixels : ℕ) → IsInText sign cells octets at run pass source → octets ≡ whole → length whole < 2 ^ 32
+    → at + len ≤ length octets → All IsPlain (take len (drop at octets)) → All IsNoSpace (take len (drop at octets)) → pixels ≤ run.left
+    → ((s : SignData) (font : ℕ) → AreWidthsOf s font cells → HasWidth (width_in s font) run.gap (take len (drop at octets)) pixels) → ReadsWord sign cells octets at run pass source len pixels
+words {sign} {pass = pass} len pixels text same short within plain word narrow has =
+    record { text = text; small = omega (arith, ap length same, short); within = within; plain = plain; word = word; narrow = narrow; has = has sign pass.state.attributes.font.number text.widths }
+
+module _ {sign : SignData} {cells : FontData} {octets : List ℕ} {at : ℕ} {run : Run} {pass : Pass} {source : Counted} {len pixels : ℕ} (w : ReadsWord sign cells octets at run pass source len pixels) where
   abbrev kept : Pass
   kept = with_word run.gap pixels len pass
 
-  room : (line_in_force pass.state).part.width + pixels ≤ pass.state.limits.width
-  room = omega (arith, narrow, text.left)
-
   taken : ReadSoFar sign octets (at + len) (IsFilledFor sign kept) × IsFilledRun kept
-  taken = word_taken sign octets at pass text.behind.so_far short text.fits run.gap text.runs len pixels within plain word has room
+  taken = word_taken sign octets at pass w.text.behind.so_far (omega (arith, w.small)) w.text.fits run.gap w.text.runs len pixels w.within w.plain w.word w.has (omega (arith, w.narrow, w.text.left))
 
   word_room : IsRun kept.state run.gap
-  word_room = run_stays pass.state run.gap ((line_in_force pass.state).part.width + pixels) ((line_in_force pass.state).part.count + len) text.runs
+  word_room = run_stays pass.state run.gap ((line_in_force pass.state).part.width + pixels) ((line_in_force pass.state).part.count + len) w.text.runs
 
-  pub word_ready : length octets < 2 ^ 32 → IsFilledReady kept
-  word_ready small = filled_ready_here sign octets (at + len) kept taken.0 small
+  pub word_ready : IsFilledReady kept
+  word_ready = filled_ready_here sign octets (at + len) kept taken.0 w.small
 
-  steps : behind.steps ≡ (charged source rises.0).steps
-  steps = ap (λ (s : Counted). s.steps) rises.3
+  -- the steps of the word, and one more for the octet behind it
+  module _ (behind : Counted) (rises : RisesBetween source behind (2 * len + 1) (2 * len + 3)) where
+    steps : behind.steps ≡ (charged source rises.0).steps
+    steps = ap (λ (s : Counted). s.steps) rises.3
 
-  -- the word, where it ends
-  pub word_ended : length octets < 2 ^ 32 → (next : Option ℕ) → next ≡ slice_get octets (at + len) → IsAt sign octets (at + len) next (IsFilledFor sign kept) behind
-  word_ended small next octet = search (rules, steps, taken)
+    -- the word, where it ends
+    pub word_ended : (next : Option ℕ) → next ≡ slice_get octets (at + len) → (pass' : Pass) → pass' ≡ kept → IsAt sign octets (at + len) next (IsFilledFor sign pass') behind
+    word_ended next octet pass' is = rw is (search (rules, steps, taken))
 
-  -- the word and the space behind it
-  pub word_spaced : length octets < 2 ^ 32 → slice_get octets (at + len) ≡ Some 32 → (width : ℕ) → Some width ≡ width_numbered cells 32 → IsWithin 1 64 width → run.gap + width ≤ run.left - pixels
-      → IsInText sign cells octets (at + len + 1) (record { gap = run.gap; left = run.left - pixels - (run.gap + width) }) (with_space (run.gap + width) kept) behind
-  word_spaced small here width is narrow_cell fits =
-      let line = line_in_force kept.state in
-      let fewest = rises.1 in
-      let few = rises.2 in
-      let least = text.behind.least in
-      let most = text.behind.most in
-      let enough : line.part.width + (run.gap + width) ≤ pass.state.limits.width = omega (arith, fits, narrow, text.left) in
-      record {
-        behind = record {
-          so_far = one_taken sign octets (at + len) kept taken.0 32 short here (λ e. omega (arith, e), λ e. omega (arith, e)) taken.1 run.gap word_room width narrow_cell.1 (is ∙ sym (text.widths 32)) enough;
-          same = ap (λ (s : Counted). s.octets) rises.3 ∙ text.behind.same;
-          least = omega (arith, steps, fewest, least, within, small);
-          most = omega (arith, steps, few, most, within, small);
-        };
-        fits = one_goes_on kept taken.1 run.gap word_room width enough true;
-        runs = run_stays kept.state run.gap (line.part.width + (run.gap + width)) (line.part.count + 1) word_room;
-        left = omega (arith, fits, narrow, text.left);
-        widths = text.widths;
-      }
+    -- the word and the space behind it
+    pub word_spaced : slice_get octets (at + len) ≡ Some 32 → (left : ℕ) (word : Pass) → left ≡ run.left - pixels → word ≡ kept → (width : ℕ) (run' : Run) (pass' : Pass)
+        → TakesSpace cells (record { gap = run.gap; left = left }) word width run' pass' → IsInText sign cells octets (at + len + 1) run' pass' behind
+    word_spaced here left word less is width run' pass' space =
+        let line = line_in_force kept.state in
+        let text = w.text in
+        let fewest = rises.1 in
+        let few = rises.2 in
+        let least = text.behind.least in
+        let most = text.behind.most in
+        let enough : line.part.width + (run.gap + width) ≤ pass.state.limits.width = omega (arith, less, space.fits, w.narrow, text.left) in
+        let cell = space.cell ∙ sym (text.widths 32) in
+        let there : IsInText sign cells octets (at + len + 1) (record { gap = run.gap; left = left - (run.gap + width) }) (with_space (run.gap + width) kept) behind = record {
+          behind = record {
+            so_far = one_taken sign octets (at + len) kept taken.0 32 (omega (arith, w.small)) here (λ e. omega (arith, e), λ e. omega (arith, e)) taken.1 run.gap word_room width space.within.1 cell enough;
+            same = ap (λ (s : Counted). s.octets) rises.3 ∙ text.behind.same;
+            least = omega (arith, steps, fewest, least, w.within, w.small);
+            most = omega (arith, steps, few, most, w.within, w.small);
+          };
+          fits = one_goes_on kept taken.1 run.gap word_room width enough true;
+          runs = run_stays kept.state run.gap (line.part.width + (run.gap + width)) (line.part.count + 1) word_room;
+          left = omega (arith, less, space.fits, w.narrow, text.left);
+          widths = text.widths;
+        } in
+        text_same sign cells octets (at + len + 1) run.gap (left - (run.gap + width)) run'.gap run'.left _ pass' behind space.gap space.left (space.kept ∙ ap (with_space (run.gap + width)) is) there
 
--- a text with the same run and pass
-pub text_same : (sign : SignData) (cells : FontData) (octets : List ℕ) (at : ℕ) (gap left gap' left' : ℕ) (pass pass' : Pass) (source : Counted) → gap' ≡ gap → left' ≡ left → pass' ≡ pass
-    → IsInText sign cells octets at (record { gap = gap; left = left }) pass source → IsInText sign cells octets at (record { gap = gap'; left = left' }) pass' source
-text_same sign cells octets at gap left gap' left' pass pass' source g l p text = rw (g, l, p) text
+-- the steps of a word, and one more where the cell of a space was looked for
+pub with_look : (old read looked : Counted) (len : ℕ) → RisesBetween old read (2 * len + 1) (2 * len + 2) → looked ≡ charged read 1 → RisesBetween old looked (2 * len + 1) (2 * len + 3)
+with_look old read looked len rises step =
+    let all = rises_then old read looked (2 * len + 1) (2 * len + 2) 0 1 rises (1, omega arith, omega arith, step) in
+    (all.0, omega (arith, all.1), omega (arith, all.2), all.3)
+
+pub without_look : (old read same : Counted) (len : ℕ) → RisesBetween old read (2 * len + 1) (2 * len + 2) → same ≡ read → RisesBetween old same (2 * len + 1) (2 * len + 3)
+without_look old read same len rises is = (rises.0, rises.1, omega (arith, rises.2), is ∙ rises.3)

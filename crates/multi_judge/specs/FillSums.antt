@@ -1,11 +1,11 @@
 -- What is kept of an open line where lines are filled: the sums around its last space.
 use Rattle.std.specs.Prelude.{◌≡◌, ℕ, ◌≤◌, Bool, true, false, nat_lt, List, [], ◌∷◌, ◌++◌, Option, None, Some}
-use Rattle.std.specs.List.{All, AllPass, after_last, list_any}
+use Rattle.std.specs.List.{All, after_last, list_any}
 use Rattle.std.specs.Option.{IfSome, option_map}
 use Rattle.multi_tag.specs.Just.{line_number}
 use Rattle.sign_font.specs.Sign.{info_of}
-use Rattle.multi_meaning.specs.Address.{Spot, is_break, is_glyph}
-use Rattle.multi_meaning.specs.Filling.{CutAt, cut_at_last, dropped, filled, is_space}
+use Rattle.multi_meaning.specs.Address.{Spot, is_break}
+use Rattle.multi_meaning.specs.Filling.{CutAt, cut_at_last, filled, is_space}
 use Rattle.multi_meaning.specs.Fit.{line_fits}
 use Rattle.multi_meaning.specs.Offence.{clashes}
 use Rattle.multi_meaning.specs.Words.{largest}
@@ -71,13 +71,3 @@ FillsArea just width area split character space area' split' ended =
     → (area.present ≡ just → split ≡ split_sum (after_last is_break (filled (Some width) group)))
     → (area' ≡ area_sum new) × (split' ≡ split_sum (after_last is_break (filled (Some width) (group ++ s ∷ []))))
     × EndsLine (filled (Some width) group) (filled (Some width) (group ++ s ∷ [])) ended × FitsBefore width area'.group.line
-
--- a group is broken at the last space of its present line, where these are the sums of the group and of that line's parts around the
--- space: it is then the group with that space dropped (own)
-abbrev pub BreaksGroup : Group → Split → Group → Type 0
-BreaksGroup old split new =
-    (front before behind : List Spot) (space : Spot) → All IsPlacing (front ++ before) → after_last is_break front ≡ []
-    → AllPass is_glyph before → AllPass is_glyph behind → is_glyph space ≡ true
-    → old ≡ group_sum (front ++ (before ++ space ∷ behind))
-    → split.before ≡ line_sum before → split.font ≡ info_of space.at.font → split.behind ≡ line_sum behind
-    → new ≡ group_sum (((front ++ before) ++ dropped space ∷ []) ++ behind)

@@ -7,6 +7,7 @@ pub mod KnownItem
 pub mod PassState
 pub mod Passed
 pub mod Placing
+pub mod Prelude
 pub mod Run
 pub mod State
 pub mod Sums

@@ -1,16 +1,7 @@
 //! The running sums of an area's groups.
 
 ghost use Rattle.std.specs.Prelude.{◌≡◌, ◌≢◌, ℕ, ◌+◌, ◌^◌, ◌<◌, ◌≤◌, ◌&&◌, true, false, List, [], ◌∷◌, ◌++◌};
-ghost use Rattle.std.specs.List.{All};
-ghost use Rattle.std.specs.Option.{option_map_or, unwrap_or};
-ghost use Rattle.multi_tag.specs.Just.{page_number};
-ghost use Rattle.multi_meaning.specs.Address.{Spot, in_group, lines_of};
-ghost use Rattle.multi_meaning.specs.Line.{average, height_of};
-ghost use Rattle.multi_meaning.specs.kept.Present.{IsPlacing};
-ghost use Rattle.multi_judge.specs.Adding.{ReachesGroup};
-ghost use Rattle.multi_judge.specs.Run.{kept_height};
-ghost use Rattle.multi_judge.specs.State.{group_room};
-ghost use Rattle.multi_judge.specs.Sums.{IsBare, group_sum, area_sum, IsBreak, IsGroupBelow, IsBelow};
+ghost use Rattle.multi_judge.specs.Prelude.{All, option_map_or, unwrap_or, page_number, Spot, in_group, lines_of, average, height_of, IsPlacing, ReachesGroup, kept_height, IsBare, group_sum, area_sum, IsBreak, IsGroupBelow, IsBelow};
 
 use crate::line::{Line, gap_or_average, room_for};
 use multi_tag::PageJust;
@@ -26,7 +17,7 @@ pub(crate) struct Ended {
 }
 
 /// The placing items of an area with one page justification.
-#[derive(Clone, Copy)]
+#[derive(Clone, Copy, Default)]
 pub struct Group {
     /// How many lines an `nl` ended.
     pub(crate) ended: u64,
@@ -40,7 +31,7 @@ pub struct Group {
 
 /// The placing items of an area. Page justifications don't go back in an area, so only one group grows, and of those before it
 /// only the heights are kept.
-#[derive(Clone, Copy)]
+#[derive(Clone, Copy, Default)]
 pub struct Area {
     /// The page justification of the present group, the largest so far; 0 where there is no item.
     pub present: u8,
@@ -52,19 +43,6 @@ pub struct Area {
 }
 
 impl Group {
-    /// A group of no item.
-    pub(crate) fn new() -> Group
-        ensures sum { result ≡ group_sum [] }
-        ensures below { IsGroupBelow 0 result }
-    {
-        Group {
-            ended: 0,
-            closed: 0,
-            last: None,
-            line: Line::new(),
-        }
-    }
-
     /// Adds an `nl` of this group.
     #[inline(always)]
     pub(crate) fn add_break(&mut self, gap: Option<u8>, font: &FontInfo)
@@ -75,12 +53,15 @@ impl Group {
         ensures none { self.new.line.any ≡ false }
         ensures bare { IsBare self.new.line }
     {
-        let height = self.line.ended_height(font);
-        let spacing = self.line.ended_spacing(font);
+        let (height, spacing) = if self.line.any {
+            (self.line.height, self.line.spacing)
+        } else {
+            (font.height, font.line_spacing)
+        };
         self.ended += 1;
         self.closed += u64::from(self.gap(spacing)) + u64::from(height);
         self.last = Some(Ended { gap, spacing });
-        self.line = Line::new();
+        self.line = Line::default();
     }
 
     /// The pixels between the last ended line and the present one with this spacing, 0 where none is ended.
@@ -111,19 +92,6 @@ impl Group {
 }
 
 impl Area {
-    /// An area of no item.
-    pub(crate) fn new() -> Area
-        ensures sum { result ≡ area_sum [] }
-        ensures below { IsBelow 0 result }
-    {
-        Area {
-            present: 0,
-            top: 0,
-            middle: 0,
-            group: Group::new(),
-        }
-    }
-
     /// Goes on to the group with a page justification, unless it is before that of the present one, and works out the most that the group
     /// may have then within a height in pixels. The answer is whether it isn't before.
     #[inline(always)]
@@ -154,14 +122,14 @@ impl Area {
             return false;
         }
         let (before, ended) = (self.present, self.group.height());
-        self.group = Group::new();
+        self.group = Group::default();
         self.present = page_just;
         match before {
             2 => self.top = ended,
             3 => self.middle = ended,
             _ => {}
         }
-        *most = self.room(height);
+        *most = room_for(self.present, self.top, self.middle, height);
         true
     }
 
@@ -174,15 +142,7 @@ impl Area {
         if page_just.number() == self.present {
             self.group
         } else {
-            Group::new()
+            Group::default()
         }
-    }
-
-    /// The most pixels that the present group may have within a height, into which those before it fit.
-    pub(crate) fn room(&self, height: u16) -> u64
-        requires low { self.now.top ≤ 2 ^ 62 + 2048 }
-        ensures { result ≡ group_room self.now height }
-    {
-        room_for(self.present, self.top, self.middle, height)
     }
 }

@@ -1,10 +1,7 @@
 //! The attributes in force.
 
 ghost use Rattle.std.specs.Prelude.{◌≡◌};
-ghost use Rattle.std.specs.Option.{unwrap_or};
-ghost use Rattle.multi_meaning.specs.Address.{Standing};
-ghost use Rattle.multi_meaning.specs.Attributes.{whole_sign};
-ghost use Rattle.multi_meaning.specs.Meaning.{Does};
+ghost use Rattle.multi_judge.specs.Prelude.{unwrap_or, Standing, whole_sign, Does, standing_behind, character_of, IsSimple, attributes_of};
 
 use crate::line::Character;
 use crate::terms::Terms;
@@ -43,10 +40,6 @@ pub(crate) fn whole_sign(sign: &Terms<'_>) -> Rectangle
 }
 
 impl Attributes {
-    ghost use Rattle.multi_meaning.specs.kept.Present.{standing_behind};
-    ghost use Rattle.multi_judge.specs.Adding.{character_of};
-    ghost use Rattle.multi_judge.specs.State.{IsSimple, attributes_of};
-
     /// A character of this width in pixels, as its line sees it.
     pub(crate) fn character(&self, width: u8) -> Character
         ensures { result ≡ character_of self.now width }

@@ -1,18 +1,10 @@
 //! Lines that are filled by words: the open line is broken at its last space, which is dropped.
 
 ghost use Rattle.std.specs.Prelude.{◌≡◌, ℕ, ◌+◌, ◌^◌, ◌≤◌, false, None, List, [], ◌∷◌, ◌++◌, IfSome};
-ghost use Rattle.std.specs.List.{AllPass, list_any};
-ghost use Rattle.multi_tag.specs.Just.{page_number};
-ghost use Rattle.multi_meaning.specs.Address.{Spot, is_glyph};
-ghost use Rattle.multi_meaning.specs.Filling.{is_space};
-ghost use Rattle.multi_meaning.specs.Offence.{clashes};
-ghost use Rattle.multi_judge.specs.Adding.{character_of};
-ghost use Rattle.multi_judge.specs.FillSums.{BreaksGroup, FillsArea, FillsGroup, IsSplitBelow, split_sum};
-ghost use Rattle.multi_judge.specs.State.{IsLimited, IsMost};
-ghost use Rattle.multi_judge.specs.Sums.{IsBare, IsBelow, IsCharacter, IsGroupBelow, IsLineBelow, line_sum};
+ghost use Rattle.multi_judge.specs.Prelude.{AllPass, list_any, page_number, Spot, is_glyph, is_space, clashes, character_of, FillsArea, FillsGroup, IsSplitBelow, split_sum, IsLimited, IsMost, IsBare, IsBelow, IsCharacter, IsGroupBelow, IsLineBelow, line_sum};
 
 use crate::area::Group;
-use crate::line::{Character, Line};
+use crate::line::{Character, Line, room_for};
 use crate::state::State;
 use multi_meaning::Rectangle;
 use sign_font::FontInfo;
@@ -29,20 +21,6 @@ pub(crate) struct Split {
 }
 
 impl Group {
-    /// Ends the present line at its last space, which is dropped: what stands behind the space begins the next line.
-    pub(crate) fn break_at(&mut self, split: &Split)
-        requires below { IsGroupBelow (2 ^ 62) self.old }
-        requires before { IsLineBelow (2 ^ 62) split.now.before }
-        ensures sum { BreaksGroup self.old split.now self.new }
-        ensures grows { (k : ℕ) → IsGroupBelow k self.old → IsLineBelow k split.now.before → IsLineBelow k split.now.behind
-            → IsGroupBelow (k + 1024) self.new }
-        ensures line { self.new.line ≡ split.now.behind }
-    {
-        self.line = split.before;
-        self.add_break(None, &split.font);
-        self.line = split.behind;
-    }
-
     /// Adds a character, where lines are filled to a width. Where it doesn't fit the present line, the line is ended: before
     /// the character, a space that is dropped, or else at its last space. Without one it stays, and doesn't fit. The parts are
     /// those of the present line around its last space, and then those of the new present line, and so is the most that its present
@@ -81,10 +59,11 @@ impl Group {
         }
         match *split {
             Some(parts) => {
-                self.line = before;
-                self.break_at(&parts);
+                self.line = parts.before;
+                self.add_break(None, &parts.font);
+                self.line = parts.behind;
                 self.line.add(character);
-                *most = self.line.room(width);
+                *most = room_for(self.line.present, self.line.left, self.line.centre, width);
                 forget(split);
                 Some(parts.before)
             }
@@ -146,7 +125,7 @@ fn grow(split: &mut Option<Split>, line: &Line, character: &Character, space: bo
         *split = Some(Split {
             before: *line,
             font: character.font,
-            behind: Line::new(),
+            behind: Line::default(),
         });
         return;
     }

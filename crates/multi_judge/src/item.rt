@@ -1,9 +1,7 @@
 //! The items of a string, as they are read.
 
 ghost use Rattle.std.specs.Prelude.{◌≡◌, Err, true};
-ghost use Rattle.multi_meaning.specs.Codes.{code_of};
-ghost use Rattle.multi_meaning.specs.Meaning.{begins_area, Faulty, has_place, is_new_page, meaning_of_tag};
-ghost use Rattle.multi_judge.specs.KnownItem.{IsOctet, is_setting, meant_by};
+ghost use Rattle.multi_judge.specs.Prelude.{code_of, begins_area, Faulty, has_place, is_new_page, meaning_of_tag, IsOctet, is_setting, meant_by};
 
 use multi_meaning::SyntaxError;
 use multi_tag::{Tag, TagFault};

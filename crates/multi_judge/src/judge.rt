@@ -1,13 +1,7 @@
 //! The verdict on a string, in one reading from the left with running sums.
 
-ghost use Rattle.std.specs.Prelude.{◌≡◌, ◌+◌, ◌-◌, ◌≤◌, ◌==◌, if◌then◌else◌, length, List, IfSome, IfNone, OnOk, Some, true, [], ◌∷◌, ◌++◌, ◌^◌};
-ghost use Rattle.std.specs.Option.{option_map_or};
-ghost use Rattle.multi_token.specs.Counted.{RisesBetween};
-ghost use Rattle.sign_font.specs.Sign.{SignData};
-ghost use Rattle.sign_font.specs.Text.{width_in};
-ghost use Rattle.multi_meaning.specs.Meaning.{Does, Meaning, Shows};
-ghost use Rattle.multi_judge.specs.Run.{IsBehindCharacter, is_within};
-ghost use Rattle.multi_judge.specs.State.{IsJudged, JudgesTag, IsLimited, IsReady, IsUnfilledOf, Judges};
+ghost use Rattle.std.specs.Prelude.{◌≡◌, ◌+◌, ◌-◌, ◌≤◌, ◌==◌, if◌then◌else◌, length, IfSome, IfNone, Some, [], ◌∷◌, ◌++◌, ◌^◌};
+ghost use Rattle.multi_judge.specs.Prelude.{RisesBetween, Does, JudgesTag, IsLimited, IsReady, Judges};
 
 use crate::area::Area;
 use crate::attributes::whole_sign;
@@ -32,51 +26,22 @@ pub fn judge_tag(
 {
     match tag {
         Tag::NewPage => judge_page(sign, state),
-        Tag::NewLine(gap) => judge_break(state, gap),
+        Tag::NewLine(gap) => {
+            if !state.put_break(gap) {
+                return Err(SyntaxError::TagConflict);
+            }
+            if state.area.group.closed <= state.limits.height {
+                Ok(())
+            } else {
+                Err(SyntaxError::TextTooBig)
+            }
+        }
         Tag::Font(pick) => judge_font(sign, state, source, pick),
         Tag::Rect { x, y, w, h } => judge_rectangle(sign, state, x, y, w, h),
         _ => {
             state.attributes.set(sign, tag);
             Ok(())
         }
-    }
-}
-
-/// Judges a character whose cell has this width in pixels.
-#[inline(always)]
-pub(crate) fn judge_cell(state: &mut State, number: u16, width: u8) -> Result<(), SyntaxError>
-    requires { IsReady state.old }
-    ensures judged { (sign : SignData) (items : List Meaning) → IsUnfilledOf sign state.old items
-        → width_in sign state.old.attributes.font.number number ≡ Some width → IsJudged sign items (Shows number) result state.new }
-    ensures limited { IsLimited state.old → IsLimited state.new }
-    ensures behind { OnOk result (IsBehindCharacter state.new) }
-    ensures within { OnOk result (is_within state.new ≡ true) }
-    ensures same { OnOk result (state.new.attributes ≡ state.old.attributes) }
-{
-    if !state.put_character(width) {
-        return Err(SyntaxError::TagConflict);
-    }
-    if state.fits() {
-        Ok(())
-    } else {
-        Err(SyntaxError::TextTooBig)
-    }
-}
-
-/// Judges the end of a line.
-#[inline(always)]
-fn judge_break(state: &mut State, gap: Option<u8>) -> Result<(), SyntaxError>
-    requires { IsReady state.old }
-    ensures judged { (sign : SignData) → JudgesTag sign state.old (Does (Tag.NewLine gap)) result state.new }
-    ensures limited { IsLimited state.old → IsLimited state.new }
-{
-    if !state.put_break(gap) {
-        return Err(SyntaxError::TagConflict);
-    }
-    if state.area.group.closed <= state.limits.height {
-        Ok(())
-    } else {
-        Err(SyntaxError::TextTooBig)
     }
 }
 
@@ -92,7 +57,7 @@ fn judge_page(sign: &Terms<'_>, state: &mut State) -> Result<(), SyntaxError>
     state.pages += 1;
     state.cycle += u32::from(state.attributes.on) + u32::from(state.attributes.off);
     state.attributes.rectangle = whole_sign(sign);
-    state.area = Area::new();
+    state.area = Area::default();
     Ok(())
 }
 
@@ -115,22 +80,11 @@ fn judge_font(
     let Some(font) = sign.bare.font(source, pick.number) else {
         return Err(SyntaxError::FontNotDefined);
     };
-    if agrees(pick.version, font.version) {
-        state.attributes.font = font;
-        Ok(())
-    } else {
-        Err(SyntaxError::FontVersionId)
+    if pick.version.unwrap_or(font.version) != font.version {
+        return Err(SyntaxError::FontVersionId);
     }
-}
-
-/// Whether a font has the version that is asked for, if one is.
-fn agrees(wanted: Option<u16>, version: u16) -> bool
-    ensures { result ≡ option_map_or (λ v. v == version) wanted true }
-{
-    match wanted {
-        Some(wanted) => wanted == version,
-        None => true,
-    }
+    state.attributes.font = font;
+    Ok(())
 }
 
 /// Judges a rectangle, whose upper left pixel is counted from 1.
@@ -158,7 +112,7 @@ fn judge_rectangle(
         width,
         height,
     };
-    state.area = Area::new();
+    state.area = Area::default();
     Ok(())
 }
 

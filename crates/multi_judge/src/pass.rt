@@ -1,33 +1,16 @@
 //! One pass over a string from the left: what is kept of its items, and how each of them is judged.
 
-ghost use Rattle.std.specs.Prelude.{◌≡◌, ◌+◌, ◌^◌, true, false, List, [], ◌∷◌, ◌++◌, IfSome, OnOk};
-ghost use Rattle.std.specs.List.{list_any};
-ghost use Rattle.multi_token.specs.Counted.{RisesBetween, charged};
-ghost use Rattle.sign_font.specs.declared.parts.LineFill.TheVariants.{Words};
-ghost use Rattle.sign_font.specs.Sign.{SignData};
-ghost use Rattle.sign_font.specs.Text.{AreWidthsOf};
-ghost use Rattle.multi_meaning.specs.Address.{Spot};
-ghost use Rattle.multi_meaning.specs.LaidItems.{laid_items};
-ghost use Rattle.multi_meaning.specs.Meaning.{Does, Meaning, Shows};
-ghost use Rattle.multi_meaning.specs.Offence.{clashes};
-ghost use Rattle.multi_meaning.specs.kept.Present.{present_area};
-ghost use Rattle.multi_judge.specs.Passed.{PassesCharacter, PutsFilled};
-ghost use Rattle.multi_judge.specs.FilledState.{IsFilledOf, IsFilledReady, begins_line};
-ghost use Rattle.multi_judge.specs.FillSums.{order_sum};
-ghost use Rattle.multi_judge.specs.KnownItem.{meant_by};
-ghost use Rattle.multi_judge.specs.Run.{is_within};
-ghost use Rattle.multi_judge.specs.PassState.{IsPassBehind, IsPassReady, JudgesCell, JudgesItem};
-ghost use Rattle.multi_judge.specs.State.{IsStateOf};
-ghost use Rattle.multi_judge.specs.Sums.{IsBelow, IsLineBelow};
+ghost use Rattle.std.specs.Prelude.{◌≡◌, ◌+◌, ◌^◌, true, List, [], ◌∷◌, ◌++◌, IfSome, OnOk};
+ghost use Rattle.multi_judge.specs.Prelude.{RisesBetween, charged, Words, SignData, AreWidthsOf, laid_items, Does, Meaning, Shows, present_area, PassesCharacter, PutsFilled, IsFilledOf, IsFilledReady, meant_by, is_within, IsPassBehind, IsPassReady, JudgesCell, JudgesItem, IsStateOf, IsBelow, IsLineBelow};
 
 use crate::fill::Split;
 use crate::item::KnownItem;
-use crate::judge::{judge_cell, judge_tag};
+use crate::judge::judge_tag;
 use crate::line::Line;
 use crate::state::State;
 use crate::terms::Terms;
 use multi_meaning::SyntaxError;
-use multi_tag::{LineJust, Tag};
+use multi_tag::Tag;
 use multi_token::Source;
 use sign_font::FontCells;
 
@@ -45,45 +28,12 @@ pub struct Pass {
 }
 
 /// What the order of line justifications is judged by.
-#[derive(Clone, Copy)]
+#[derive(Clone, Copy, Default)]
 pub(crate) struct Order {
     /// The largest line justification of the characters; 0 where there is none.
     pub(crate) largest: u8,
     /// Whether a character isn't full.
     pub(crate) has_parts: bool,
-}
-
-impl Order {
-    /// That of no character.
-    fn new() -> Order
-        ensures { result ≡ order_sum [] }
-    {
-        Order {
-            largest: 0,
-            has_parts: false,
-        }
-    }
-
-    /// Whether a character with this line justification has a segment before that of an earlier one, or one of them is full and
-    /// the other isn't.
-    fn clashes(&self, just: LineJust) -> bool
-        ensures { (line : List Spot) (s : Spot) → self.now ≡ order_sum line → s.at.line_just ≡ just → result ≡ list_any (clashes s) line }
-    {
-        let just = just.number();
-        (just < self.largest) | ((just == 5) & self.has_parts)
-    }
-
-    /// That with one more character, which doesn't clash with those before it. These are none where its group doesn't go on.
-    fn with(&self, goes_on: bool, just: LineJust) -> Order
-        ensures { (line : List Spot) (s : Spot) → s.at.line_just ≡ just → list_any (clashes s) line ≡ false
-            → (goes_on ≡ true → self.now ≡ order_sum line) → (goes_on ≡ false → line ≡ []) → result ≡ order_sum (line ++ s ∷ []) }
-    {
-        let just = just.number();
-        Order {
-            largest: just,
-            has_parts: (just < 5) | (goes_on & self.has_parts),
-        }
-    }
 }
 
 impl Pass {
@@ -96,7 +46,7 @@ impl Pass {
         Pass {
             state,
             split: None,
-            order: Order::new(),
+            order: Order::default(),
         }
     }
 
@@ -113,27 +63,14 @@ impl Pass {
         ensures steps { RisesBetween source.old source.new 0 8 }
     {
         match item {
-            KnownItem::Char(number) => self.judge_character::<WORDS>(sign, source, number),
+            KnownItem::Char(number) => {
+                let font = self.state.attributes.font.number;
+                match sign.bare.cell_width(source, font, number) {
+                    Some(width) => self.judge_cell::<WORDS>(number, width),
+                    None => Err(SyntaxError::CharacterNotDefined),
+                }
+            }
             KnownItem::Tag(tag) => self.judge_tag::<WORDS>(sign, source, tag),
-        }
-    }
-
-    /// Judges a character: whether its font has a cell for it, and whether it may stand on its line and fits.
-    #[inline(always)]
-    fn judge_character<const WORDS: bool>(
-        &mut self,
-        sign: &Terms<'_>,
-        source: &mut Source<'_>,
-        number: u16,
-    ) -> Result<(), SyntaxError>
-        requires ready { IsPassReady WORDS self.old }
-        ensures judged { JudgesItem WORDS sign.now self.old (Shows number) result self.new }
-        ensures steps { RisesBetween source.old source.new 0 8 }
-    {
-        let font = self.state.attributes.font.number;
-        match sign.bare.cell_width(source, font, number) {
-            Some(width) => self.judge_cell::<WORDS>(number, width),
-            None => Err(SyntaxError::CharacterNotDefined),
         }
     }
 
@@ -167,9 +104,15 @@ impl Pass {
         ensures same { OnOk result (self.new.state.attributes ≡ self.old.state.attributes) }
     {
         if WORDS {
-            self.fill_cell(number, width)
+            return self.fill_cell(number, width);
+        }
+        if !self.state.put_character(width) {
+            return Err(SyntaxError::TagConflict);
+        }
+        if self.state.fits() {
+            Ok(())
         } else {
-            judge_cell(&mut self.state, number, width)
+            Err(SyntaxError::TextTooBig)
         }
     }
 
@@ -186,9 +129,9 @@ impl Pass {
         ensures steps { RisesBetween source.old source.new 0 1 }
     {
         let judged = judge_tag(sign, &mut self.state, source, tag);
-        if WORDS && begins_line(tag) {
+        if WORDS && matches!(tag, Tag::NewPage | Tag::NewLine(_) | Tag::Rect { .. }) {
             self.split = None;
-            self.order = Order::new();
+            self.order = Order::default();
         }
         judged
     }
@@ -200,11 +143,13 @@ impl Pass {
         ensures within { OnOk result (is_within self.new.state ≡ true) }
         ensures same { self.new.state.attributes ≡ self.old.state.attributes }
     {
-        let attributes = self.state.attributes;
+        let attributes = &self.state.attributes;
         let (page_just, present) = (attributes.page_just.number(), self.state.area.present);
-        if (page_just < present)
-            | ((page_just == present) & self.order.clashes(attributes.line_just))
-        {
+        let just = attributes.line_just.number();
+        let Order { largest, has_parts } = self.order;
+        // as `Line::put` has it, but of the characters before a soft break too
+        let clashes = (just < largest) | ((just == 5) & has_parts);
+        if (page_just < present) | ((page_just == present) & clashes) {
             return Err(SyntaxError::TagConflict);
         }
         self.put_filled(number, width);
@@ -226,7 +171,11 @@ impl Pass {
     {
         let attributes = &self.state.attributes;
         let goes_on = attributes.page_just.number() == self.state.area.present;
-        self.order = self.order.with(goes_on, attributes.line_just);
+        let just = attributes.line_just.number();
+        self.order = Order {
+            largest: just,
+            has_parts: (just < 5) | (goes_on & self.order.has_parts),
+        };
         self.state
             .fill_character(&mut self.split, width, number == 32)
     }
@@ -242,15 +191,8 @@ impl Pass {
             self.put_filled(number, width)
         } else {
             // It doesn't offend.
-            let _ = judge_cell(&mut self.state, number, width);
+            self.state.put_character(width);
             None
         }
     }
-}
-
-/// Whether a line begins behind what a tag says, for what is before it: a page, a rectangle, or the line itself.
-fn begins_line(tag: Tag) -> bool
-    ensures { result ≡ begins_line tag }
-{
-    matches!(tag, Tag::NewPage | Tag::NewLine(_) | Tag::Rect { .. })
 }

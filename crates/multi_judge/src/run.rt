@@ -1,15 +1,7 @@
 //! Characters behind one with the same attributes: each only lengthens the line that they share.
 
-ghost use Rattle.std.specs.Prelude.{◌≡◌, ◌+◌, ◌-◌, ◌*◌, ◌^◌, ◌<◌, ◌≤◌, ℕ, true, All, drop, length, slice_get, take};
-ghost use Rattle.std.specs.Option.{unwrap_or};
-ghost use Rattle.multi_token.specs.Counted.{RisesBetween};
-ghost use Rattle.multi_token.specs.Spelling.{IsPlain};
-ghost use Rattle.sign_font.specs.Sign.{SignData};
-ghost use Rattle.sign_font.specs.Text.{AreWidthsOf, HasWidth, IsNoSpace, width_in};
-ghost use Rattle.multi_judge.specs.PassState.{IsPassBehind, IsPassOf};
-ghost use Rattle.multi_judge.specs.Judging.{IsAt, IsBehind};
-ghost use Rattle.multi_judge.specs.Run.{IsBehindCharacter, IsRun, IsRunPassed, is_within, lengthened, line_in_force};
-ghost use Rattle.multi_judge.specs.State.{IsLimited, IsReady};
+ghost use Rattle.std.specs.Prelude.{All, ◌≡◌, ◌+◌, ◌-◌, ◌*◌, ◌^◌, ◌<◌, ◌≤◌, ℕ, true, drop, length, slice_get, take};
+ghost use Rattle.multi_judge.specs.Prelude.{unwrap_or, RisesBetween, IsPlain, SignData, AreWidthsOf, HasWidth, IsNoSpace, width_in, IsPassBehind, IsPassOf, IsAt, IsBehind, IsBehindCharacter, IsRun, IsRunPassed, is_within, lengthened, line_in_force, IsLimited, IsReady};
 
 use crate::fill_run::judge_text;
 use crate::pass::Pass;
@@ -80,9 +72,8 @@ impl State {
         ensures { self.new
             ≡ lengthened ((line_in_force self.old).part.width + width) ((line_in_force self.old).part.count + count) self.old }
     {
-        let part = &self.area.group.line.part;
-        let (width, count) = (part.width + width, part.count + count);
-        self.area.group.line.lengthen(width, count);
+        let part = &mut self.area.group.line.part;
+        (part.width, part.count) = (part.width + width, part.count + count);
     }
 }
 

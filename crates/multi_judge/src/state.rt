@@ -1,7 +1,7 @@
 //! What is kept of the items that were read.
 
-ghost use Rattle.std.specs.Prelude.{◌≡◌, ◌+◌, ◌*◌, ◌^◌, ◌≤◌, []};
-ghost use Rattle.sign_font.specs.Sound.{IsSound};
+ghost use Rattle.std.specs.Prelude.{◌≡◌, ◌+◌, ◌*◌, ◌^◌, ◌≤◌, [], List, true, false, not};
+ghost use Rattle.multi_judge.specs.Prelude.{IsSound, Spot, area_of, is_glyph, conflicts, AddsBreak, AddsCharacter, is_within, IsBelow, area_sum, IsLimited, IsReady, IsStateOf, whole_times};
 
 use crate::area::Area;
 use crate::attributes::{Attributes, whole_sign};
@@ -29,14 +29,6 @@ pub(crate) struct Limits {
 }
 
 impl State {
-    ghost use Rattle.std.specs.Prelude.{List, true, false, not};
-    ghost use Rattle.multi_meaning.specs.Address.{Spot, area_of, is_glyph};
-    ghost use Rattle.multi_meaning.specs.Offence.{conflicts};
-    ghost use Rattle.multi_judge.specs.Adding.{AddsBreak, AddsCharacter};
-    ghost use Rattle.multi_judge.specs.Run.{is_within};
-    ghost use Rattle.multi_judge.specs.Sums.{IsBelow, area_sum};
-    ghost use Rattle.multi_judge.specs.State.{IsLimited, IsReady, IsStateOf, whole_times};
-
     /// The state before the first item.
     pub fn new(sign: &Terms<'_>) -> State
         ensures start { IsStateOf sign.now [] result }
@@ -59,7 +51,7 @@ impl State {
                 flash: None,
                 rectangle: whole_sign(sign),
             },
-            area: Area::new(),
+            area: Area::default(),
             // known where there is a character, and where there is a group
             limits: Limits {
                 width: 0,

@@ -1,11 +1,8 @@
 //! The counted lines of an area, as drawing needs them.
 
 ghost use Rattle.std.specs.Prelude.{◌≡◌, ℕ, ◌<◌, ◌≤◌, ◌==◌, length, List, [], ◌∷◌, ◌++◌, if◌then◌else◌};
-ghost use Rattle.multi_tag.specs.Just.{page_number};
-ghost use Rattle.multi_meaning.specs.Address.{Spot};
-ghost use Rattle.multi_meaning.specs.kept.Present.{IsNarrow};
-ghost use Rattle.multi_judge.specs.Sums.{line_sum};
-ghost use Rattle.multi_judge.specs.Table.{width_in, group_lines, line_count, line_entry};
+ghost use Rattle.multi_judge.specs.Prelude.{page_number, Spot, IsNarrow, line_sum, group_lines, line_count, line_entry, TableLines, IsOrdered, split_lines};
+ghost use Rattle.multi_judge.specs.Table.{width_in};
 
 use crate::line::Line;
 use arrayvec::ArrayVec;
@@ -36,8 +33,6 @@ pub struct LineTable {
 }
 
 impl Model for LineTable {
-    ghost use Rattle.multi_judge.specs.Table.{TableLines, IsOrdered, split_lines};
-
     ghost Value = { TableLines };
 
     ghost view = { λ t. split_lines t.lines.items t.middle t.bottom };
@@ -59,7 +54,11 @@ impl CountedLine {
             centre: line.width(3) as u16,
             right: line.width(4) as u16,
             full: line.width(5) as u16,
-            characters: line.full_count() as u16,
+            characters: if line.present == 5 {
+                line.part.count as u16
+            } else {
+                0
+            },
             bottom: bottom as u16,
         }
     }

@@ -1,7 +1,7 @@
 //! The sign that a string is for, with the defaults in force for that string.
 
-ghost use Rattle.std.specs.Prelude.{◌≡◌, None};
-ghost use Rattle.sign_font.specs.Defaults.{default_fault, under};
+ghost use Rattle.std.specs.Prelude.{◌≡◌, None, Some, option_map};
+ghost use Rattle.multi_judge.specs.Prelude.{default_fault, under, SignData, font_numbered, info_of, IsSound, IsWithin, default_line_just, default_page_just};
 
 use multi_tag::{LineJust, PageJust};
 use sign_font::{Defaults, FontInfo, Sign};
@@ -20,12 +20,6 @@ pub struct Terms<'a> {
 }
 
 impl<'a> Model for Terms<'a> {
-    ghost use Rattle.std.specs.Prelude.{◌≡◌, Some, option_map};
-    ghost use Rattle.sign_font.specs.Defaults.{under};
-    ghost use Rattle.sign_font.specs.Sign.{SignData, font_numbered, info_of};
-    ghost use Rattle.sign_font.specs.Sound.{IsSound, IsWithin};
-    ghost use Rattle.multi_meaning.specs.Attributes.{default_line_just, default_page_just};
-
     ghost Value = { SignData };
 
     ghost view = { λ t. under t.bare.now t.defaults };

@@ -1,5 +1,5 @@
 -- The items of a page, drawn one after the other.
-use Rattle.multi_layout.proofs.Common.{◌≡◌, ℕ, ◌+◌, ◌^◌, ◌<◌, ◌≤◌, false, cond, slice_get, List, [], ◌∷◌, ◌++◌, length, map, Option, None, Some, refl, sym, ap, subst, ◌∙◌, arith, append_assoc, rules, Bool, true, Err, Ok, inl, mul-add, mul-le-mul_left, false≢true, length-append, map-append, All-head, All-tail, spelling, Item, spelling_some, BitPlane, SignData, tallest, spots, standing, in_area, Spot, Standing, put_at, EndsArea, Meaning, begins_area, is_new_page, Does, has_place, meaning, pages_of, NextItem, State, LineTable, pages_of-push, at_end, Tag, NewPage, NewLine, Font, Rect, Back, Off, Words, SyntaxError, Defaults, code_of, too_big, laid_items, offence, offence_by, Pass, ends_line, is_setting, meant_by, IsPassOf, IsStateOf, present_area, Cursor, Layer, AreaLines, plane_octets, BeginsNoArea, HasCounted, IsAreaDrawn, IsDrawnTo, IsDrawnUpTo, IsFilledBy, IsInArea, whole_area, IsPageDrawn, IsNextDrawn, IsReadBehind, octets_read, IsBetween, IsFirst, IsItemRead, IsRead, items_of, meant, LaidItem, spell_of, IsPlaced, IsNextAt, IsMet, Setting}
+use Rattle.multi_layout.proofs.Common.{◌≡◌, ℕ, ◌+◌, ◌^◌, ◌<◌, ◌≤◌, false, cond, slice_get, List, [], ◌∷◌, ◌++◌, length, map, Option, None, Some, refl, sym, ap, subst, ◌∙◌, arith, append_assoc, rules, Bool, true, Err, Ok, inl, mul-add, mul-le-mul_left, false≢true, length-append, map-append, All-head, All-tail, spelling, Item, spelling_some, BitPlane, SignData, tallest, standing, Spot, Standing, put_at, EndsArea, Meaning, begins_area, is_new_page, Does, has_place, meaning, pages_of, NextItem, State, LineTable, pages_of-push, at_end, Tag, NewPage, NewLine, Font, Rect, Back, Off, Words, SyntaxError, Defaults, too_big, laid_items, offence, offence_by, Pass, ends_line, is_setting, meant_by, IsPassOf, IsStateOf, present_area, Cursor, Layer, AreaLines, plane_octets, BeginsNoArea, HasCounted, IsAreaDrawn, IsDrawnTo, IsDrawnUpTo, IsFilledBy, IsInArea, whole_area, IsPageDrawn, IsNextDrawn, IsReadBehind, octets_read, IsBetween, IsFirst, IsItemRead, IsRead, items_of, meant, LaidItem, spell_of, IsPlaced, IsNextAt, IsMet, Setting}
 use Rattle.multi_meaning.proofs.StandingLemmas.{same_area, present_area-nothing}
 use Rattle.multi_judge.proofs.ReadLemmas.{judged_unfilled}
 use Rattle.multi_judge.specs.FilledState.{begins_line}

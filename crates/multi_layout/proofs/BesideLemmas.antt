@@ -1,13 +1,11 @@
 -- A character stands beside the one before it, where both have the same attributes.
-use Rattle.multi_layout.proofs.Common.{◌≡◌, ℕ, ◌+◌, ◌-◌, ◌^◌, ◌<◌, ◌≤◌, Bool, true, false, cond, ◌&&◌, ◌||◌, ◌==◌, List, [], ◌∷◌, ◌++◌, length, take, map, Option, Some, None, slice_get, refl, sym, ap, subst, ◌∙◌, arith, append_assoc, rules, if◌then◌else◌, after_last, count_by, option_map, unwrap_or, eq-eqb, IsPlain, line_number, page_number, BitPlane, Off, SignData, CellData, cell_in, cell_numbered, Place, Glyph, Put, Spot, Standing, group_of, in_area, in_group, is_break, is_glyph, lines_of, segment, spots, standing, glyph_width, height_of, width_of, Meaning, Shows, unsized_offence, place_of, standing_push, Attributes, Cursor, NextItem, Layer, State, AreaLines, HasCounted, IsAreaDrawn, IsNextDrawn, IsRunDrawn, StandsAt, IsBetween, IsRead, meant, IsBehindCharacter, lengthened, line_in_force, IsStateOf, meant_by, PlacesCharacter, attributes_of, area_sum, group_lines, present_area, width_in, unsized-undefined, state_beside}
+use Rattle.multi_layout.proofs.Common.{◌≡◌, ℕ, ◌+◌, ◌-◌, ◌^◌, ◌<◌, ◌≤◌, Bool, true, false, cond, ◌==◌, List, [], ◌∷◌, ◌++◌, length, take, map, Some, None, slice_get, refl, sym, ap, subst, ◌∙◌, arith, append_assoc, rules, if◌then◌else◌, count_by, option_map, unwrap_or, eq-eqb, IsPlain, line_number, page_number, BitPlane, Off, SignData, CellData, cell_in, cell_numbered, Place, Glyph, Put, Spot, Standing, group_of, in_area, in_group, is_break, is_glyph, lines_of, segment, spots, standing, glyph_width, height_of, width_of, Meaning, Shows, unsized_offence, place_of, standing_push, Attributes, Cursor, NextItem, Layer, State, AreaLines, HasCounted, IsAreaDrawn, IsNextDrawn, IsRunDrawn, StandsAt, IsBetween, meant, IsBehindCharacter, lengthened, line_in_force, IsStateOf, PlacesCharacter, attributes_of, area_sum, group_lines, present_area, unsized-undefined, state_beside}
 use Rattle.std.specs.Prelude.{slice_index_or}
-use Rattle.std.specs.Option.{option_map_or}
 use Rattle.std.proofs.lemmas.List.Sums.{sum_by_push}
 use Rattle.multi_tag.specs.declared.just.LineJust.{LineJust}
 use Rattle.multi_tag.specs.declared.just.LineJust.TheVariants.{Left, Centre, Right, Full}
 use Rattle.sign_font.specs.Cell.{SizedCell}
 use Rattle.multi_meaning.specs.Address.{line_before}
-use Rattle.multi_meaning.specs.Line.{char_gap}
 use Rattle.multi_meaning.specs.Place.{spread, start}
 use Rattle.multi_meaning.proofs.GroupLemmas.{glyph_put, own_group, filter_yes}
 use Rattle.multi_meaning.proofs.StandingLemmas.{width_push, spots_more}
@@ -131,14 +129,6 @@ beside_stands sign items state st number cell found all place gap apart gap_is s
     (next_stands sign items number c all place gap numbered (λ e. apart (just ∙ e)) (stands c numbered) between)
 
 -- ONE MORE CHARACTER
-
--- what is read of it
-pub seen : {sign : SignData} {octets : List ℕ} {layer : Layer} {page : ℕ} {read : AreaLines} {next : NextItem} {cursor : Cursor} {plane : BitPlane} (n : IsNextDrawn sign octets layer page read next cursor plane)
-    → {number : ℕ} → next.item ≡ known.Char number → IsRead n.item (record { item = known.Char number; len = next.len })
-seen n is = record { meant = n.read_is.meant ∙ ap meant_by is; len = n.read_is.len }
-
-pub own_width : (sign : SignData) (font number : ℕ) {cell : SizedCell} {width : ℕ} → cell_in sign font number ≡ Some cell → width ≡ cell.width → width_in sign font number ≡ Some width
-own_width sign font number found wide = ap (option_map (λ (c : SizedCell). c.width)) found ∙ ap Some (sym wide)
 
 module _ {sign : SignData} {octets : List ℕ} {layer : Layer} {page : ℕ} {read : AreaLines} {next : NextItem} {cursor : Cursor} {plane : BitPlane} (n : IsNextDrawn sign octets layer page read next cursor plane)
     (number : ℕ) (shows : meant n.item ≡ Shows number) (cursor' : Cursor) (between : IsBetween sign octets (n.before ++ n.item ∷ []) n.rest cursor') where

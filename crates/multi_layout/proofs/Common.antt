@@ -96,7 +96,7 @@ pub use Rattle.multi_layout.specs.kept.AreaDrawing.{BeginsNoArea, HasCounted, Is
 pub use Rattle.multi_layout.specs.kept.AreaReading.{IsNextRead, IsReadOf, GoesOn}
 pub use Rattle.multi_layout.specs.kept.Cursors.{IsBetween, IsFirst, IsItemRead, IsRead, items_of, meant, LaidItem, spell_of, IsPlaced, laid_meanings}
 pub use Rattle.multi_layout.specs.kept.PageDrawing.{IsFilledFew, IsPagePassed, IsPageStart, IsStartOf}
-pub use Rattle.multi_layout.specs.kept.Passing.{IsAtPage, IsOnTheWay, IsPageSkipped, IsPassing, IsShownIn, unplaced}
+pub use Rattle.multi_layout.specs.kept.Passing.{IsAtPage, IsOnTheWay, IsPageSkipped, IsPassing, unplaced}
 pub use Rattle.multi_layout.specs.kept.RunDrawing.{IsNextDrawn, IsReadBehind, octets_read, IsRunDrawn, StandsAt}
 pub use Rattle.multi_layout.specs.kept.Settings.{IsNextAt, IsMet, item_steps}
 pub use Rattle.multi_layout.specs.kept.Told.{IsTold}

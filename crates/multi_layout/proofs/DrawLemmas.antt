@@ -1,5 +1,5 @@
 -- What is drawn of one more item, and the steps over the plane that it takes.
-use Rattle.multi_layout.proofs.Common.{◌≡◌, ℕ, ◌+◌, ◌*◌, ◌^◌, ◌<◌, ◌≤◌, Bool, true, false, cond, ◌==◌, ◌⊎◌, inl, inr, List, [], ◌∷◌, ◌++◌, length, map, Option, Some, None, Ok, Err, refl, sym, ap, subst, ◌∙◌, arith, ◌-◌, ◌&&◌, rules, nat_lt, unwrap_or, option_map, length-append, spelling, tag_of, Tag, NewPage, NewLine, Back, Rect, BitPlane, is_lit, Defaults, SignData, FontData, cell_in, largest, tallest, CellData, cell_numbered, Standing, standing, put_at, spots, Break, Glyph, Spot, group_of, in_group, lines_of, is_break, in_area, Meaning, Does, Shows, begins_area, is_new_page, meaning, has_colour, shown_colour, is_lit_at, covered_same, eq-eqb, same_page_behind, present_area-placing, Cursor, Layer, State, Attributes, plane_octets, HasCounted, IsDrawnTo, IsFilledBy, IsStateOf, IsBelow, area_sum, IsBetween, meant, LaidItem, below_more, count_by, filter-append, page_number, Place, place_of, present_area, unsized_offence, page_number_known, Area, LineTable, StandsAt, PlacesCharacter, group_lines, table_of}
+use Rattle.multi_layout.proofs.Common.{◌≡◌, ℕ, ◌+◌, ◌*◌, ◌^◌, ◌<◌, ◌≤◌, Bool, true, false, cond, ◌==◌, ◌⊎◌, inl, inr, List, [], ◌∷◌, ◌++◌, length, map, Option, Some, None, Ok, Err, refl, sym, ap, subst, ◌∙◌, arith, ◌-◌, ◌&&◌, rules, nat_lt, unwrap_or, option_map, length-append, spelling, tag_of, Tag, NewPage, NewLine, Back, Rect, BitPlane, is_lit, Defaults, SignData, FontData, cell_in, largest, tallest, CellData, cell_numbered, Standing, standing, put_at, spots, Break, Glyph, Spot, group_of, in_group, lines_of, is_break, in_area, Meaning, Does, Shows, begins_area, is_new_page, meaning, has_colour, shown_colour, is_lit_at, covered_same, eq-eqb, same_page_behind, present_area-placing, Cursor, Layer, State, Attributes, HasCounted, IsDrawnTo, IsFilledBy, IsStateOf, IsBelow, area_sum, IsBetween, meant, LaidItem, below_more, count_by, filter-append, page_number, Place, place_of, present_area, unsized_offence, page_number_known, Area, LineTable, StandsAt, PlacesCharacter, group_lines, table_of}
 use Rattle.std.proofs.Common.{max, Result}
 use Rattle.std.specs.Prelude.{find, nat_le}
 use Rattle.std.specs.Str.{str_to_ascii_lowercase}
@@ -16,11 +16,10 @@ use Rattle.multi_tag.proofs.TagOfLemmas.{tag_of_is_the_table}
 use Rattle.sign_font.specs.Cell as cells
 use Rattle.sign_font.specs.Sign.{sized}
 use Rattle.multi_meaning.specs.Meaning.{meaning_of_tag}
-use Rattle.multi_meaning.specs.Drawn as drawn
 use Rattle.multi_meaning.proofs.DrawnLemmas.{covered_cover, covered_glyph}
 use Rattle.multi_meaning.proofs.ItemAtLemmas.{does_tag}
 use Rattle.multi_meaning.proofs.StandingLemmas.{area_with_glyph}
-use Rattle.multi_layout.specs.kept.AreaDrawing.{IsCountedBy, IsQuiet}
+use Rattle.multi_layout.specs.kept.AreaDrawing.{IsCountedBy}
 use Rattle.multi_judge.proofs.JudgedLemmas.{cell_of_font, shown_free}
 use Rattle.multi_layout.proofs.WalkLemmas.{few_between}
 use Rattle.std.specs.List.{filter}
@@ -157,50 +156,23 @@ module _ (sign : SignData) (layer : Layer) (before rest : List Meaning) where
   same_drawn x old page puts drawn = first_of (search (rules, covered_same, same_page_behind), grind (arith, covered_same, same_page_behind))
 
 -- a tag that begins no area and sets no background puts nothing, or ends a line
-pub quiet_put : (defaults : Defaults) (at : Standing) (tag : Tag) → IsQuiet tag → begins_area (Does tag) ≡ false → (put_at defaults at (Does tag) ≡ None) ⊎ ((gap : Option ℕ) × (put_at defaults at (Does tag) ≡ Some (Break gap)))
-quiet_put defaults at NewPage quiet plain = cc
-quiet_put defaults at (Rect x y w h) quiet plain = cc
-quiet_put defaults at (Back given) quiet plain = absurd quiet
-quiet_put defaults at (NewLine gap) quiet plain = inr (gap, refl)
-quiet_put defaults at tag quiet plain = inl refl
+pub quiet_put : (defaults : Defaults) (at : Standing) (tag : Tag) → ((given : Option ℕ) → tag ≡ Back given → ⊥) → begins_area (Does tag) ≡ false
+    → (put_at defaults at (Does tag) ≡ None) ⊎ ((gap : Option ℕ) × (put_at defaults at (Does tag) ≡ Some (Break gap)))
+quiet_put defaults at NewPage other plain = cc
+quiet_put defaults at (Rect x y w h) other plain = cc
+quiet_put defaults at (Back given) other plain = absurd (other given refl)
+quiet_put defaults at (NewLine gap) other plain = inr (gap, refl)
+quiet_put defaults at tag other plain = inl refl
 
 pub no_page : (tag : Tag) → begins_area (Does tag) ≡ false → is_new_page (Does tag) ≡ false
 no_page NewPage plain = cc
 no_page tag plain = refl
 
-back_or_quiet : (tag : Tag) → ((given : Option ℕ) × (tag ≡ Back given)) ⊎ IsQuiet tag
-back_or_quiet (Back given) = inl (given, refl)
-back_or_quiet tag = inr tt
-
--- a tag that begins no area
-pub tag_drawn : (sign : SignData) (layer : Layer) (before rest : List Meaning) (tag : Tag) (old new : BitPlane) → begins_area (Does tag) ≡ false
-    → ((given : Option ℕ) → tag ≡ Back given → drawn.Lights new (λ column row. shown_colour sign (unwrap_or given sign.defaults.back) == layer.colour)) → (IsQuiet tag → new ≡ old)
-    → IsDrawnTo sign layer (before ++ Does tag ∷ rest) before old → IsDrawnTo sign layer (before ++ Does tag ∷ rest) (before ++ Does tag ∷ []) new
-tag_drawn sign layer before rest tag old new plain back quiet drawn = first_of (search (rules, cover_drawn, same_drawn), grind (arith, cover_drawn, same_drawn))
-
 -- STEPS OVER THE PLANE
-
-no_more : (n a b : ℕ) → n ≤ n + a + b * 0
-no_more n a b = omega arith
 
 -- no more than a row for each row of a font
 pub rows_few : (sign : SignData) {old new : BitPlane} {rows : ℕ} (octets : ℕ) → 1 ≤ octets → rows ≤ tallest sign → IsCountedBy old new rows → IsFilledBy sign old new octets
 rows_few sign octets some tall k = first_of (search (rules, le-mul_of_pos_right), grind (arith, le-mul_of_pos_right))
-
--- a tag fills the plane once where it sets the background, which has four octets, and else never
-pub tag_filled : (sign : SignData) {old new : BitPlane} (octets : ℕ) (tag : Tag) → ((given : Option ℕ) → tag ≡ Back given → 4 ≤ octets) → IsCountedBy old new (plane_octets sign) → (IsQuiet tag → new ≡ old) → IsFilledBy sign old new octets
-tag_filled sign {old} {new} octets tag four k quiet = of (back_or_quiet tag)
-  where
-    of : ((given : Option ℕ) × (tag ≡ Back given)) ⊎ IsQuiet tag → IsFilledBy sign old new octets
-    of (inl (given, is)) = record { fills = 1; few = omega (arith, four given is); least = k.least; most = omega (arith, k.most); width = k.width; height = k.height }
-    of (inr other) = record {
-      fills = 0;
-      few = omega arith;
-      least = k.least;
-      most = omega (arith, ap (λ (p : BitPlane). p.steps) (quiet other), no_more old.steps (tallest sign * octets) (plane_octets sign));
-      width = k.width;
-      height = k.height;
-    }
 
 pub low_between : (sign : SignData) (octets : List ℕ) (before behind : List LaidItem) (cursor : Cursor) → IsBetween sign octets before behind cursor → IsBelow (2 ^ 42) cursor.state.area
 low_between sign octets before behind cursor b = below_more (1024 * length (map meant before)) (2 ^ 42) cursor.state.area (omega (arith, few_between sign octets before behind cursor b)) b.state_is.below

@@ -1,7 +1,7 @@
 -- What a character of an accepted string is laid out as: itself, or the end of its line, by the table of its area's lines.
 use Rattle.multi_layout.proofs.Common.{◌≡◌, ℕ, ◌≤◌, Bool, true, false, cond, ◌&&◌, ◌||◌, ◌==◌, inl, inr, ◌⊎◌, List, [], ◌∷◌, ◌++◌, map, Option, Some, None, refl, sym, ap, subst, ◌∙◌, not, append-nil, rules, arith, ◌+◌, length, append_assoc, All, after_last, option_map, eq-eqb, map-append, length-append, filter-append, NewLine, page_number, LineFill, SignData, CellData, cell_numbered, IsSound, Break, Glyph, Put, Spot, in_area, in_group, is_break, is_glyph, lines_of, put_at, spots, standing, Standing, laid_spot, too_big, laid_item, laid_of, laid_items, glyph_width, Does, Meaning, begins_area, Shows, has_place, meaning, Faulty, EndsArea, unsized_offence, first_code, offence, present_area, IsPlacing, IsNarrowArea, offends_as_laid, are_laid, laid_tag, present_area-placing, offence-faulty, standing_push, last_fine, area_ends, push_ind, each_after_length, each_after_push, page_number_known, Attributes, LineTable, TellsEnd, group_lines, table_of, Item, Tag, Words, offences, Pass, IsFilledOf, pages_at, same_times, State, IsStateOf, Cursor, HasCounted, whole_area, HasRoom, IsBetween, LaidItem, items_of, meant}
 use Rattle.std.proofs.lemmas.List.Elements.{All-weaker}
-use Rattle.multi_meaning.specs.Laid.{fill_at, laid}
+use Rattle.multi_meaning.specs.Laid.{laid}
 use Rattle.multi_meaning.specs.Offence.{never_big, conflicts}
 use Rattle.multi_meaning.proofs.LaidItemLemmas.{laid_as, HasWidth, groups_laid, one_more, same_at, in_areas}
 use Rattle.multi_meaning.proofs.RoomLemmas.{area_wide, rectangle_width_within, rectangle_within, narrow_of, fits_first, fits_next, room_of}

@@ -1,5 +1,5 @@
 -- The lines that the table has while an area is read.
-use Rattle.multi_layout.proofs.Common.{◌≡◌, ℕ, ◌+◌, ◌<◌, ◌≤◌, Bool, true, false, cond, ◌==◌, inl, inr, length, List, [], ◌∷◌, ◌++◌, refl, sym, ap, ◌∙◌, arith, ◌&&◌, subst, append-nil, rules, nat_lt, if◌then◌else◌, All, after_last, cases_eq, eq-eqb, ne_eqb, page_number, line_number, Spot, in_group, is_break, is_glyph, lines_of, segment, height_of, width_of, IsPlacing, ended_lines, placing_group, Area, Group, CountedLine, LineTable, HasCounted, HasKnown, HasRoom, area_sum, group_sum, group_lines, line_count, table_of, line_entry, group_of_own, open_entry, filter-append}
+use Rattle.multi_layout.proofs.Common.{◌≡◌, ℕ, ◌+◌, ◌<◌, ◌≤◌, Bool, true, false, cond, ◌==◌, length, List, [], ◌∷◌, ◌++◌, refl, sym, ap, ◌∙◌, arith, append-nil, rules, nat_lt, if◌then◌else◌, All, after_last, cases_eq, eq-eqb, ne_eqb, page_number, Spot, in_group, is_break, is_glyph, lines_of, height_of, IsPlacing, ended_lines, placing_group, Area, Group, CountedLine, LineTable, HasCounted, HasKnown, HasRoom, area_sum, group_sum, group_lines, line_count, table_of, line_entry, group_of_own, open_entry, filter-append}
 use Rattle.std.specs.List.{list_any}
 use Rattle.std.proofs.lemmas.Bool.{cases_lt, le-ltb, lt-ltb}
 use Rattle.std.proofs.lemmas.List.{length_push}

@@ -1,5 +1,5 @@
 -- What is shown at a time of the cycle, from page to page.
-use Rattle.multi_layout.proofs.Common.{◌≡◌, ℕ, ◌+◌, ◌-◌, ◌<◌, ◌≤◌, true, false, cond, List, [], ◌∷◌, ◌++◌, length, map, slice_get, Some, None, refl, sym, ap, subst, ◌∙◌, inl, inr, arith, append-nil, rules, ◌*◌, ◌/◌, ◌^◌, Bool, map-append, All, ne_eqb, cases_eq, eq-eqb, All-head, All-tail, nat_tests, mul-add, Item, spelling_some, NewPage, SignData, FontData, largest, tallest, Shown, standing, laid_out, Meaning, Does, is_new_page, meaning, meanings, cycle, ended_times, times_at, pages_of, IsAccepted, IsOrderly, accepted_is, reading, standing_push, Attributes, NextItem, State, meant_by, attributes_of, pages_of-push, at_end, Counted, RisesBetween, charged, BitPlane, IsSound, Cursor, Setting, IsFirst, IsPageStart, IsStartOf, IsFilledFew, IsPagePassed, IsAtPage, IsOnTheWay, IsPageSkipped, IsPassing, IsShownIn, unplaced, IsMet, IsNextAt, plane_octets, reading_limit, IsSized, page_count}
+use Rattle.multi_layout.proofs.Common.{◌≡◌, ℕ, has_place, unsized_offence, ◌+◌, ◌-◌, ◌<◌, ◌≤◌, true, false, cond, List, [], ◌∷◌, ◌++◌, length, map, slice_get, Some, None, refl, sym, ap, subst, ◌∙◌, inl, inr, arith, append-nil, rules, ◌*◌, ◌/◌, ◌^◌, Bool, map-append, All, ne_eqb, cases_eq, eq-eqb, All-head, All-tail, nat_tests, mul-add, Item, spelling_some, NewPage, SignData, FontData, largest, tallest, standing, laid_out, Meaning, Does, is_new_page, meaning, meanings, cycle, ended_times, times_at, pages_of, IsAccepted, IsOrderly, accepted_is, reading, standing_push, Attributes, NextItem, State, meant_by, attributes_of, pages_of-push, at_end, Counted, RisesBetween, charged, BitPlane, IsSound, Cursor, Setting, IsFirst, IsPageStart, IsFilledFew, IsPagePassed, IsAtPage, IsOnTheWay, IsPageSkipped, IsPassing, unplaced, IsMet, IsNextAt, plane_octets, reading_limit, IsSized, page_count}
 use Rattle.std.specs.Prelude.{◌==◌}
 use Rattle.std.proofs.lemmas.Nat.{mul-le}
 use Rattle.multi_meaning.specs.declared.times.Shown.TheVariants.{Page, Off}
@@ -12,14 +12,15 @@ use Rattle.sign_font.specs.Sound.{IsSoundFont}
 use Rattle.multi_layout.specs.declared.checked.Told.{Told}
 use Rattle.multi_layout.specs.kept.Told.{IsToldOf}
 use Rattle.multi_layout.specs.kept.PageDrawing.{IsReadTwice}
-use Rattle.multi_layout.specs.kept.Passing.{IsAtStart, IsPassingBefore, PassesOn}
+use Rattle.multi_layout.specs.kept.Cursors.{PassesTag}
+use Rattle.multi_layout.specs.kept.Passing.{IsAtStart}
 use Rattle.multi_layout.proofs.PageDrawLemmas.{new_page_is, same_meanings}
 use Rattle.multi_layout.proofs.PieceLemmas.{begins_page, pieces_before, pieces_behind, starts_between}
 use Rattle.multi_layout.proofs.DrawLemmas.{no_page}
 use Rattle.multi_layout.proofs.AreaDrawLemmas.{setting_is}
-use Rattle.multi_layout.proofs.WalkLemmas.{passing_tag, same_unplaced, none_at_end, within, steps_then, steps_within, within_between}
+use Rattle.multi_layout.proofs.WalkLemmas.{fine_passing, passing_placed, passing_tag, placed_behind, room, same_unplaced, none_at_end, within, steps_then, steps_within, within_between}
 use Rattle.multi_layout.specs.Limits.{drawing_limit, plane_limit}
-use Rattle.multi_layout.specs.declared.next_page.NextPage.{NextPage}
+use Rattle.multi_layout.specs.declared.checked.NextPage.{NextPage}
 use Rattle.multi_layout.specs.NextPage.{IsNextPage, IsReadOn}
 use Rattle.multi_layout.specs.CheckedData.{CheckedData}
 use Rattle.multi_layout.specs.Pages.{IsUnderWay, PagesState, TurnsPage}
@@ -88,10 +89,6 @@ pub record IsInPage (sign : SignData) (octets : List ℕ) (old cursor : Cursor) 
   pub between : IsPassing sign octets before behind cursor
   pub same : cursor.state.pages ≡ old.state.pages
   pub began : cursor.state.cycle ≡ old.state.cycle
-
--- at first
-pub in_page : {sign : SignData} {octets : List ℕ} {old : Cursor} → IsOnTheWay sign octets old → IsInPage sign octets old old
-in_page (before, behind, p) = record { before = before; behind = behind; between = p; same = refl; began = refl }
 
 pub in_page_in : {sign : SignData} {octets octets' : List ℕ} {old cursor : Cursor} → octets' ≡ octets → IsInPage sign octets old cursor → IsInPage sign octets' old cursor
 in_page_in {sign} {octets} {octets'} {old} {cursor} same s = subst (λ o. IsInPage sign o old cursor) (sym same) s
@@ -192,36 +189,59 @@ module _ {sign : SignData} {octets : List ℕ} {old cursor : Cursor} (s : IsInPa
       let first = first_here (record { item = known.Tag tag; len = len }) is in
       in_page_more first (passing_tag (stands first) first.3 new placed refl (puts.judged (unplaced passed) s.between.state_is).1) (no_page tag plain)
 
-  -- an item is passed
-  pub stands_there : (next : NextItem) → IsNextAt sign octets cursor.at next → IsPassingBefore sign octets next cursor
-  stands_there next is = let first = first_here next is in (s.before, first.1, first.0, stands first, first.3)
+  -- an item is passed that was met
+  module _ (next : NextItem) (is : IsNextAt sign octets cursor.at next) where
+    first : IsFirst s.behind (Some next)
+    first = first_here next is
 
-  pub page_more : (next : NextItem) → IsNextAt sign octets cursor.at next → {new : Cursor} → PassesOn sign octets next cursor new → is_new_page (meant_by next.item) ≡ false → IsInPage sign octets old new
-  page_more next is passes none = let first = first_here next is in in_page_more first (passes s.before first.1 first.0 (stands first) first.3) none
+    pub item_within : cursor.at + next.len ≤ length octets
+    item_within = omega (arith, room sign octets s.before first.1 first.0 cursor.at (stands first).placed, first.3.len)
 
-  pub page_over : (next : NextItem) → IsNextAt sign octets cursor.at next → {new : Cursor} → PassesOn sign octets next cursor new → is_new_page (meant_by next.item) ≡ true → old.at ≤ cursor.at → new.at ≡ cursor.at + next.len → IsPageSkipped sign octets old new
-  page_over next is passes page on at = let first = first_here next is in passed_page first (passes s.before first.1 first.0 (stands first) first.3) page on at
+    -- one that has a place
+    pub placed_passed : has_place (meant_by next.item) ≡ true → IsInPage sign octets old (record { at = cursor.at + next.len; state = cursor.state })
+    placed_passed place =
+        in_page_more first (passing_placed (stands first) first.3 (record { at = cursor.at + next.len; state = cursor.state }) place refl refl) (placed_behind sign (standing sign []) (meant_by next.item) place).1
+
+    -- a tag that has none
+    module _ (free : has_place (meant_by next.item) ≡ false) where
+      pub free_fine : unsized_offence sign (unplaced passed) (meant_by next.item) ≡ None
+      free_fine = fine_passing (stands first) first.3 free
+
+      module _ {new : Cursor} (at : new.at ≡ cursor.at + next.len) (passes : PassesTag sign (meant_by next.item) cursor.state new.state) where
+        behind_tag : IsPassing sign octets (s.before ++ first.0 ∷ []) first.1 new
+        behind_tag = passing_tag (stands first) first.3 new free at (passes (unplaced passed) s.between.state_is free_fine)
+
+        pub page_more : is_new_page (meant_by next.item) ≡ false → IsInPage sign octets old new
+        page_more none = in_page_more first behind_tag none
+
+        pub page_over : is_new_page (meant_by next.item) ≡ true → old.at ≤ cursor.at → IsPageSkipped sign octets old new
+        page_over page on = passed_page first behind_tag page on at
 
 -- ---- a page that is looked at
 
--- where a page that is shown begins
-pub starts_shown : (sign : SignData) (octets : List ℕ) (start : Cursor) (times : Attributes) (time : ℕ) (shown : Shown) → IsPageStart sign octets start → IsShownIn start.state times time (Some shown) → IsStartOf sign octets shown start
-starts_shown sign octets start times time (Page page phase) begins is = (begins, is.0)
-starts_shown sign octets start times time Off begins is = tt
-
 module _ {sign : SignData} {octets : List ℕ} {start behind : Cursor} (p : IsPageSkipped sign octets start behind) (time : ℕ) where
-  -- what it shows at the time the string shows
-  pub shown_here : (shown : Shown) → start.state.cycle ≤ time → IsShownIn start.state behind.state.attributes time (Some shown) → shown ≡ shown_within (page_times sign (meanings octets)) time
-  shown_here (Page page phase) began is =
-      let number : page ≡ length p.earlier = omega (arith, is.0, p.page_is) in
-      let since : phase ≡ time - cycle p.earlier = omega (arith, is.1, p.begins) in
-      (λ i. Page (number i) (since i)) ∙ sym (shown_on (page_times sign (meanings octets)) p.earlier p.later (times_of behind.state.attributes) p.times time (omega (arith, p.begins, began)) (omega (arith, p.begins, is.2)))
-  shown_here Off began is = sym (shown_off (page_times sign (meanings octets)) p.earlier p.later (times_of behind.state.attributes) p.times time (omega (arith, p.begins, is.0)) (omega (arith, p.begins, is.1)))
+  abbrev on_time : ℕ
+  on_time = behind.state.attributes.on
+
+  abbrev off_time : ℕ
+  off_time = behind.state.attributes.off
+
+  -- in its on time the string shows it
+  pub shown_here : start.state.cycle ≤ time → time - start.state.cycle < on_time → Page (start.state.pages - 1) (time - start.state.cycle) ≡ shown_within (page_times sign (meanings octets)) time
+  shown_here began on =
+      let number : start.state.pages - 1 ≡ length p.earlier = omega (arith, p.page_is) in
+      let since : time - start.state.cycle ≡ time - cycle p.earlier = omega (arith, p.begins) in
+      (λ i. Page (number i) (since i)) ∙ sym (shown_on (page_times sign (meanings octets)) p.earlier p.later (times_of behind.state.attributes) p.times time (omega (arith, p.begins, began)) (omega (arith, p.begins, on, began)))
+
+  -- in its off time the string shows nothing
+  pub off_here : start.state.cycle ≤ time → on_time ≤ time - start.state.cycle → time - start.state.cycle < on_time + off_time → Off ≡ shown_within (page_times sign (meanings octets)) time
+  off_here began over off =
+      sym (shown_off (page_times sign (meanings octets)) p.earlier p.later (times_of behind.state.attributes) p.times time (omega (arith, p.begins, over, began)) (omega (arith, p.begins, off, began)))
 
   -- where it is over another page begins behind it, at the time or before
-  pub page_behind : IsShownIn start.state behind.state.attributes time None → time < cycle (page_times sign (meanings octets))
+  pub page_behind : start.state.cycle ≤ time → on_time + off_time ≤ time - start.state.cycle → time < cycle (page_times sign (meanings octets))
       → (behind.state.pages ≡ start.state.pages + 1) × (start.at < behind.at) × (behind.state.cycle ≤ time) × IsAtPage sign octets behind
-  page_behind over below = first_of (search (rules, cycle_push), grind (arith, cycle_push))
+  page_behind began over below = first_of (search (rules, cycle_push), grind (arith, cycle_push))
 
 -- before the last page another begins behind it
 pub page_follows : {sign : SignData} {octets : List ℕ} {start behind : Cursor} → IsPageSkipped sign octets start behind → start.state.pages < pages_of (meanings octets)
@@ -381,11 +401,20 @@ module _ (old : PagesState) (start next : NextPage) (u : IsUnderWay old start.cu
 
 -- ---- the bounds of all pages
 
+-- all pages so far took no more steps over the string, and over the plane, than they may
+abbrev IsReadFew : PagesState → Type 0
+IsReadFew pages = (pages.string_started ≤ pages.string.source.steps)
+    × (pages.string.source.steps ≤ pages.string_started + reading_limit (length pages.string.source.octets))
+
+abbrev IsDrawnFew : PagesState → Type 0
+IsDrawnFew pages = (pages.plane_started ≤ pages.plane.steps)
+    × (pages.plane.steps ≤ pages.plane_started + plane_limit pages.string.sign (length pages.string.source.octets))
+
 module _ (pages : PagesState) (cursor : Cursor) (u : IsUnderWay pages cursor) where
-  pub all_read : (pages.string_started ≤ pages.string.source.steps) × (pages.string.source.steps ≤ pages.string_started + reading_limit (length pages.string.source.octets))
+  pub all_read : IsReadFew pages
   all_read = (u.read_least, omega (arith, u.read_most, u.within, at_most (pages.next == page_count pages.string) 2))
 
-  pub all_drawn : (pages.plane_started ≤ pages.plane.steps) × (pages.plane.steps ≤ pages.plane_started + plane_limit pages.string.sign (length pages.string.source.octets))
+  pub all_drawn : IsDrawnFew pages
   all_drawn = (
     u.drawn_least,
     omega (

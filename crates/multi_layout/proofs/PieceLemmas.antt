@@ -146,6 +146,10 @@ pub begins_tag : (item : KnownItem) → begins_area (meant_by item) ≡ true →
 begins_tag (Char number) begins = cc
 begins_tag (items.Tag tag) begins = (tag, refl)
 
+pub free_tag : (item : KnownItem) → has_place (meant_by item) ≡ false → (tag : Tag) × (item ≡ items.Tag tag)
+free_tag (Char number) free = cc
+free_tag (items.Tag tag) free = (tag, refl)
+
 -- where an area ends, the first item begins one
 pub first_begins : (piece : LaidItem) (rest : List LaidItem) → EndsArea (map meant (piece ∷ rest)) → begins_area (meant piece) ≡ true
 first_begins piece rest (inl none) = cc

@@ -1,5 +1,6 @@
 -- The next item of an accepted string.
-use Rattle.multi_layout.proofs.Common.{◌≡◌, ℕ, true, false, ◌+◌, ◌^◌, ◌<◌, ◌≤◌, inl, inr, List, [], ◌∷◌, ◌++◌, length, drop, take, map, slice_get, Some, None, refl, sym, ap, subst, ◌∙◌, arith, append_assoc, append-nil, rules, ◌*◌, Bool, cond, not, suc, All, count_by, length-append, map-append, All-head, All-tail, filter-append, nat_lt, Counted, RisesBetween, charged, Token, IsPlain, Item, spelling, spell, item_of, single_token, drop_read, read_drop, spelling_some, rises_then, Off, SignData, each_after, too_big, laid_item, Faulty, Meaning, meaning, BeginsPage, Does, Shows, has_place, is_new_page, offence, unsized_offence, first_code, offence_by, fault_at, offences, pages_of, IsFaultAt, IsItemAt, IsAccepted, IsOrderly, offence-faulty, standing_push, present_area-new, length-meanings, each_after-append, each_after_length, left_nil, push_ind, some_after-append, NextItem, IsReady, IsStateOf, attributes_of, meant_by, ready, below_more, pages_of-push, NewPage, NewLine, Font, LineFill, Standing, spots, standing, present_area, cycle, ended_times, times_at, State, area_sum, behind_first, IsNextAt, Cursor, IsBetween, IsFirst, IsPlaced, LaidItem, items_of, laid_meanings, meant, spell_of, IsItemRead, IsOnTheWay, IsPassing, unplaced}
+use Rattle.multi_layout.specs.kept.Cursors.{PassesTag}
+use Rattle.multi_layout.proofs.Common.{◌≡◌, ℕ, IsRead, true, false, ◌+◌, ◌^◌, ◌<◌, ◌≤◌, inl, inr, List, [], ◌∷◌, ◌++◌, length, drop, take, map, slice_get, Some, None, refl, sym, ap, subst, ◌∙◌, arith, append_assoc, append-nil, rules, Bool, cond, not, suc, All, count_by, length-append, map-append, All-head, All-tail, filter-append, nat_lt, Counted, RisesBetween, charged, Token, IsPlain, Item, spelling, spell, item_of, single_token, drop_read, read_drop, spelling_some, rises_then, Off, SignData, each_after, laid_item, Faulty, Meaning, meaning, BeginsPage, Does, Shows, has_place, is_new_page, offence, unsized_offence, first_code, offence_by, fault_at, offences, pages_of, IsFaultAt, IsItemAt, IsOrderly, offence-faulty, standing_push, present_area-new, length-meanings, each_after-append, each_after_length, left_nil, push_ind, some_after-append, NextItem, IsReady, IsStateOf, meant_by, ready, below_more, pages_of-push, NewPage, NewLine, Font, LineFill, Standing, spots, standing, present_area, ended_times, times_at, State, behind_first, IsNextAt, Cursor, IsBetween, IsFirst, IsPlaced, LaidItem, items_of, laid_meanings, meant, spell_of, IsItemRead, IsOnTheWay, IsPassing, unplaced}
 use Rattle.std.specs.List.{cons_option}
 use Rattle.std.proofs.Math.Seq.{drop-append_seam, take-append_seam}
 use Rattle.std.proofs.lemmas.List.Concat.{flat_map-append}
@@ -7,7 +8,6 @@ use Rattle.multi_token.specs.Spelling.{is_bracket, IsItem, HasNoItem}
 use Rattle.multi_token.specs.Tokens.{IsTokenOf}
 use Rattle.multi_token.proofs.SpellingLemmas.{one_item_begins}
 use Rattle.multi_token.proofs.StepLemmas.{charged-zero}
-use Rattle.sign_font.specs.Sign.{font_numbered}
 use Rattle.multi_meaning.specs.Words.{some_after}
 use Rattle.multi_meaning.specs.kept.Fine.{IsFine}
 use Rattle.multi_meaning.proofs.RoomLemmas.{none_front, none_last}
@@ -194,9 +194,18 @@ module _ (sign : SignData) (octets : List ℕ) (before rest : List LaidItem) (it
         state_is = subst (λ ms. IsStateOf sign ms new.state) (sym (map-append meant before (item ∷ []))) st;
       }
 
--- a cursor between items stands between them in the same octets too
-pub stands_in : {sign : SignData} {octets octets' : List ℕ} {before behind : List LaidItem} {cursor : Cursor} → octets' ≡ octets → IsBetween sign octets before behind cursor → IsBetween sign octets' before behind cursor
-stands_in {sign} {octets} {octets'} {before} {behind} {cursor} same b = subst (λ o. IsBetween sign o before behind cursor) (sym same) b
+-- the next item, of which this is read
+module _ {sign : SignData} {octets : List ℕ} {before rest : List LaidItem} {item : LaidItem} {cursor : Cursor} (b : IsBetween sign octets before (item ∷ rest) cursor) {next : NextItem} (read : IsRead item next) where
+  pub item_fits : cursor.at + next.len < 2 ^ 32
+  item_fits = omega (arith, room sign octets (items_of before) (items_of rest) item.item cursor.at b.placed, read.len, b.placed.accepted.short)
+
+  pub item_fine : unsized_offence sign (map meant before) (meant_by next.item) ≡ None
+  item_fine = ap (unsized_offence sign (map meant before)) (sym read.meant) ∙ never_offends sign octets before rest item cursor b
+
+  pub tag_passed : (new : Cursor) → new.at ≡ cursor.at + next.len → PassesTag sign (meant_by next.item) cursor.state new.state → IsBetween sign octets (before ++ item ∷ []) rest new
+  tag_passed new at passes =
+      between_more sign octets before rest item cursor b new (at ∙ ap (λ n. cursor.at + n) read.len)
+      (subst (λ (m : Meaning). IsStateOf sign (map meant before ++ m ∷ []) new.state) (sym read.meant) (passes (map meant before) b.state_is item_fine))
 
 -- AS THEY ARE LAID OUT
 
@@ -238,7 +247,7 @@ pub unplaced_grows : (ms : List Meaning) (x : Meaning) → has_place x ≡ false
 unplaced_grows ms x e = unplaced_if ms x false e
 
 -- what is placed begins no page, and leaves all that is in force
-placed_behind : (sign : SignData) (at : Standing) (x : Meaning) → has_place x ≡ true → (standing_behind sign at x ≡ at) × (is_new_page x ≡ false)
+pub placed_behind : (sign : SignData) (at : Standing) (x : Meaning) → has_place x ≡ true → (standing_behind sign at x ≡ at) × (is_new_page x ≡ false)
 placed_behind sign at (Shows number) e = ((λ i. record at { page = plus_zero at.page i; area = plus_zero at.area i }), refl)
   where
     plus_zero : (n : ℕ) → n + 0 ≡ n

@@ -3,4 +3,5 @@ pub mod Lending
 pub mod Limits
 pub mod NextPage
 pub mod Pages
+pub mod Prelude
 pub mod kept

@@ -1,7 +1,7 @@
 -- The page of a string that is drawn next.
 use Rattle.std.specs.Prelude.{◌≡◌, ℕ, ◌+◌, ◌<◌, ◌≤◌, length}
 use Rattle.multi_token.specs.Counted.{Counted}
-use Rattle.multi_layout.specs.declared.next_page.NextPage.{NextPage}
+use Rattle.multi_layout.specs.declared.checked.NextPage.{NextPage}
 use Rattle.multi_layout.specs.CheckedData.{CheckedData}
 use Rattle.multi_layout.specs.Pages.{page_count}
 use Rattle.multi_layout.specs.kept.PageDrawing.{IsPageStart, IsReadTwice}

@@ -25,6 +25,18 @@ pub record PagesState : Type 0 where
   pub string_started : ℕ
   pub plane_started : ℕ
 
+-- what is kept of pages, as it is seen (own)
+abbrev pub pages_state : CheckedData → BitPlane → ℕ → ℕ → ℕ → ℕ → ℕ → PagesState
+pages_state string plane phase colour next string_started plane_started = record {
+  string = string;
+  plane = plane;
+  phase = phase;
+  colour = colour;
+  next = next;
+  string_started = string_started;
+  plane_started = plane_started;
+}
+
 -- the number of pages of a string that was judged (own)
 abbrev pub page_count : CheckedData → ℕ
 page_count string = pages_of (meanings string.source.octets)

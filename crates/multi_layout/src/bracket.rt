@@ -1,13 +1,7 @@
 //! Items that begin with a bracket, each read once.
 
 ghost use Rattle.std.specs.Prelude.{◌≡◌, ◌≢◌, ◌+◌, ◌-◌, ◌*◌, ◌^◌, ◌<◌, ◌⊎◌, IfOk, IfErr, OnErr, Some, length, slice_get};
-ghost use Rattle.multi_token.specs.Counted.{RisesBetween};
-ghost use Rattle.multi_token.specs.Spelling.{is_bracket};
-ghost use Rattle.multi_tag.specs.Closed.{HasNoTagAt};
-ghost use Rattle.multi_meaning.specs.Codes.{code_of};
-ghost use Rattle.multi_meaning.specs.kept.ItemAt.{IsFaultAt, IsItemAt};
-ghost use Rattle.multi_meaning.specs.Meaning.{said_by};
-ghost use Rattle.multi_judge.specs.KnownItem.{meant_by};
+ghost use Rattle.multi_layout.specs.Prelude.{RisesBetween, is_bracket, HasNoTagAt, code_of, IsFaultAt, IsItemAt, meant_by};
 
 use multi_judge::{KnownItem, NextItem, tag_error};
 use multi_meaning::SyntaxError;
@@ -42,32 +36,20 @@ pub(crate) fn read_spelled(
     ensures fault_steps { OnErr result (RisesBetween source.old source.new 0 (4 * (length source.old.octets - at))) }
 {
     if source.read(at + 1) == Some(bracket) {
-        return Ok(NextItem {
-            item: KnownItem::Char(u16::from(bracket)),
-            len: 2,
-        });
+        let item = KnownItem::Char(u16::from(bracket));
+        return Ok(NextItem { item, len: 2 });
     }
     if bracket == b']' {
         return Err(SyntaxError::UnsupportedTag);
     }
-    match read_ahead(source, at) {
-        Some((tag, len)) => Ok(NextItem {
-            item: said(tag),
-            len,
-        }),
-        None => Err(fault_of(source, at)),
-    }
-}
-
-/// The item that says this: a character, or the tag.
-#[inline(always)]
-fn said(tag: Tag) -> KnownItem
-    ensures meant { meant_by result ≡ said_by tag }
-{
-    match tag {
+    let Some((tag, len)) = read_ahead(source, at) else {
+        return Err(fault_of(source, at));
+    };
+    let item = match tag {
         Tag::HexChar(number) => KnownItem::Char(number),
         tag => KnownItem::Tag(tag),
-    }
+    };
+    Ok(NextItem { item, len })
 }
 
 /// The error of a single opening bracket at an offset with which no tag begins that has a value.

@@ -1,21 +1,7 @@
 //! The way through an accepted string, from item to item.
 
-ghost use Rattle.std.specs.Prelude.{◌≡◌, false, None, ℕ, ◌+◌, ◌-◌, ◌*◌, ◌<◌, ◌≤◌, ◌==◌, if◌then◌else◌, ◌⊎◌, ◌^◌, [], ◌∷◌, ◌++◌, List, Some, IfSome};
-ghost use Rattle.multi_token.specs.Counted.{RisesBetween};
-ghost use Rattle.sign_font.specs.Sign.{SignData};
-ghost use Rattle.sign_font.specs.Sound.{IsSound};
-ghost use Rattle.sign_font.specs.Text.{width_in};
-ghost use Rattle.multi_meaning.specs.Meaning.{Meaning, has_place};
-ghost use Rattle.multi_meaning.specs.Offence.{unsized_offence};
-ghost use Rattle.multi_judge.specs.KnownItem.{meant_by};
-ghost use Rattle.multi_judge.specs.Run.{IsBehindCharacter};
-ghost use Rattle.multi_judge.specs.State.{IsReady, IsStateOf};
-ghost use Rattle.page_plane.specs.Plane.{BitPlane};
-ghost use Rattle.multi_layout.specs.declared.paint.Layer.{Layer};
-ghost use Rattle.multi_layout.specs.kept.AreaDrawing.{IsPageDrawn};
-ghost use Rattle.multi_layout.specs.kept.Cursors.{GoesBehind, IsBefore};
-ghost use Rattle.multi_layout.specs.kept.Passing.{IsAtStart, IsOnTheWay, IsPageSkipped, IsPassingBefore, PassesOn};
-ghost use Rattle.multi_layout.specs.kept.Settings.{IsBegun, IsMet, IsNextAt, MayMeet, PassesSettings, item_steps, met_octets, met_steps};
+ghost use Rattle.std.specs.Prelude.{◌≡◌, false, None, ℕ, ◌+◌, ◌-◌, ◌*◌, ◌<◌, ◌≤◌, ◌==◌, if◌then◌else◌, ◌⊎◌, ◌^◌, List, Some, IfSome};
+ghost use Rattle.multi_layout.specs.Prelude.{RisesBetween, IsSound, Meaning, unsized_offence, meant_by, IsReady, IsStateOf, BitPlane, Layer, IsPageDrawn, PassesTag, IsAtStart, IsOnTheWay, IsPageSkipped, IsBegun, IsMet, IsNextAt, MayMeet, PassesSettings, item_steps, met_octets, met_steps};
 
 use crate::bracket::{is_bracket, read_spelled};
 use multi_judge::{KnownItem, NextItem, Run, State, Terms, judge_tag};
@@ -41,13 +27,18 @@ impl Cursor {
         }
     }
 
-    /// Goes behind the settings from here on, and puts them into force. What stands there then is read.
-    pub(crate) fn pass_settings(&mut self, sign: &Terms<'_>, source: &mut Source<'_>) -> Begun
+    /// Goes behind the settings from here on, and puts them into force. It gives the octet there, none at the end of the string, and the
+    /// item that begins there, if all of it was read.
+    pub(crate) fn pass_settings(
+        &mut self,
+        sign: &Terms<'_>,
+        source: &mut Source<'_>,
+    ) -> (Option<u8>, Option<NextItem>)
         requires { (layer : Layer) × (page : ℕ) × (plane : BitPlane) × IsPageDrawn sign.now source.old.octets layer page self.old plane }
         ensures passed { PassesSettings sign.now source.old.octets self.old self.new }
         ensures begun { IsBegun sign.now source.old.octets self.new.at result }
         ensures on { self.old.at ≤ self.new.at }
-        ensures steps { RisesBetween source.old source.new 0 (9 * (self.new.at - self.old.at) + 1 + item_steps result.item) }
+        ensures steps { RisesBetween source.old source.new 0 (9 * (self.new.at - self.old.at) + 1 + item_steps result.1) }
     {
         let mut first = source.read(self.at);
         while let Some(octet) = first {
@@ -56,15 +47,10 @@ impl Cursor {
                     self.at += len;
                     first = source.read(self.at);
                 }
-                Met::Item(next) => {
-                    return Begun {
-                        first,
-                        item: Some(next),
-                    };
-                }
+                Met::Item(next) => return (first, Some(next)),
             }
         }
-        Begun { first, item: None }
+        (first, None)
     }
 
     /// Goes behind the page that begins here, and lays nothing out: behind the `np` that ends it, or to the end of the string.
@@ -78,116 +64,55 @@ impl Cursor {
         while let Some(first) = source.read(self.at) {
             match meet(sign, &mut self.state, source, self.at, first, None) {
                 Met::Setting(len) => self.at += len,
+                Met::Item(next) if next.item.has_place() => {
+                    self.at += next.len;
+                    // Octets that stand for themselves are passed in one reading.
+                    let font = self.state.attributes.font.number;
+                    if let Some(cells) = sign.bare.cells(source, font) {
+                        let all = Run {
+                            gap: 0,
+                            left: u64::MAX,
+                        };
+                        self.at += all.read(&cells, source, self.at, false).len;
+                    }
+                }
                 Met::Item(next) => {
-                    self.skip(sign, source, next);
+                    self.pass_tag(sign, source, next);
                     if next.item.ends_page() {
                         return;
                     }
-                    self.skip_text(sign, source);
                 }
             }
         }
     }
 
-    /// Goes behind the next item, of which this was read, and lays nothing out.
-    fn skip(&mut self, sign: &Terms<'_>, source: &mut Source<'_>, next: NextItem)
-        requires { IsPassingBefore sign.now source.old.octets next self.old }
-        ensures passed { PassesOn sign.now source.old.octets next self.old self.new }
-        ensures at { self.new.at ≡ self.old.at + next.len }
-        ensures steps { RisesBetween source.old source.new 0 1 }
-    {
-        if next.item.has_place() {
-            self.at += next.len;
-        } else {
-            self.skip_tag(sign, source, next);
-        }
-    }
-
-    /// Goes behind octets from here on that stand for themselves, as many as one reading takes, and lays nothing out.
-    fn skip_text(&mut self, sign: &Terms<'_>, source: &mut Source<'_>)
-        requires { IsOnTheWay sign.now source.old.octets self.old }
-        ensures passed { IsOnTheWay sign.now source.old.octets self.new }
-        ensures on { self.old.at ≤ self.new.at }
-        ensures state { self.new.state ≡ self.old.state }
-        ensures steps { RisesBetween source.old source.new 0 (2 * (self.new.at - self.old.at) + 3) }
-    {
-        let Some(cells) = sign.bare.cells(source, self.state.attributes.font.number) else {
-            return;
-        };
-        let all = Run {
-            gap: 0,
-            left: u64::MAX,
-        };
-        self.at += all.read(&cells, source, self.at, false).len;
-    }
-
-    /// Goes behind the next item, a tag that places nothing, and puts what it says into force. It isn't put into its callers' code, since
+    /// Goes behind the next item, a tag that was read, and puts what it says into force. It isn't put into its callers' code, since
     /// characters are many more.
     #[inline(never)]
-    fn skip_tag(&mut self, sign: &Terms<'_>, source: &mut Source<'_>, next: NextItem)
+    pub(crate) fn pass_tag(&mut self, sign: &Terms<'_>, source: &mut Source<'_>, next: NextItem)
         requires ready { IsReady self.old.state }
-        requires unplaced { has_place (meant_by next.item) ≡ false }
+        requires tag { (tag : Tag) × (next.item ≡ KnownItem.Tag tag) }
         requires fine { (items : List Meaning) × IsStateOf sign.now items self.old.state
             × (unsized_offence sign.now items (meant_by next.item) ≡ None) }
         requires room { self.old.at + next.len < 2 ^ 64 }
-        ensures passed { (items : List Meaning) → IsStateOf sign.now items self.old.state
-            → IsStateOf sign.now (items ++ meant_by next.item ∷ []) self.new.state }
+        ensures passed { PassesTag sign.now (meant_by next.item) self.old.state self.new.state }
         ensures at { self.new.at ≡ self.old.at + next.len }
         ensures steps { RisesBetween source.old source.new 0 1 }
     {
         let KnownItem::Tag(tag) = next.item else {
-            // A character is placed.
             unreachable!();
         };
-        match judge_tag(sign, &mut self.state, source, tag) {
-            Ok(()) => self.at += next.len,
+        if let Tag::NewLine(gap) = tag {
+            self.state.put_break(gap);
+            self.at += next.len;
+            return;
+        }
+        let Ok(()) = judge_tag(sign, &mut self.state, source, tag) else {
             // No item of an accepted string offends.
-            Err(_) => unreachable!(),
-        }
-    }
-
-    /// Goes behind the next item, a tag that was read.
-    pub(crate) fn pass_tag(&mut self, sign: &Terms<'_>, source: &mut Source<'_>, next: NextItem)
-        requires before { IsBefore sign.now source.old.octets next self.old }
-        requires tag { (tag : Tag) × (next.item ≡ KnownItem.Tag tag) }
-        ensures passed { GoesBehind sign.now source.old.octets next self.old self.new }
-        ensures at { self.new.at ≡ self.old.at + next.len }
-        ensures steps { RisesBetween source.old source.new 0 1 }
-    {
-        let KnownItem::Tag(tag) = next.item else {
             unreachable!();
         };
-        match tag {
-            Tag::NewLine(gap) => {
-                self.state.put_break(gap);
-                self.at += next.len;
-            }
-            _ => self.skip_tag(sign, source, next),
-        }
+        self.at += next.len;
     }
-
-    /// Goes behind the next item, a character of so many octets whose cell has this width in pixels.
-    pub(crate) fn pass_character(&mut self, number: u16, width: u8, len: usize)
-        requires { (sign : SignData) × (octets : List ℕ)
-            × IsBefore sign octets (record { item = KnownItem.Char number; len = len }) self.old }
-        ensures passed { (sign : SignData) (octets : List ℕ) → width_in sign self.old.state.attributes.font.number number ≡ Some width
-            → GoesBehind sign octets (record { item = KnownItem.Char number; len = len }) self.old self.new }
-        ensures behind { (sign : SignData) (octets : List ℕ) → width_in sign self.old.state.attributes.font.number number ≡ Some width
-            → IsBefore sign octets (record { item = KnownItem.Char number; len = len }) self.old → IsBehindCharacter self.new.state }
-        ensures at { self.new.at ≡ self.old.at + len }
-    {
-        self.state.put_character(width);
-        self.at += len;
-    }
-}
-
-/// What is read of what stands at an offset.
-#[derive(Clone, Copy)]
-pub(crate) struct Begun {
-    /// The octet there; none at the end of the string.
-    pub(crate) first: Option<u8>,
-    /// The item that begins there, if all of it was read.
-    pub(crate) item: Option<NextItem>,
 }
 
 /// What an item is that was met.
@@ -221,10 +146,8 @@ pub(crate) fn meet(
         return Met::Item(next);
     }
     if !is_bracket(first) {
-        return Met::Item(NextItem {
-            item: KnownItem::Char(u16::from(first)),
-            len: 1,
-        });
+        let item = KnownItem::Char(u16::from(first));
+        return Met::Item(NextItem { item, len: 1 });
     }
     meet_bracket(sign, state, source, at, first)
 }

@@ -1,32 +1,20 @@
 //! The drawing of a page into one plane: each area is read for the table of its lines, and then to put its cells.
 
-ghost use Rattle.std.specs.Prelude.{◌^◌, ◌≡◌, ◌≢◌, ℕ, ◌+◌, ◌-◌, ◌*◌, ◌≤◌, ◌∷◌, List, Option, IfSome, Some, slice_get, ◌==◌};
-ghost use Rattle.std.specs.Option.{unwrap_or};
-ghost use Rattle.multi_token.specs.Counted.{RisesBetween, charged};
-ghost use Rattle.multi_tag.specs.declared.just.LineJust.TheVariants.{Full};
-ghost use Rattle.sign_font.specs.Sound.{IsSound};
-ghost use Rattle.multi_meaning.specs.Drawn.{Lights};
-ghost use Rattle.multi_meaning.specs.Picture.{picture, shown_colour};
-ghost use Rattle.multi_layout.specs.Pages.{IsSized};
-ghost use Rattle.multi_layout.specs.kept.PageDrawing.{IsFilledFew, IsPagePassed, IsPageStart, IsReadTwice};
-ghost use Rattle.multi_layout.specs.kept.AreaDrawing.{DrawsOn, HasCounted, IsAreaDrawn, IsCountedBy, IsFilledBy, IsPageDrawn, IsQuiet, whole_area};
-ghost use Rattle.multi_layout.specs.kept.RunDrawing.{DrawsNext, IsNextDrawn, IsReadBehind, PlacesNext, octets_read};
-ghost use Rattle.multi_layout.specs.Limits.{plane_octets};
-ghost use Rattle.multi_layout.specs.kept.Cursors.{IsBetween, IsItemRead, IsRead, LaidItem};
-ghost use Rattle.multi_layout.specs.kept.Settings.{item_steps};
+ghost use Rattle.std.specs.Prelude.{IfSome, slice_get, ◌^◌, ◌≡◌, ◌≢◌, ℕ, ◌+◌, ◌-◌, ◌*◌, ◌≤◌, ◌∷◌, List, Option, Some};
+ghost use Rattle.multi_layout.specs.Prelude.{charged, RisesBetween, Full, Lights, picture, IsSized, IsFilledFew, IsPagePassed, IsPageStart, IsReadTwice, DrawsOn, HasCounted, IsAreaDrawn, IsFilledBy, whole_area, IsBehindCharacter, DrawsNext, DrawsRun, IsNextDrawn, IsReadBehind, IsRunDrawn, octets_read, IsBetween, IsItemRead, IsRead, LaidItem};
 
+use crate::bracket::is_bracket;
 use crate::cursor::{Cursor, Met, meet};
-use crate::draw_run::draw_run;
 use crate::paint::{Layer, put_character};
 use crate::read::{AreaLines, read_area};
-use multi_judge::{Attributes, KnownItem, LineTable, NextItem, Terms, is_full, place_at};
+use multi_judge::{KnownItem, LineTable, NextItem, Terms, is_full, place_at};
 use multi_meaning::Place;
 use multi_tag::{LineJust, Tag};
 use multi_token::Source;
 use page_plane::Plane;
 use sign_font::LineFill;
 
-/// Draws the page that begins at a cursor, with room for the lines of its areas, and goes behind it.
+/// Draws the page that begins at a cursor, with room for the lines of its areas, and goes behind it. Each area is read, and then drawn.
 pub(crate) fn draw_page(
     sign: &Terms<'_>,
     source: &mut Source<'_>,
@@ -37,8 +25,7 @@ pub(crate) fn draw_page(
 )
     requires begins { IsPageStart sign.now source.old.octets cursor.old }
     requires size { IsSized plane.old sign.now }
-    ensures drawn { Lights plane.new
-        (picture sign.now source.old.octets (cursor.old.state.pages - 1) layer.phase layer.colour) }
+    ensures drawn { Lights plane.new (picture sign.now source.old.octets (cursor.old.state.pages - 1) layer.phase layer.colour) }
     ensures passed { IsPagePassed sign.now source.old.octets cursor.old cursor.new }
     ensures size { (plane.new.width ≡ plane.old.width) × (plane.new.height ≡ plane.old.height) }
     ensures kept { source.new.octets ≡ source.old.octets }
@@ -47,7 +34,9 @@ pub(crate) fn draw_page(
 {
     plane.fill(layer.has(sign, cursor.state.attributes.back));
     loop {
-        draw_next_area(sign, source, cursor, layer, read, plane);
+        let begun = cursor.pass_settings(sign, source);
+        read_area(sign, source, cursor, begun, read);
+        draw_area(sign, source, cursor, read, layer, plane);
         let Some(next) = read.next else {
             return;
         };
@@ -56,29 +45,6 @@ pub(crate) fn draw_page(
             return;
         }
     }
-}
-
-/// Reads the area that begins at a cursor and draws it, and goes behind it.
-fn draw_next_area(
-    sign: &Terms<'_>,
-    source: &mut Source<'_>,
-    cursor: &mut Cursor,
-    layer: Layer,
-    read: &mut AreaLines,
-    plane: &mut Plane,
-)
-    requires sound { IsSound sign.now }
-    requires known { (page : ℕ) × IsPageDrawn sign.now source.old.octets layer page cursor.old plane.old }
-    requires size { IsSized plane.old sign.now }
-    ensures drawn { (page : ℕ) → IsPageDrawn sign.now source.old.octets layer page cursor.old plane.old
-        → IsAreaDrawn sign.now source.old.octets layer page read.new cursor.new plane.new }
-    ensures at { (cursor.old.at ≤ cursor.new.at) × (cursor.new.at ≡ read.new.end) }
-    ensures steps { RisesBetween source.old source.new 0 (18 * (cursor.new.at - cursor.old.at) + 1 + item_steps read.new.next) }
-    ensures fills { IsFilledBy sign.now plane.old plane.new (cursor.new.at - cursor.old.at) }
-{
-    let begun = cursor.pass_settings(sign, source);
-    read_area(sign, source, cursor, begun, read);
-    draw_area(sign, source, cursor, read, layer, plane);
 }
 
 /// Draws the items of an area from its start on, and goes behind them.
@@ -110,7 +76,7 @@ fn draw_area(
             }
             Met::Item(next) => {
                 let next = lay(sign, cursor, &read.lines, next);
-                first = draw_next(sign, source, cursor, next, read, layer, plane);
+                first = draw_item(sign, source, cursor, next, read, layer, plane);
             }
         }
     }
@@ -155,7 +121,7 @@ fn octet_at(source: &mut Source<'_>, at: usize, read: Option<u8>) -> Option<u8>
 
 /// Draws what the next item puts, and with a character those that stand beside it, and goes behind them. It gives the octet there, if it
 /// was read.
-fn draw_next(
+fn draw_item(
     sign: &Terms<'_>,
     source: &mut Source<'_>,
     cursor: &mut Cursor,
@@ -172,28 +138,6 @@ fn draw_next(
     ensures fills { IsFilledBy sign.now plane.old plane.new (cursor.new.at - cursor.old.at) }
     ensures forward { cursor.old.at + next.len ≤ cursor.new.at }
 {
-    let place = draw_item(sign, source, cursor, next, read, layer, plane)?;
-    draw_run(sign, source, cursor, place, read, layer, plane)
-}
-
-/// Draws what the next item puts, and goes behind it. It gives the place of one more character, if it is known.
-fn draw_item(
-    sign: &Terms<'_>,
-    source: &mut Source<'_>,
-    cursor: &mut Cursor,
-    next: NextItem,
-    read: &AreaLines,
-    layer: Layer,
-    plane: &mut Plane,
-) -> Option<Place>
-    requires known { (page : ℕ) × IsNextDrawn sign.now source.old.octets layer page read.now next cursor.old plane.old }
-    requires size { IsSized plane.old sign.now }
-    ensures drawn { DrawsNext sign.now source.old.octets layer read.now next cursor.old cursor.new plane.old plane.new }
-    ensures at { cursor.new.at ≡ cursor.old.at + next.len }
-    ensures steps { RisesBetween source.old source.new 0 8 }
-    ensures fills { IsFilledBy sign.now plane.old plane.new next.len }
-    ensures beside { IfSome result (PlacesNext sign.now source.old.octets layer read.now next cursor.old cursor.new plane.old plane.new) }
-{
     match next.item {
         KnownItem::Char(number) => {
             let attributes = cursor.state.attributes;
@@ -202,48 +146,77 @@ fn draw_item(
                 unreachable!();
             };
             let width = cell.width();
-            cursor.pass_character(number, width, next.len);
+            cursor.state.put_character(width);
+            cursor.at += next.len;
             let lines = read.lines.group(attributes.page_just);
-            let place = place_at(&attributes, &cursor.state.area, lines, width);
+            let mut place = place_at(&attributes, &cursor.state.area, lines, width);
             put_character(sign, &attributes, &cell, place, layer, plane);
-            beside(&attributes, place, width)
+            if let LineJust::Full = attributes.line_just {
+                return None;
+            }
+            place.column += u64::from(width) + u64::from(attributes.gap());
+            draw_run(sign, source, cursor, place, read, layer, plane)
         }
         KnownItem::Tag(tag) => {
-            draw_tag(sign, tag, layer, plane);
             cursor.pass_tag(sign, source, next);
+            if let Tag::Back(colour) = tag {
+                let colour = colour.unwrap_or(sign.defaults.back);
+                plane.fill(layer.has(sign, colour));
+            }
             None
         }
     }
 }
 
-/// The place of a character beside one with the same attributes, which stands at this place and whose cell has this width in pixels. On a
-/// full line it is none of these.
-fn beside(attributes: &Attributes, place: Place, width: u8) -> Option<Place>
-    requires low { place.column ≤ 2 ^ 62 }
-    ensures { IfSome result (λ next. (attributes.now.line_just ≢ Full) × (next.column ≤ 2 ^ 63) × (next ≡ record {
-      column = place.column + (width + unwrap_or attributes.now.spacing attributes.now.font.char_spacing);
-      row = place.row;
-    })) }
+/// Draws the characters of an area from the cursor on that stand beside one that was drawn, the first at this place, and goes behind
+/// them. It gives the octet there, if it was read. Where lines are filled it draws none.
+fn draw_run(
+    sign: &Terms<'_>,
+    source: &mut Source<'_>,
+    cursor: &mut Cursor,
+    place: Place,
+    read: &AreaLines,
+    layer: Layer,
+    plane: &mut Plane,
+) -> Option<u8>
+    requires behind { IsBehindCharacter cursor.old.state }
+    requires apart { cursor.old.state.attributes.line_just ≢ Full }
+    requires low { place.column ≤ 2 ^ 63 }
+    requires known { (page : ℕ) × IsRunDrawn sign.now source.old.octets layer page read.now place cursor.old plane.old }
+    ensures drawn { DrawsRun sign.now source.old.octets layer read.now place cursor.old cursor.new plane.old plane.new }
+    ensures next { IsReadBehind source.old.octets cursor.new.at read.now.end result }
+    ensures steps { RisesBetween source.old source.new 0 (9 * (cursor.new.at - cursor.old.at) + octets_read result) }
+    ensures fills { IsFilledBy sign.now plane.old plane.new (cursor.new.at - cursor.old.at) }
+    ensures forward { cursor.old.at ≤ cursor.new.at }
 {
-    if let LineJust::Full = attributes.line_just {
+    let LineFill::Off = sign.bare.line_fill() else {
         return None;
+    };
+    let attributes = &cursor.state.attributes;
+    let font = attributes.font.number;
+    let gap = u64::from(attributes.gap());
+    let mut here = place;
+    let mut at = cursor.at;
+    let mut next = None;
+    while at < read.end {
+        let Some(octet) = source.read(at) else {
+            // The area goes on.
+            unreachable!();
+        };
+        if is_bracket(octet) {
+            next = Some(octet);
+            break;
+        }
+        let Some(cell) = sign.bare.cell(source, font, u16::from(octet)) else {
+            // Each character of an accepted string has a cell.
+            unreachable!();
+        };
+        put_character(sign, attributes, &cell, here, layer, plane);
+        here.column += u64::from(cell.width()) + gap;
+        at += 1;
     }
-    Some(Place {
-        column: place.column + (u64::from(width) + u64::from(attributes.gap())),
-        row: place.row,
-    })
-}
-
-/// Fills the plane where a tag sets the page's background.
-fn draw_tag(sign: &Terms<'_>, tag: Tag, layer: Layer, plane: &mut Plane)
-    requires size { IsSized plane.old sign.now }
-    ensures back { (given : Option ℕ) → tag ≡ Tag.Back given
-        → Lights plane.new (λ column row. shown_colour sign.now (unwrap_or given sign.now.defaults.back) == layer.colour) }
-    ensures quiet { IsQuiet tag → plane.new ≡ plane.old }
-    ensures counted { IsCountedBy plane.old plane.new (plane_octets sign.now) }
-{
-    if let Tag::Back(colour) = tag {
-        let colour = colour.unwrap_or(sign.defaults.back);
-        plane.fill(layer.has(sign, colour));
-    }
+    let passed = (at - cursor.at) as u64;
+    cursor.state.lengthen(here.column - place.column, passed);
+    cursor.at = at;
+    next
 }

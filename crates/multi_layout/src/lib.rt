@@ -10,20 +10,16 @@ mod bracket;
 mod checked;
 mod cursor;
 mod draw;
-mod draw_run;
-mod next_page;
 mod pages;
 mod paint;
 mod read;
-mod times;
 mod verdict;
 
-pub use checked::Checked;
+pub use checked::{Checked, NextPage};
 pub use multi_meaning::{
     Shown, SyntaxError, broken_bracket_stands, keeps_breaks, one_verdict, refusal_stands,
     smaller_fits,
 };
-pub use next_page::NextPage;
 pub use pages::{PageView, Pages};
 pub use read::AreaLines;
 pub use verdict::{Fault, Judge, Offence, check, check_with};

@@ -1,24 +1,13 @@
 //! The drawing of one page of an accepted string, or of all its pages in order into one plane.
 
-ghost use Rattle.std.specs.Prelude.{◌≡◌, ◌+◌, ◌-◌, ◌*◌, ◌^◌, ◌<◌, ◌≤◌, true, false, nat_lt, length, IfSome, MatchOption};
-ghost use Rattle.std.specs.Borrow.{sem};
-ghost use Rattle.multi_token.specs.Counted.{RisesBetween};
-ghost use Rattle.multi_meaning.specs.Drawn.{Lights};
-ghost use Rattle.multi_meaning.specs.Meaning.{meanings};
-ghost use Rattle.multi_meaning.specs.Picture.{picture, pixel_at};
-ghost use Rattle.multi_meaning.specs.Times.{shown};
-ghost use Rattle.multi_layout.specs.Limits.{check_limit, drawing_limit, plane_limit, reading_limit};
-ghost use Rattle.multi_layout.specs.Pages.{IsSized, ShowsAt, TakesFew, page_count};
-ghost use Rattle.multi_layout.specs.kept.PageDrawing.{IsPageStart};
-ghost use Rattle.multi_layout.specs.kept.Told.{IsToldOf};
+ghost use Rattle.std.specs.Prelude.{◌≡◌, ◌+◌, ◌-◌, ◌*◌, ◌<◌, ◌≤◌, true, false, nat_lt, length, IfSome, MatchOption};
+ghost use Rattle.multi_layout.specs.Prelude.{sem, RisesBetween, Lights, meanings, picture, pixel_at, shown, check_limit, drawing_limit, plane_limit, reading_limit, IsSized, ShowsAt, TakesFew, page_count, IsToldOf, IsUnderWay, PagesState, pages_state};
 
-use crate::checked::{Checked, Told};
+use crate::checked::{Checked, NextPage, Told, find_shown};
 use crate::cursor::Cursor;
 use crate::draw::draw_page;
-use crate::next_page::NextPage;
 use crate::paint::Layer;
 use crate::read::AreaLines;
-use crate::times::find_shown;
 use multi_judge::Terms;
 use multi_meaning::Shown;
 use multi_token::Source;
@@ -52,34 +41,15 @@ pub struct Pages<'a> {
 }
 
 impl<'a> Model for Pages<'a> {
-    ghost use Rattle.multi_layout.specs.Pages.{PagesState, IsUnderWay};
-
     ghost Value = { PagesState };
 
-    ghost view = { λ p. record {
-      string = p.string;
-      plane = p.plane;
-      phase = p.layer.phase;
-      colour = p.layer.colour;
-      next = p.next;
-      string_started = p.string_started;
-      plane_started = p.plane_started;
-    } };
+    ghost view = { λ p. pages_state p.string p.plane p.layer.phase p.layer.colour p.next p.string_started p.plane_started };
 
-    ghost invariant = { λ p. IsUnderWay (record {
-      string = p.string;
-      plane = p.plane;
-      phase = p.layer.phase;
-      colour = p.layer.colour;
-      next = p.next;
-      string_started = p.string_started;
-      plane_started = p.plane_started;
-    }) p.start.cursor };
+    ghost invariant = { λ p. IsUnderWay
+        (pages_state p.string p.plane p.layer.phase p.layer.colour p.next p.string_started p.plane_started) p.start.cursor };
 }
 
 impl<'a> Checked<'a> {
-    ghost use Rattle.multi_layout.specs.Pages.{PagesState};
-
     /// Draws one page in one colour at a phase: the plane gets the pixels of the page that have the colour then.
     ///
     /// Pages are counted from 0. The phase is the time since the page began, in tenths of a second. A colour is 0 to 255. The
@@ -101,7 +71,11 @@ impl<'a> Checked<'a> {
         if page >= self.told.pages {
             return false;
         }
-        let cursor = page_start(&self.terms, &mut self.source, page);
+        let (sign, source) = (&self.terms, &mut self.source);
+        let mut cursor = Cursor::new(sign);
+        while cursor.state.pages <= page {
+            cursor.pass_page(sign, source);
+        }
         let mut next = NextPage { cursor };
         self.draw_next(&mut next, phase, colour, &mut AreaLines::new(), plane);
         true
@@ -191,20 +165,6 @@ pub(crate) fn draw_told(
     shown
 }
 
-/// The cursor where a page begins, read from the front of the string.
-fn page_start(sign: &Terms<'_>, source: &mut Source<'_>, page: u8) -> Cursor
-    requires known { (told : Told) × IsToldOf sign.now source.old.octets told × (page < told.pages) }
-    ensures begins { IsPageStart sign.now source.old.octets result }
-    ensures page { result.state.pages ≡ page + 1 }
-    ensures steps { RisesBetween source.old source.new 0 (9 * result.at) }
-{
-    let mut cursor = Cursor::new(sign);
-    while cursor.state.pages <= page {
-        cursor.pass_page(sign, source);
-    }
-    cursor
-}
-
 impl<'a> Pages<'a> {
     ghost use Rattle.multi_layout.specs.Lending.{TurnedAfter};
 
@@ -222,13 +182,9 @@ impl<'a> Pages<'a> {
         if page >= self.string.pages() {
             return None;
         }
-        self.string.draw_next(
-            &mut self.start,
-            self.layer.phase,
-            self.layer.colour,
-            &mut self.lines,
-            &mut self.plane,
-        );
+        let Layer { phase, colour } = self.layer;
+        let (start, lines, plane) = (&mut self.start, &mut self.lines, &mut self.plane);
+        self.string.draw_next(start, phase, colour, lines, plane);
         self.next = page + 1;
         Some(PageView {
             page,
@@ -255,8 +211,7 @@ impl<'a> Pages<'a> {
         ensures size { IsSized self.entry.plane self.entry.string.sign }
         ensures read { (self.entry.string_started ≤ self.entry.string.source.steps)
             × (self.entry.string.source.steps ≤ self.entry.string_started + reading_limit (length self.entry.string.source.octets)) }
-        ensures drawn { (self.entry.plane_started ≤ self.entry.plane.steps)
-            × (self.entry.plane.steps
+        ensures drawn { (self.entry.plane_started ≤ self.entry.plane.steps) × (self.entry.plane.steps
             ≤ self.entry.plane_started + plane_limit self.entry.string.sign (length self.entry.string.source.octets)) }
     {
         let Pages { string, plane, .. } = self;

@@ -1,12 +1,7 @@
 //! What a plane shows of a page: the pixels of one colour at one phase.
 
-ghost use Rattle.std.specs.Prelude.{◌≡◌, ℕ, ◌+◌, ◌-◌, ◌<◌, ◌&&◌, ◌==◌, nat_le, nat_lt, if◌then◌else◌};
-ghost use Rattle.page_plane.specs.Plane.{is_lit};
-ghost use Rattle.sign_font.specs.Cell as cells;
-ghost use Rattle.sign_font.specs.Sound.{IsSound, IsSoundSize};
-ghost use Rattle.multi_meaning.specs.Picture.{is_lit_at, shown_colour};
-ghost use Rattle.multi_layout.specs.kept.AreaDrawing.{IsCountedBy};
-ghost use Rattle.multi_layout.specs.kept.RunDrawing.{DrawsCharacter};
+ghost use Rattle.std.specs.Prelude.{◌≡◌, ◌==◌};
+ghost use Rattle.multi_layout.specs.Prelude.{IsSound, IsSoundSize, is_lit_at, shown_colour, IsCountedBy, DrawsCharacter};
 
 use multi_judge::{Attributes, Terms};
 use multi_meaning::{FlashTimes, Place};
@@ -26,11 +21,8 @@ impl Layer {
         ensures colour { result ≡ (shown_colour sign.now colour == self.now.colour) }
         ensures sound { IsSound sign.now }
     {
-        let shown = if sign.bare.classic() {
-            colour
-        } else {
-            colour.min(1)
-        };
+        let classic = sign.bare.classic();
+        let shown = if classic { colour } else { colour.min(1) };
         shown == self.colour
     }
 
@@ -54,7 +46,8 @@ impl Layer {
     }
 }
 
-/// Puts the cell of a character with these attributes at its place, if it is lit.
+/// Puts the cell of a character with these attributes at its place, if it is lit: where a bit of the cell is set the pixel becomes on or
+/// off by the colour, and every other stays. What would lie beside the plane is cut off. It takes at most one step for each row.
 pub(crate) fn put_character(
     sign: &Terms<'_>,
     attributes: &Attributes,
@@ -67,22 +60,11 @@ pub(crate) fn put_character(
     ensures drawn { DrawsCharacter sign.now layer attributes.now cell.now place plane.old plane.new }
     ensures counted { IsCountedBy plane.old plane.new cell.now.height }
 {
-    if layer.is_lit(attributes.flash) {
-        let on = layer.has(sign, attributes.fore);
-        put_cell(cell, place.column, place.row, on, plane);
+    if !layer.is_lit(attributes.flash) {
+        return;
     }
-}
-
-/// Puts a cell's pixels on a plane, its upper left one at this column and row: where a bit of the cell is set
-/// the pixel becomes `on`, and every other stays. What would lie beside the plane is cut off. It takes at most
-/// one step for each row of the cell.
-fn put_cell(cell: &Cell<'_>, column: u64, row: u64, on: bool, plane: &mut Plane)
-    requires size { IsSoundSize cell.now }
-    ensures pixels { (x y : ℕ) → x < plane.old.width → y < plane.old.height
-        → is_lit plane.new x y ≡ (if nat_le column x && nat_le row y && nat_lt y (row + cell.now.height)
-        && cells.is_lit cell.now (x - column) (y - row) then on else is_lit plane.old x y) }
-    ensures counted { IsCountedBy plane.old plane.new cell.now.height }
-{
+    let on = layer.has(sign, attributes.fore);
+    let (column, row) = (place.column, place.row);
     let (columns, rows) = (u64::from(plane.width()), u64::from(plane.height()));
     if column >= columns || row >= rows {
         return;

@@ -1,23 +1,10 @@
 //! The first reading of an area, for the table of its lines.
 
 ghost use Rattle.std.specs.Prelude.{◌≡◌, ℕ, ◌+◌, ◌-◌, ◌*◌, ◌^◌, ◌≤◌, ◌<◌, [], List, Some, length, slice_get, true, false, if◌then◌else◌};
-ghost use Rattle.multi_token.specs.Counted.{RisesBetween, charged};
+ghost use Rattle.multi_layout.specs.Prelude.{RisesBetween, charged, page_number, IsSound, begins_area, has_place, Char, EndsGroup, GoesOn, IsNextRead, IsReadOf, KnowsArea, KnowsOn, ReadsOn, IsOctet, meant_by, fill_of, IsBehindCharacter, BeginsArea, ReadsArea, next_group, IsLimited, IsReady, IsBelow, group_lines, IsBegun, item_steps};
 ghost use Rattle.multi_token.specs.Spelling as spelled;
-ghost use Rattle.multi_tag.specs.Just.{page_number};
-ghost use Rattle.sign_font.specs.Sound.{IsSound};
-ghost use Rattle.multi_meaning.specs.Meaning.{begins_area, has_place};
-ghost use Rattle.multi_judge.specs.declared.item.KnownItem.TheVariants.{Char};
-ghost use Rattle.multi_layout.specs.kept.AreaReading.{EndsGroup, GoesOn, IsNextRead, IsReadOf, KnowsArea, KnowsOn, ReadsOn};
-ghost use Rattle.multi_judge.specs.KnownItem.{IsOctet, meant_by};
-ghost use Rattle.multi_judge.specs.PassState.{fill_of};
-ghost use Rattle.multi_judge.specs.Run.{IsBehindCharacter};
-ghost use Rattle.multi_layout.specs.kept.AreaDrawing.{BeginsArea, ReadsArea, next_group};
-ghost use Rattle.multi_judge.specs.State.{IsLimited, IsReady};
-ghost use Rattle.multi_judge.specs.Sums.{IsBelow};
-ghost use Rattle.multi_judge.specs.Table.{group_lines};
-ghost use Rattle.multi_layout.specs.kept.Settings.{IsBegun, item_steps};
 
-use crate::cursor::{Begun, Cursor, Met, meet};
+use crate::cursor::{Cursor, Met, meet};
 use multi_judge::{
     Area, CountedLine, KnownItem, LineTable, NextItem, Pass, State, Terms, go_along,
 };
@@ -52,16 +39,16 @@ pub(crate) fn read_area(
     sign: &Terms<'_>,
     source: &mut Source<'_>,
     cursor: &Cursor,
-    begun: Begun,
+    begun: (Option<u8>, Option<NextItem>),
     read: &mut AreaLines,
 )
     requires sound { IsSound sign.now }
     requires begun { IsBegun sign.now source.old.octets cursor.now.at begun }
     requires begins { BeginsArea sign.now source.old.octets cursor.now }
     ensures read { ReadsArea sign.now source.old.octets cursor.now read.new }
-    ensures known { item_steps begun.item ≤ 9 * (read.new.end - cursor.now.at) + item_steps read.new.next }
+    ensures known { item_steps begun.1 ≤ 9 * (read.new.end - cursor.now.at) + item_steps read.new.next }
     ensures steps { RisesBetween source.old source.new 0
-        (9 * (read.new.end - cursor.now.at) + item_steps read.new.next - item_steps begun.item) }
+        (9 * (read.new.end - cursor.now.at) + item_steps read.new.next - item_steps begun.1) }
 {
     read.lines.clear();
     match sign.bare.line_fill() {
@@ -75,7 +62,7 @@ fn read_lines<const WORDS: bool>(
     sign: &Terms<'_>,
     source: &mut Source<'_>,
     cursor: &Cursor,
-    begun: Begun,
+    begun: (Option<u8>, Option<NextItem>),
     read: &mut AreaLines,
 )
     requires sound { IsSound sign.now }
@@ -84,14 +71,13 @@ fn read_lines<const WORDS: bool>(
     requires none { (just : ℕ) → group_lines just read.old.lines ≡ [] }
     requires begins { BeginsArea sign.now source.old.octets cursor.now }
     ensures read { ReadsArea sign.now source.old.octets cursor.now read.new }
-    ensures known { item_steps begun.item ≤ 9 * (read.new.end - cursor.now.at) + item_steps read.new.next }
+    ensures known { item_steps begun.1 ≤ 9 * (read.new.end - cursor.now.at) + item_steps read.new.next }
     ensures steps { RisesBetween source.old source.new 0
-        (9 * (read.new.end - cursor.now.at) + item_steps read.new.next - item_steps begun.item) }
+        (9 * (read.new.end - cursor.now.at) + item_steps read.new.next - item_steps begun.1) }
 {
     let mut at = cursor.at;
     let mut kept = Pass::new(cursor.state);
-    let mut first = begun.first;
-    let mut item = begun.item;
+    let (mut first, mut item) = begun;
     loop {
         let Some(octet) = first else {
             end_area(read, &kept.state.area, at, None);

@@ -1,15 +1,7 @@
 //! The verdict on a string, in one reading from the left with running sums.
 
-ghost use Rattle.std.specs.Prelude.{◌≡◌, ℕ, ◌+◌, ◌*◌, ◌^◌, ◌<◌, ◌≤◌, [], length, IfOk, IfErr, OnOk, OnErr, None, Some};
-ghost use Rattle.sign_font.specs.Defaults.{default_fault, under};
-ghost use Rattle.sign_font.specs.Sign.{SignData};
-ghost use Rattle.multi_meaning.specs.Codes.{code_of};
-ghost use Rattle.multi_meaning.specs.Verdict.{Accepted, IsVerdict, Refused};
-ghost use Rattle.multi_layout.specs.Limits.{check_limit, reading_limit};
-ghost use Rattle.multi_layout.specs.Pages.{IsSized, ShowsAt, TakesFew};
-ghost use Rattle.multi_layout.specs.kept.Told.{IsRefused, IsTold};
-ghost use Rattle.multi_judge.specs.Judging.{IsAt};
-ghost use Rattle.multi_judge.specs.PassState.{IsPassOf, fill_of};
+ghost use Rattle.std.specs.Prelude.{◌≡◌, ℕ, ◌+◌, ◌*◌, ◌^◌, ◌<◌, ◌≤◌, [], length, IfOk, IfErr, OnOk, OnErr, None};
+ghost use Rattle.multi_layout.specs.Prelude.{default_fault, under, SignData, code_of, Accepted, IsVerdict, Refused, check_limit, reading_limit, IsSized, ShowsAt, TakesFew, IsRefused, IsTold, IsAt, IsPassOf};
 
 use crate::bracket::{is_bracket, read_spelled};
 use crate::checked::{Checked, Told};
@@ -45,12 +37,8 @@ pub fn check<'a>(sign: &'a Sign, source: Source<'a>) -> Result<Checked<'a>, Faul
     requires short { length source.octets < 2 ^ 32 }
     ensures accepted { IfOk result (λ checked. (pages : ℕ) × IsVerdict sign.now source.entry.octets (Accepted pages)) }
     ensures refused { IfErr result (λ fault. IsVerdict sign.now source.entry.octets (Refused fault.code fault.at)) }
-
-    // what was handed in comes back
     ensures kept { IfOk result (λ checked. (checked.sign ≡ sign.now) × (checked.source.octets ≡ source.entry.octets)) }
     ensures given_back { IfErr result (λ fault. fault.source.octets ≡ source.entry.octets) }
-
-    // and the steps that were taken
     ensures steps { IfOk result (λ checked. (length source.entry.octets + 1 ≤ checked.source.steps)
         × (checked.source.steps ≤ check_limit (length source.entry.octets))) }
     ensures fault_steps { IfErr result (λ fault. (fault.at + 1 ≤ fault.source.steps)
@@ -78,12 +66,8 @@ pub fn check_with<'a>(
     requires short { length source.octets < 2 ^ 32 }
     ensures accepted { IfOk result (λ checked. (pages : ℕ) × IsVerdict (under sign.now defaults) source.entry.octets (Accepted pages)) }
     ensures refused { IfErr result (λ fault. IsVerdict (under sign.now defaults) source.entry.octets (Refused fault.code fault.at)) }
-
-    // what was handed in comes back
     ensures kept { IfOk result (λ checked. (checked.sign ≡ under sign.now defaults) × (checked.source.octets ≡ source.entry.octets)) }
     ensures given_back { IfErr result (λ fault. fault.source.octets ≡ source.entry.octets) }
-
-    // and the steps that were taken
     ensures steps { IfOk result (λ checked. (length source.entry.octets + 1 ≤ checked.source.steps)
         × (checked.source.steps ≤ check_limit (length source.entry.octets))) }
     ensures fault_steps { IfErr result (λ fault. (fault.at + 1 ≤ fault.source.steps)
@@ -147,10 +131,7 @@ impl<'a> Judge<'a> {
         ensures fault_steps { IfErr result (λ offence. offence.at + 1 ≤ source.new.steps) }
         ensures most { source.new.steps ≤ check_limit (length source.old.octets) }
     {
-        match judge_string(&self.terms, source) {
-            Ok(told) => Ok(told.pages),
-            Err(offence) => Err(offence),
-        }
+        Ok(judge_string(&self.terms, source)?.pages)
     }
 
     /// Draws what a string that the sign accepts shows at a clock, and tells it; else the first error, and the plane stays. It is judged
@@ -177,13 +158,9 @@ impl<'a> Judge<'a> {
         ensures most { source.new.steps ≤ 2 * check_limit (length source.old.octets) + reading_limit (length source.old.octets) }
         ensures plane_steps { TakesFew self.now (length source.old.octets) plane.old plane.new }
     {
-        match judge_string(&self.terms, source) {
-            Ok(told) => {
-                let sign = &self.terms;
-                Ok(draw_told(sign, source, told, clock, colour, lines, plane))
-            }
-            Err(offence) => Err(offence),
-        }
+        let told = judge_string(&self.terms, source)?;
+        let sign = &self.terms;
+        Ok(draw_told(sign, source, told, clock, colour, lines, plane))
     }
 }
 
@@ -195,31 +172,19 @@ fn judge_string(sign: &Terms<'_>, source: &mut Source<'_>) -> Result<Told, Offen
     ensures told { IfOk result (λ told. IsTold sign.now source.old.octets told.pages told.cycle source.new) }
     ensures refused { IfErr result (λ offence. IsRefused sign.now source.old.octets offence source.new) }
 {
-    match sign.bare.line_fill() {
-        LineFill::Off => judge_all::<false>(sign, source),
-        LineFill::Words => judge_all::<true>(sign, source),
-    }
-}
-
-/// The same for lines of one kind: filled or not. What is kept is made here, so that no more of it is than that kind reads.
-#[inline(always)]
-fn judge_all<const WORDS: bool>(sign: &Terms<'_>, source: &mut Source<'_>) -> Result<Told, Offence>
-    requires kind { sign.now.line_fill ≡ fill_of WORDS }
-    requires fresh { source.old.steps ≡ 0 }
-    requires short { length source.old.octets < 2 ^ 32 }
-    ensures told { IfOk result (λ told. IsTold sign.now source.old.octets told.pages told.cycle source.new) }
-    ensures refused { IfErr result (λ offence. IsRefused sign.now source.old.octets offence source.new) }
-{
     let mut pass = Pass::new(State::new(sign));
-    judge_items::<WORDS>(sign, &mut pass, source)?;
+    match sign.bare.line_fill() {
+        LineFill::Off => judge_items::<false>(sign, &mut pass, source)?,
+        LineFill::Words => judge_items::<true>(sign, &mut pass, source)?,
+    }
     Ok(Told {
         pages: pass.state.pages,
         cycle: pass.state.whole_cycle(),
     })
 }
 
-/// Judges the items of a string from the first on. The pass stays where its caller has it, since in registers there are too few places
-/// for it.
+/// Judges the items of a string from the first on: an item that begins with a bracket, or a character and those behind it that only
+/// lengthen its line. The pass stays where its caller has it, since in registers there are too few places for it.
 #[inline(never)]
 fn judge_items<const WORDS: bool>(
     sign: &Terms<'_>,
@@ -235,54 +200,26 @@ fn judge_items<const WORDS: bool>(
     let mut at = 0;
     let mut next = source.read(at);
     while let Some(first) = next {
-        let begins = at;
-        match judge_from::<WORDS>(sign, pass, source, &mut at, first) {
-            Ok(octet) => next = octet,
-            Err(error) => return Err(Offence { error, at: begins }),
+        if is_bracket(first) {
+            let spelled = match read_spelled(source, at, first) {
+                Ok(spelled) => spelled,
+                Err(error) => return Err(Offence { error, at }),
+            };
+            if let Err(error) = pass.judge_item::<WORDS>(sign, source, spelled.item) {
+                return Err(Offence { error, at });
+            }
+            at += spelled.len;
+            next = source.read(at);
+        } else {
+            let Some(cells) = sign.bare.cells(source, pass.state.attributes.font.number) else {
+                // The font in force is one of the sign's.
+                unreachable!();
+            };
+            if let Err(error) = pass.judge_octet::<WORDS>(&cells, source, first) {
+                return Err(Offence { error, at });
+            }
+            (at, next) = judge_run::<WORDS>(sign, &cells, pass, source, at + 1);
         }
     }
     Ok(())
-}
-
-/// Judges what begins with this octet at an offset, which was read: an item that begins with a bracket, or a character and those
-/// behind it that only lengthen its line. It goes behind them, and gives the octet read there.
-#[inline(always)]
-fn judge_from<const WORDS: bool>(
-    sign: &Terms<'_>,
-    pass: &mut Pass,
-    source: &mut Source<'_>,
-    at: &mut usize,
-    first: u8,
-) -> Result<Option<u8>, SyntaxError>
-    requires short { length source.old.octets < 2 ^ 32 }
-    requires at { IsAt sign.now source.old.octets at.old (Some first) (IsPassOf WORDS sign.now pass.old) source.old }
-    ensures further { OnOk result (at.old < at.new) }
-    ensures at { IfOk result (λ next. IsAt sign.now source.old.octets at.new next (IsPassOf WORDS sign.now pass.new) source.new) }
-    ensures refused { IfErr result (λ error. IsRefused sign.now source.old.octets (record { error = error; at = at.old }) source.new) }
-{
-    if is_bracket(first) {
-        let spelled = match read_spelled(source, *at, first) {
-            Ok(spelled) => spelled,
-            Err(error) => return Err(error),
-        };
-        return match pass.judge_item::<WORDS>(sign, source, spelled.item) {
-            Ok(()) => {
-                *at += spelled.len;
-                Ok(source.read(*at))
-            }
-            Err(error) => Err(error),
-        };
-    }
-    let Some(cells) = sign.bare.cells(source, pass.state.attributes.font.number) else {
-        // The font in force is one of the sign's.
-        unreachable!();
-    };
-    match pass.judge_octet::<WORDS>(&cells, source, first) {
-        Ok(()) => {
-            let (behind, next) = judge_run::<WORDS>(sign, &cells, pass, source, *at + 1);
-            *at = behind;
-            Ok(next)
-        }
-        Err(error) => Err(error),
-    }
 }

@@ -1,8 +1,5 @@
 -- One more character breaks its line at an earlier space: the items before it are laid out as they were, but that space.
-use Rattle.multi_meaning.proofs.Common.{◌≡◌, ◌⊎◌, inl, inr, ℕ, ◌<◌, ◌≤◌, Bool, true, false, cond, List, [], ◌∷◌, ◌++◌, length, take, Some, None, refl, sym, ap, ◌∙◌, arith, append_assoc, append-nil, length-append, slice_index_or, option_map, map, Option, subst, AllPass, count_by, All, take-append_seam, cases_Bool, cases_eq, get_or_append_left, get_or_at, length_push, All-head, All-cons, sum_by-append, NewLine, page_number, Defaults, LineFill, Words, Off, SignData, CellData, cell_numbered, Glyph, Put, Spot, Standing, is_break, is_glyph, put_at, spots, standing, group_of, dropped, filled, is_space, CutAt, cut_at_last, laid_spot, fill_at, laid_items, laid_of, Does, Meaning, Shows, meaning, each_after, line_fits, IsPlacing}
-use Rattle.std.proofs.lemmas.Bool.{eqb-true}
-use Rattle.std.proofs.lemmas.List.{set_at, get_or-set_other}
-use Rattle.std.proofs.lemmas.List.Sums.{length-filter}
+use Rattle.multi_meaning.proofs.Common.{◌≡◌, ◌⊎◌, inl, inr, ℕ, ◌<◌, ◌≤◌, Bool, true, false, cond, List, [], ◌∷◌, ◌++◌, length, Some, None, refl, sym, ap, ◌∙◌, arith, append_assoc, append-nil, length-append, slice_index_or, option_map, map, Option, subst, AllPass, count_by, All, take-append_seam, cases_Bool, get_or_append_left, get_or_at, length_push, All-head, All-cons, sum_by-append, NewLine, page_number, LineFill, Words, Off, SignData, CellData, cell_numbered, Glyph, Spot, is_break, is_glyph, put_at, spots, standing, group_of, dropped, filled, is_space, CutAt, cut_at_last, laid_spot, fill_at, laid_items, laid_of, Does, Meaning, Shows, meaning, each_after, line_fits, IsPlacing, set_at, get_or-set_other, length-filter}
 use Rattle.multi_tag.proofs.JustLemmas.{same_page_just}
 use Rattle.multi_meaning.proofs.GroupLemmas.{found_cell, glyph_put, glyphs_around, spaces_is}
 use Rattle.multi_meaning.proofs.LaidItemLemmas.{HasFill, group_laid, group_whole, has_place, is_member, laid_as, member_at, members, members_push, own_member, there, whole_length, are_laid, among, other_leaves, same_fill, with_it, members_placing, laid_nothing, laid_placing, laid_tag}
@@ -12,15 +9,10 @@ use Rattle.multi_meaning.proofs.WordLemmas.{cases_Option, each_after_push, front
 use Rattle.multi_meaning.specs.FillLaw.{KeepsBreaks}
 use Rattle.multi_meaning.proofs.RoomLemmas.{OpenLinesFit, open_lines_fit}
 
--- an item that puts a space shows 32
-pub space_shown : (defaults : Defaults) (here : Standing) (x : Meaning) (put : Put) → put_at defaults here x ≡ Some put → is_space (record { at = here; put = put }) ≡ true → x ≡ Shows 32
-space_shown defaults here x put e space = grind (arith, found_cell)
-
 -- a list with another item in one place, and more behind it, is the same in every other place
 get_other : (xs ys zs : List Spot) (a b d : Spot) (n : ℕ) → (n ≡ length xs → ⊥) → n < length (xs ++ a ∷ ys) → slice_index_or (xs ++ b ∷ (ys ++ zs)) n d ≡ slice_index_or (xs ++ a ∷ ys) n d
 get_other xs ys zs a b d n other within =
-    ap (λ l. slice_index_or l n d) (sym (set_at xs a (ys ++ zs) b (length xs) refl)) ∙ get_or-set_other (xs ++ a ∷ (ys ++ zs)) (length xs) n b d other
-    ∙ ap (λ l. slice_index_or l n d) (sym (append_assoc xs (a ∷ ys) zs)) ∙ get_or_append_left (xs ++ a ∷ ys) zs d n within
+    grind (arith, set_at xs a (ys ++ zs) b (length xs) refl, get_or-set_other (xs ++ a ∷ (ys ++ zs)) (length xs) n b d other, append_assoc xs (a ∷ ys) zs, get_or_append_left (xs ++ a ∷ ys) zs d n within)
 
 -- one more item breaks a line: all items are laid out as they were, but one space on the line of the new one
 abbrev pub BreaksLine : LineFill → SignData → List Meaning → Meaning → Type 0
@@ -90,42 +82,27 @@ module _ (sign : SignData) (items : List Meaning) (number : ℕ) (cell : CellDat
 
     one_item : (some behind : List Meaning) (x : Meaning) → items ≡ some ++ x ∷ behind → Stays some x ⊎ Breaks some x
     one_item some behind x is = elim (cases_Option (put_at sign.defaults (standing sign some) x)) [
-      | inl none ↦ let n = ap (λ l. length (own l)) (spots_nothing sign some x none) in
-          inl (record { same' = rw none refl; least = omega (arith, n); most = λ h. omega (arith, h, n) })
+      | inl none ↦ grind (arith, none, spots_nothing sign some x none)
       | inr (put, puts) ↦
           let t : Spot = record { at = standing sign some; put = put } in
           let front = spots sign some in
           let rest = spots_behind sign (some ++ x ∷ []) behind in
           let split : all ≡ front ++ t ∷ rest = ap (spots sign) is ∙ spots_with sign some x behind put puts in
           let longer = ap (λ l. l ++ s ∷ []) split ∙ append_assoc front (t ∷ rest) (s ∷ []) in
-          let shown = λ (y z : Spot) (e : y ≡ z). ap (λ y. laid_of x (Some y)) e in
-          let count_is = λ (b : Bool) (e : is_own t ≡ b). ap (λ l. length (own l)) (spots_more sign some x put puts)
-          ∙ ap length (members_push s.at.area (page_number s.at.page_just) front t b e) in
+          let grows = spots_more sign some x put puts in
+          let own_grows = members_push s.at.area (page_number s.at.page_just) front t in
           elim (cases_Bool (is_own t)) [
-            | inr apart ↦
-                let n = count_is false apart ∙ ap length (append-nil (own front)) in
-                inl (record { same' = rw puts (shown _ _ (other_leaves Words all s front t apart)); least = omega (arith, n); most = λ h. omega (arith, h, n) })
+            | inr apart ↦ grind (arith, puts, grows, own_grows false apart, append-nil, other_leaves Words all s front t apart)
             | inl m ↦
-                let n = count_is true m ∙ length_push (own front) t in
                 let within = has_place all s.at.area (page_number s.at.page_just) front rest t split m in
-                let old_at = there Words all s.at.area (page_number s.at.page_just) (Some width) same front rest t split m
-                ∙ ap (λ l. slice_index_or l (length (own front)) t) old in
+                let old_at = there Words all s.at.area (page_number s.at.page_just) (Some width) same front rest t split m in
                 let new_at = laid_new front (rest ++ s ∷ []) t longer m in
-                elim (cases_eq (length (own front)) (length closed)) [
-                  | inr other ↦
-                      let stays = new_at ∙ get_other closed open' (s ∷ []) space (dropped space) t (length (own front)) other
-                      (omega (arith, within, size)) ∙ sym old_at in
-                      inl (record { same' = rw puts (shown _ _ stays); least = omega (arith, n); most = λ h. omega (arith, h, n, other) })
-                  | inl e ↦
-                      let old_is = old_at ∙ get_or_at closed space open' t (length (own front)) (sym e) in
-                      let new_is = new_at ∙ get_or_at closed (dropped space) (open' ++ s ∷ []) t (length (own front)) (sym e) in
-                      let is_t : is_space t ≡ true = grind (arith, laid_as Words all front rest t split, old_is, is_sp) in
-                      let (area, just) = member_at s.at.area (page_number s.at.page_just) t m in
-                      let next : length closed < count (some ++ x ∷ []) = omega (arith, n, e) in
-                      let was = shown _ _ old_is ∙ rw (glyph_put space.at space.put (All-head (λ x. is_glyph x ≡ true) space open' glyphs)).0
-                      (space_shown sign.defaults (standing sign some) x put puts is_t) in
-                      inr (record { place = e; next = next; area = area; just = just; was = rw puts was; ends = rw puts (shown _ _ new_is) })
-                ]
+                let get_other' = get_other closed open' (s ∷ []) space (dropped space) t (length (own front)) in
+                let All_head' = All-head (λ x. is_glyph x ≡ true) space open' glyphs in
+                let member_at' = member_at s.at.area (page_number s.at.page_just) t m in
+                let found_cell' = found_cell (standing sign some).font.cells in
+                let laid_as' = laid_as Words all front rest t split in
+                grind (arith, puts, grows, own_grows true m, length_push, within, size, old, old_at, new_at, get_other', get_or_at, laid_as', is_sp, member_at', glyph_put, All_head', found_cell')
           ]
     ]
 
@@ -145,42 +122,13 @@ module _ (sign : SignData) (items : List Meaning) (number : ℕ) (cell : CellDat
     SoFar some = ((count some ≤ length closed) × (each_after after' some ≡ each_after before' some)) ⊎ Broken some
 
     one_more : (some behind : List Meaning) (x : Meaning) → items ≡ some ++ x ∷ behind → SoFar some → SoFar (some ++ x ∷ [])
-    one_more some behind x is so_far =
-        let before = each_after_push before' some x in
-        let after = each_after_push after' some x in
-        elim (one_item some behind x is) [
-          | inl stays ↦ elim so_far [
-            | inl (early, alike) ↦ inl (stays.most early, after ∙ (λ i. alike i ++ stays.same' i ∷ []) ∙ sym before)
-            | inr b ↦ inr (record {
-              late = omega (arith, b.late, stays.least);
-              front = b.front;
-              item = b.item;
-              more = b.more ++ x ∷ [];
-              behind = b.behind ++ before' some x ∷ [];
-              is = ap (λ l. l ++ x ∷ []) b.is ∙ append_assoc b.front (b.item ∷ b.more) (x ∷ []);
-              breaks = b.breaks;
-              was_all = before ∙ ap (λ l. l ++ before' some x ∷ []) b.was_all
-                  ∙ append_assoc (each_after before' b.front) (Shows 32 ∷ b.behind) (before' some x ∷ []);
-              are = after ∙ (λ i. b.are i ++ stays.same' i ∷ []) ∙ append_assoc (each_after before' b.front) (Does (NewLine None) ∷ b.behind)
-                  (before' some x ∷ []);
-            })
-          ]
-          | inr breaks ↦ elim so_far [
-            | inl (early, alike) ↦
-                let was = before ∙ ap (λ y. each_after before' some ++ y ∷ []) breaks.was in
-                let are = after ∙ (λ i. alike i ++ breaks.ends i ∷ []) in
-                inr (record { late = breaks.next; front = some; item = x; more = []; behind = []; is = refl; breaks = breaks; was_all = was; are = are })
-            | inr b ↦ absurd (omega (arith, b.late, breaks.place))
-          ]
-        ]
+    one_more some behind x is so_far = grind (arith, each_after_push before' some x, each_after_push after' some x, one_item some behind x is, append_assoc)
 
     is_broken : Broken items
     unfolding spots
-    is_broken = elim (front_ind items SoFar (inl (omega arith, refl)) (λ some more x is h. one_more some more x is h) items []
-        (sym (append-nil items))) [
-          | inl (early, alike) ↦ absurd (omega (arith, early, size, length-append closed (space ∷ open')))
-          | inr b ↦ b
-        ]
+    is_broken =
+        let front_ind' = front_ind items SoFar (inl (omega arith, refl)) (λ some more x is h. one_more some more x is h) items [] (sym (append-nil items)) in
+        grind (arith, front_ind', size, length-append closed (space ∷ open'))
 
     -- the character itself stands
     last_stands : after' items (Shows number) ≡ Shows number
@@ -192,28 +140,16 @@ module _ (sign : SignData) (items : List Meaning) (number : ℕ) (cell : CellDat
     breaks_line =
         let b = is_broken in
         let front = each_after before' b.front in
-        let old_items = laid_items Words sign items items in
         let here = are_laid Words sign items b.front (b.item ∷ b.more) b.is in
+        let split = ap (spots sign) b.is ∙ spots_split sign b.front (b.item ∷ b.more) in
         let front_is : own (spots sign front) ≡ closed =
-        ap own here.1 ∙ group_laid Words all s.at.area (page_number s.at.page_just) (Some width) same (spots sign b.front)
-        (spots_behind sign b.front (b.item ∷ b.more)) (ap (spots sign) b.is ∙ spots_split sign b.front (b.item ∷ b.more))
-        ∙ (λ i. take (b.breaks.place i) (old i)) ∙ take-append_seam closed (space ∷ open') in
-        let whole_is : own (spots sign old_items) ≡ closed ++ space ∷ open' =
-        ap own (are_laid Words sign items items [] (sym (append-nil items))).1
-        ∙ group_whole Words all s.at.area (page_number s.at.page_just) (Some width) same ∙ old in
-        let new_all : laid_items Words sign (items ++ Shows number ∷ []) (items ++ Shows number ∷ []) ≡ each_after after' items ++ Shows number ∷ [] =
-        ap (λ l. each_after (among Words sign l) (items ++ Shows number ∷ []))
-        (spots_more sign items (Shows number) (Glyph cell) (ap (option_map Glyph) found))
-        ∙ each_after_push after' items (Shows number) ∙ ap (λ y. each_after after' items ++ y ∷ []) last_stands in (
-          front,
-          b.behind ++ Shows number ∷ [],
-          ap (λ l. l ++ Shows number ∷ []) b.was_all ∙ append_assoc front (Shows 32 ∷ b.behind) (Shows number ∷ []),
-          new_all ∙ ap (λ l. l ++ Shows number ∷ []) b.are ∙ append_assoc front (Does (NewLine None) ∷ b.behind) (Shows number ∷ []),
-          ap (λ (h : Standing). h.area) here.0 ∙ b.breaks.area,
-          ap (λ (h : Standing). h.page_just) here.0 ∙ same_page_just (standing sign b.front).page_just s.at.page_just b.breaks.just,
-          ap (count_by is_break) front_is
-              ∙ omega (arith, sum_by-append (λ x. cond (is_break x) 1 0) closed (space ∷ open'), length-filter is_break (space ∷ open'), ap length (glyph_none (space ∷ open') glyphs)) ∙ ap (count_by is_break) (sym whole_is),
-        )
+        grind (arith, here, group_laid Words all s.at.area (page_number s.at.page_just) (Some width) same (spots sign b.front) _ split, b.breaks.place, old, take-append_seam) in
+        let whole_is : own (spots sign (laid_items Words sign items items)) ≡ closed ++ space ∷ open' =
+        let group_whole' = group_whole Words all s.at.area (page_number s.at.page_just) (Some width) same in
+        grind (arith, are_laid Words sign items items [], append-nil, group_whole', old) in
+        let new_all : laid_items Words sign (items ++ Shows number ∷ []) (items ++ Shows number ∷ []) ≡ each_after after' items ++ Shows number ∷ [] = grind (arith, spots_more sign items (Shows number) (Glyph cell), found, each_after_push after' items (Shows number), last_stands) in
+        let counts = sum_by-append (λ x. cond (is_break x) 1 0) closed (space ∷ open') in
+        (front, b.behind ++ Shows number ∷ [], grind (arith, b.was_all, append_assoc), grind (arith, new_all, b.are, append_assoc), grind (arith, here, b.breaks.area), grind (arith, here, same_page_just, b.breaks.just), grind (arith, front_is, whole_is, counts, length-filter is_break (space ∷ open'), glyph_none (space ∷ open') glyphs))
 
 -- what the law says of one more item, by the setting
 abbrev Kept : LineFill → SignData → List Meaning → Meaning → Type 0
@@ -240,32 +176,22 @@ module _ (sign : SignData) (items : List Meaning) (number : ℕ) (cell : CellDat
 
   -- it is a space, and is dropped
   dropped_itself : is_space c ≡ true → laid_items Words sign (items ++ Shows number ∷ []) (items ++ Shows number ∷ []) ≡ laid_items Words sign items items ++ Does (NewLine None) ∷ [] → Kept Words sign items (Shows number)
-  dropped_itself space new =
-      let here = (are_laid Words sign items items [] (sym (append-nil items))).0 in
-      let is : number ≡ 32 = eqb-true number 32 (sym (spaces_is sign items number cell found) ∙ space) in
-      inr (laid_items Words sign items items, [], ap (λ n. laid_items Words sign items items ++ Shows n ∷ []) is, new, ap (λ (h : Standing). h.area) here, ap (λ (h : Standing). h.page_just) here, refl)
+  dropped_itself space new = grind (arith, are_laid Words sign items items, append-nil items, spaces_is sign items number cell found)
 
   -- the line is broken at its last space
   broken : line_fits w (open_line w g) ≡ true → (k : CutAt Spot) → line_fits w (open_line w g ++ c ∷ []) ≡ false → is_space c ≡ false → cut_at_last is_space (open_line w g) ≡ Some k → Kept Words sign items (Shows number)
   broken fits k wide word cut =
       let at = is_cut is_space (open_line w g) k cut in
-      let closed = ended w g ++ k.before in
-      let old : filled (Some w) g ≡ closed ++ k.item ∷ k.behind = grind (arith, filled_is w g placing, at.parts, append_assoc) in
-      let own = members_push c.at.area (page_number c.at.page_just) (spots sign items) c true (own_member c refl) in
-      let new = ap (filled (Some w)) own ∙ breaks w g c placing refl fits k wide word cut ∙ append_assoc closed (dropped k.item ∷ []) (k.behind ++ c ∷ []) in
       let around = glyphs_around k.before k.item k.behind (subst (AllPass is_glyph) at.parts (open_line_glyphs w g placing)) in
-      let glyphs = All-cons (λ x. is_glyph x ≡ true) k.item k.behind (grind (arith, at.passes)) around.1 in
-      inr (breaks_line sign items number cell found closed k.item k.behind old new at.passes glyphs)
+      let own = members_push c.at.area (page_number c.at.page_just) (spots sign items) c true (own_member c refl) in
+      inr (breaks_line sign items number cell found (ended w g ++ k.before) k.item k.behind (grind (arith, filled_is w g placing, at.parts, append_assoc)) (grind (arith, own, breaks w g c placing refl fits k wide word cut, append_assoc)) at.passes (grind (arith, All-cons, around, at.passes)))
 
   filled_shown : line_fits w (open_line w g) ≡ true → Kept Words sign items (Shows number)
   filled_shown fits = elim (cases_Bool (line_fits w (open_line w g ++ c ∷ []))) [
     | inl same ↦ inl (grown Words c (stands w g c placing refl fits same))
     | inr wide ↦ elim (cases_Bool (is_space c)) [
       | inl space ↦ dropped_itself space (grown Words (dropped c) (drops w g c placing refl fits wide space))
-      | inr word ↦ elim (cases_Option (cut_at_last is_space (open_line w g))) [
-        | inl none ↦ inl (grown Words c (stays w g c placing refl fits wide word none))
-        | inr (k, cut) ↦ broken fits k wide word cut
-      ]
+      | inr word ↦ grind (arith, cases_Option (cut_at_last is_space (open_line w g)), grown Words c, stays w g c placing refl fits wide word, broken fits)
     ]
   ]
 
@@ -273,11 +199,7 @@ module _ (sign : SignData) (items : List Meaning) (number : ℕ) (cell : CellDat
 shown_by : (setting : LineFill) (sign : SignData) (items : List Meaning) (number : ℕ) → (setting ≡ Words → OpenLinesFit sign items) → (o : Option CellData) → cell_numbered (standing sign items).font number ≡ o → Kept setting sign items (Shows number)
 shown_by setting sign items number fits None found = inl (laid_nothing setting sign items (Shows number) (ap (option_map Glyph) found))
 shown_by Off sign items number fits (Some cell) found = inl (grown sign items number cell found Off (record { at = standing sign items; put = Glyph cell }) refl)
-shown_by Words sign items number fits (Some cell) found =
-    let c : Spot = record { at = standing sign items; put = Glyph cell } in
-    let is = open_line_is c.at.rectangle.width (group_of c (spots sign items)) (members_placing c.at.area (page_number c.at.page_just)
-    (spots sign items)) in
-    filled_shown sign items number cell found (ap (line_fits c.at.rectangle.width) (sym is) ∙ fits refl (page_number c.at.page_just))
+shown_by Words sign items number fits (Some cell) found = filled_shown sign items number cell found (grind (arith, open_line_is, members_placing, fits refl (page_number (standing sign items).page_just)))
 
 kept : (setting : LineFill) (sign : SignData) (items : List Meaning) (x : Meaning) → (setting ≡ Words → OpenLinesFit sign items) → Kept setting sign items x
 kept setting sign items x fits = grind (arith, shown_by, laid_tag, laid_nothing)

@@ -1,14 +1,8 @@
 -- Filling at one more character: every break is kept, and at most one is added, in the last line.
-use Rattle.multi_meaning.proofs.Common.{◌≡◌, inl, inr, ℕ, ◌+◌, ◌<◌, ◌≤◌, true, false, cond, ◌&&◌, List, [], ◌∷◌, ◌++◌, length, take, Option, Some, None, zero, suc, refl, ap, arith, length-append, append_assoc, append-nil, nat_le, option_map, ◌⊎◌, sym, subst, ◌∙◌, false≢true, false_from_ne_true, nat_tests, take_all, drop_all, drop-append-le, length_push, filter-append, All-head, All-tail, All-push, All-weaker, filter, after_last, AllPass, fold-append, Spot, segment, is_glyph, is_break, width_of, fit, line_fits, CutAt, longest_prefix, cut_at_last, longer, is_space, dropped, filled, IsPlacing, ended_lines}
-use Rattle.std.proofs.Common.{All}
-use Rattle.std.proofs.lemmas.List.{take-append-le, take-append-drop}
-use Rattle.std.specs.List.{flat_map, AllZip}
+use Rattle.multi_meaning.proofs.Common.{◌≡◌, inl, inr, ℕ, ◌+◌, ◌<◌, ◌≤◌, true, false, cond, ◌&&◌, List, [], ◌∷◌, ◌++◌, length, take, Option, Some, None, zero, suc, refl, ap, arith, length-append, append_assoc, append-nil, nat_le, option_map, ◌⊎◌, sym, subst, ◌∙◌, false≢true, nat_tests, take_all, drop_all, drop-append-le, length_push, filter-append, All-head, All-tail, All-push, All-weaker, filter, after_last, AllPass, fold-append, Spot, segment, is_glyph, is_break, width_of, fit, line_fits, CutAt, longest_prefix, cut_at_last, longer, is_space, dropped, filled, IsPlacing, ended_lines, All, take-append-le, take-append-drop, flat_map, AllZip, soft_break, broken_off, fill, filled_line}
 use Rattle.std.proofs.lemmas.List.Concat.{flat_map-append}
 use Rattle.multi_meaning.proofs.WordLemmas.{extent-append-le, cases_Option, longest_push, longest_all, longest_short, is_cut, none_take, filter_none, All-around, Cut, cut, cut_from, cut_more, longer_part, part, cut_push, cut_behind_is, cut_behind_push, after_last_is, last_push, ended_is}
-use Rattle.multi_meaning.specs.Filling.{soft_break, broken_off, fill, filled_line}
 use Rattle.multi_meaning.proofs.GroupLemmas.{filter_all, lines_ind, open_glyphs, glyph_put, break_put, glyphs_around, ended_break}
-
--- WHAT FITS ONE LINE
 
 -- what stands behind characters makes no segment narrower
 pub segment_front : (just : ℕ) (line behind : List Spot) → width_of (segment just line) ≤ width_of (segment just (line ++ behind))
@@ -20,8 +14,6 @@ le_test a b w h k = grind arith
 pub nothing_fits : (width : ℕ) → line_fits width [] ≡ true
 nothing_fits width = let none : (fit 0 0 0 width && nat_le 0 width) ≡ true = grind (arith, nat_tests) in none
 
--- WHERE CHARACTERS ARE BROKEN
-
 module _ (width : ℕ) where
   abbrev most : List Spot → ℕ
   most cs = length (longest_prefix (line_fits width) cs) + 1
@@ -29,13 +21,9 @@ module _ (width : ℕ) where
   pub broken_fits : (cs : List Spot) → line_fits width cs ≡ true → soft_break width cs ≡ None
   broken_fits cs h = rw h refl
 
-  longer_twice : (xs ys : List Spot) (o : Option (CutAt Spot)) → option_map (longer (xs ++ ys)) o ≡ option_map (longer ys) (option_map (longer xs) o)
-  longer_twice xs ys o = grind (arith, append_assoc)
-
   -- a later one leaves the break
   pub broken_later : (cs : List Spot) (s : Spot) → line_fits width cs ≡ false → soft_break width (cs ++ s ∷ []) ≡ option_map (longer (s ∷ [])) (soft_break width cs)
-  broken_later cs s wide =
-      grind (arith, false_from_ne_true, false≢true, nat_tests, segment_front, longest_push, longest_short, drop-append-le, take-append-le, longer_twice)
+  broken_later cs s wide = grind (arith, false≢true, nat_tests, segment_front, longest_push, longest_short, drop-append-le, take-append-le, append_assoc)
 
   -- what is broken off are the characters, less nothing
   pub broken_parts : (cs : List Spot) (c : CutAt Spot) → soft_break width cs ≡ Some c → cs ≡ c.before ++ c.item ∷ c.behind
@@ -47,8 +35,6 @@ module _ (width : ℕ) where
   -- characters without a space stay together
   pub fill_still : (n : ℕ) (cs : List Spot) → cut_at_last is_space cs ≡ None → fill n width cs ≡ cs
   fill_still n cs none = grind (arith, none_take)
-
-  -- THE LAST LINE
 
   -- the lines that are broken off, and the last line
   pub record Filled : Type 0 where
@@ -68,10 +54,7 @@ module _ (width : ℕ) where
       → ((cs : List Spot) (c : CutAt Spot) (f : Filled) → cs ≡ c.before ++ c.item ∷ c.behind → P c.behind f
       → P cs (record { closed = c.before ++ dropped c.item ∷ f.closed; open' = f.open' })) → (n : ℕ) (cs : List Spot) → P cs (parts n cs)
   fill_ind P still broken zero cs = still cs
-  fill_ind P still broken (suc n) cs = elim (cases_Option (soft_break width cs)) [
-    | inl none ↦ rw none (still cs)
-    | inr (c, some) ↦ rw some (broken cs c (parts n c.behind) (broken_parts cs c some) (fill_ind P still broken n c.behind))
-  ]
+  fill_ind P still broken (suc n) cs = grind (arith, cases_Option (soft_break width cs), still cs, broken cs, broken_parts cs, fill_ind P still broken n)
 
   pub fill_is : (n : ℕ) (cs : List Spot) → fill n width cs ≡ (parts n cs).closed ++ (parts n cs).open'
   fill_is zero cs = refl
@@ -81,12 +64,7 @@ module _ (width : ℕ) where
   pub parts_more : (n : ℕ) (cs : List Spot) → length cs ≤ n → parts (suc n) cs ≡ parts n cs
   parts_more zero [] h = rw (broken_fits [] (nothing_fits width)) refl
   parts_more zero (s ∷ cs) h = absurd (omega (arith, h))
-  parts_more (suc n) cs h = elim (cases_Option (soft_break width cs)) [
-    | inl none ↦ rw none refl
-    | inr (c, some) ↦ grind (arith, some, parts_more n c.behind (omega (arith, shorter cs c some, h)))
-  ]
-
-  -- ONE MORE CHARACTER
+  parts_more (suc n) cs h = grind (arith, cases_Option (soft_break width cs), parts_more n, shorter cs)
 
   -- a line, broken at its last space where it doesn't fit
   abbrev pub broken_here : List Spot → Option (CutAt Spot)
@@ -95,25 +73,18 @@ module _ (width : ℕ) where
   abbrev pub relaid : List Spot → List Spot
   relaid line = broken_off (λ l. l) line (broken_here line)
 
-  rest_still : (n : ℕ) (line : List Spot) → broken_off (fill n width) line (cut_at_last is_space line) ≡ broken_off (λ l. l) line (cut_at_last is_space line)
-  rest_still n line = grind (arith, fill_still n, is_cut is_space line)
-
   last_line : (n : ℕ) (cs : List Spot) (s : Spot) → line_fits width cs ≡ true → broken_off (fill n width) (cs ++ s ∷ []) (soft_break width (cs ++ s ∷ [])) ≡ relaid (cs ++ s ∷ [])
   last_line n cs s fits =
-      grind (arith, broken_fits (cs ++ s ∷ []), longest_push, longest_all, length-append, drop_all, take_all, append-nil, rest_still n (cs ++ s ∷ []))
+      let is_cut' = is_cut is_space (cs ++ s ∷ []) in
+      grind (arith, broken_fits (cs ++ s ∷ []), longest_push, longest_all, length-append, drop_all, take_all, append-nil, fill_still n, is_cut')
 
   -- one more character behind characters whose last line fits: every break is kept, and the last line is broken at its last space
   -- where it no longer fits
   pub fill_push : (n : ℕ) (cs : List Spot) (s : Spot) → length cs < n → line_fits width (parts n cs).open' ≡ true
       → fill n width (cs ++ s ∷ []) ≡ (parts n cs).closed ++ relaid ((parts n cs).open' ++ s ∷ [])
   fill_push zero cs s h fits = absurd (omega (arith, h))
-  fill_push (suc n) cs s h fits = elim (cases_Option (soft_break width cs)) [
-    | inl none ↦ grind (arith, none, last_line n cs s, fits)
-    | inr (c, some) ↦
-        grind (arith, some, broken_later cs s, broken_fits cs, fill_push n c.behind s (omega (arith, shorter cs c some, h)), fits, append_assoc)
-  ]
-
--- CHARACTERS
+  fill_push (suc n) cs s h fits =
+      grind (arith, cases_Option (soft_break width cs), last_line n cs s, broken_later cs s, broken_fits cs, fill_push n, shorter cs, fits, append_assoc)
 
 pub glyph_none : (line : List Spot) → AllPass is_glyph line → filter is_break line ≡ []
 glyph_none line h = filter_none is_break line (All-weaker (λ x. is_glyph x ≡ true) (λ x. is_break x ≡ false) (λ x glyph. (glyph_put x.at x.put glyph).0) line h)
@@ -128,8 +99,6 @@ pub flat_map_push : {X Y : Type 0} (f : X → List Y) (xs : List X) (x : X) → 
 flat_map_push f xs x = flat_map-append f xs (x ∷ []) ∙ ap (λ l. flat_map f xs ++ l) (append-nil (f x))
 
 module _ (width : ℕ) where
-  -- THE FILLED GROUP
-
   -- the lines that an `nl` ended, filled
   abbrev pub front : List Spot → List Spot
   front g = flat_map (filled_line width) (cut is_break g).closed
@@ -175,8 +144,6 @@ module _ (width : ℕ) where
       let line = line_of_glyphs (o ++ s ∷ []) (All-push (λ x. is_glyph x ≡ true) o s (open_glyphs g placing) is) ∙ ap (λ k. fill k width (o ++ s ∷ [])) size ∙ fill_push width (suc n) o s (omega arith) fits' in
       more_filled g s ∙ grind (arith, line, steady, append_assoc)
 
-  -- THE OPEN LINE OF A FILLED GROUP
-
   -- a list that is empty or ends with the end of a line
   abbrev pub Ends : List Spot → Type 0
   Ends xs = (xs ≡ []) ⊎ ((ys : List Spot) × (b : Spot) × (is_break b ≡ true) × (xs ≡ ys ++ b ∷ []))
@@ -189,20 +156,19 @@ module _ (width : ℕ) where
   one_ends xs b is = inr (xs, b, is, refl)
 
   pub open_line_glyphs : (g : List Spot) → All IsPlacing g → AllPass is_glyph (open_line g)
-  open_line_glyphs g placing =
-      fill_ind width (λ cs f. AllPass is_glyph cs → AllPass is_glyph f.open') (λ cs h. h)
-      (λ cs c f is ih h. ih (All-around (λ x. is_glyph x ≡ true) c.before c.item c.behind (subst (AllPass is_glyph) is h)).2)
-      (length (cut is_break g).open') (cut is_break g).open' (open_glyphs g placing)
+  open_line_glyphs g placing = fill_ind width (λ cs f. AllPass is_glyph cs → AllPass is_glyph f.open') (λ cs h. h)
+      (λ cs c f is ih h.
+      let All_around' = All-around (λ x. is_glyph x ≡ true) c.before c.item c.behind in
+      grind (arith, ih, All_around', is, h)) (length (cut is_break g).open') (cut is_break g).open' (open_glyphs g placing)
 
   pub ended_ends : (g : List Spot) → All IsPlacing g → Ends (ended g)
   ended_ends g placing =
       let lines = lines_ind (λ before lines. Ends (flat_map (filled_line width) lines)) (inl refl) (λ before lines line s glyphs e h.
-      let one : Ends (filled_line width (line ++ s ∷ [])) = rw (break_behind line s glyphs e) (one_ends (fill (length (filter is_glyph (line ++ s ∷ []))) width (filter is_glyph (line ++ s ∷ []))) s e) in
-      rw (flat_map_push (filled_line width) lines (line ++ s ∷ []))
-      (ends_behind (flat_map (filled_line width) lines) (filled_line width (line ++ s ∷ [])) h one)) g placing in
+      let ends_behind' = ends_behind (flat_map (filled_line width) lines) (filled_line width (line ++ s ∷ [])) h in
+      grind (arith, flat_map_push (filled_line width) lines (line ++ s ∷ []), break_behind line s glyphs e, ends_behind', one_ends)) g placing in
       ends_behind (front g) (last_parts g).closed lines.holds (fill_ind width (λ cs f. Ends f.closed) (λ cs. inl refl) (λ cs c f is ends.
-      subst Ends (append_assoc c.before (dropped c.item ∷ []) f.closed) (ends_behind (c.before ++ dropped c.item ∷ []) f.closed
-      (one_ends c.before (dropped c.item) refl) ends))
+      let ends_behind'' = ends_behind (c.before ++ dropped c.item ∷ []) f.closed (one_ends c.before (dropped c.item) refl) ends in
+      grind (arith, append_assoc c.before (dropped c.item ∷ []) f.closed, ends_behind''))
       (length (cut is_break g).open') (cut is_break g).open')
 
 -- a group, filled to a width or to none: nothing, and one more `nl`
@@ -250,31 +216,24 @@ module _ (width : ℕ) where
   fill_laid : (n : ℕ) (cs : List Spot) → AllPass is_glyph cs → LaidAll cs ((parts width n cs).closed ++ (parts width n cs).open')
   fill_laid = fill_ind width (λ cs f. AllPass is_glyph cs → LaidAll cs (f.closed ++ f.open')) (λ cs h. same_laid cs) (λ cs c f is ih h.
       let (before, space, behind) = All-around (λ x. is_glyph x ≡ true) c.before c.item c.behind (subst (AllPass is_glyph) is h) in
-      subst (λ l. LaidAll l ((c.before ++ dropped c.item ∷ f.closed) ++ f.open')) (sym is)
-      (rw (append_assoc c.before (dropped c.item ∷ f.closed) f.open')
-      (laid-append c.before c.before (c.item ∷ c.behind) (dropped c.item ∷ (f.closed ++ f.open')) (same_laid c.before)
-      (inr (space, refl), ih behind))))
+      let laid_append' = laid-append c.before c.before (c.item ∷ c.behind) (dropped c.item ∷ (f.closed ++ f.open')) (same_laid c.before) (inr (space, refl), ih behind) in
+      grind (arith, is, append_assoc c.before (dropped c.item ∷ f.closed) f.open', laid_append'))
 
   -- the lines that an `nl` ended, and then all
   some_laid : (g : List Spot) → All IsPlacing g → LaidAll g (filled (Some width) g)
   some_laid g placing =
-      let last = last_parts width g in
       let lines = lines_ind (λ before lines. LaidAll before (flat_map (filled_line width) lines)) tt (λ before lines line s glyphs e h.
       let laid_line = laid-append line _ (s ∷ []) (s ∷ []) (fill_laid (length line) line glyphs) (inl refl, tt) in
-      let one : LaidAll (line ++ s ∷ []) (filled_line width (line ++ s ∷ [])) =
-      rw (glyphs_before line s glyphs e, break_behind line s glyphs e, fill_is width (length line) line) laid_line in
-      rw (flat_map_push (filled_line width) lines (line ++ s ∷ [])) (laid-append before (flat_map (filled_line width) lines) (line ++ s ∷ [])
-      (filled_line width (line ++ s ∷ [])) h one)) g placing in
-      let all = laid-append lines.before (front width g) (cut is_break g).open' (last.closed ++ last.open') lines.holds
-      (fill_laid (length (cut is_break g).open') (cut is_break g).open' lines.glyphs) in
-      subst (λ l. LaidAll l (filled (Some width) g)) (sym lines.is)
-      (rw (filled_is width g placing, append_assoc (front width g) last.closed last.open') all)
+      let laid_append'' = laid-append before (flat_map (filled_line width) lines) (line ++ s ∷ []) (filled_line width (line ++ s ∷ [])) h in
+      let flat_map_push' = flat_map_push (filled_line width) lines (line ++ s ∷ []) in
+      let fill_is' = fill_is width (length line) line in
+      grind (arith, glyphs_before line s glyphs e, break_behind line s glyphs e, fill_is', laid_line, flat_map_push', laid_append'')) g placing in
+      let all = laid-append lines.before (front width g) (cut is_break g).open' _ lines.holds (fill_laid (length (cut is_break g).open') (cut is_break g).open' lines.glyphs) in
+      grind (arith, lines.is, filled_is width g placing, append_assoc (front width g) (last_parts width g).closed (last_parts width g).open', all)
 
 -- a filled group has each of its items in its place
 pub filled_laid : (o : Option ℕ) (g : List Spot) → All IsPlacing g → LaidAll g (filled o g)
 filled_laid o g placing = grind (arith, same_laid, some_laid)
-
--- THE PARTS OF THE OPEN LINE
 
 -- the parts around a line's last space, at one more character: a space begins a new word, another character lengthens the last
 pub word_begins : (line : List Spot) (s : Spot) → is_space s ≡ true → cut_at_last is_space (line ++ s ∷ []) ≡ Some (record { before = line; item = s; behind = [] })
@@ -283,16 +242,10 @@ word_begins line s space = last_push is_space line s ∙ rw space refl
 pub word_grows : (line : List Spot) (s : Spot) (o : Option (CutAt Spot)) → is_space s ≡ false → cut_at_last is_space line ≡ o → cut_at_last is_space (line ++ s ∷ []) ≡ option_map (longer (s ∷ [])) o
 word_grows line s o word e = last_push is_space line s ∙ rw (word, e) refl
 
--- THE OPEN LINE WITH ONE MORE CHARACTER
-
 module _ (width : ℕ) (g : List Spot) (s : Spot) (placing : All IsPlacing g) (glyph : is_glyph s ≡ true) (fits : line_fits width (open_line width g) ≡ true) where
   -- the group with an item behind it, by what its open line becomes
   behind : (y : Spot) → relaid width (open_line width g ++ s ∷ []) ≡ open_line width g ++ y ∷ [] → filled (Some width) (g ++ s ∷ []) ≡ filled (Some width) g ++ y ∷ []
-  behind y is =
-      filled_character width g s placing glyph fits
-      ∙ ap (λ l. ended width g ++ l) is
-      ∙ sym (append_assoc (ended width g) (open_line width g) (y ∷ []))
-      ∙ ap (λ l. l ++ y ∷ []) (sym (filled_is width g placing))
+  behind y is = grind (arith, filled_character, append_assoc, filled_is)
 
   -- it fits: it stands on the line
   pub stands : line_fits width (open_line width g ++ s ∷ []) ≡ true → filled (Some width) (g ++ s ∷ []) ≡ filled (Some width) g ++ s ∷ []
@@ -305,11 +258,7 @@ module _ (width : ℕ) (g : List Spot) (s : Spot) (placing : All IsPlacing g) (g
   -- another that doesn't fit, where the line has a space: the last one ends the line, and what stands behind it begins the next
   pub breaks : (c : CutAt Spot) → line_fits width (open_line width g ++ s ∷ []) ≡ false → is_space s ≡ false → cut_at_last is_space (open_line width g) ≡ Some c
       → filled (Some width) (g ++ s ∷ []) ≡ ((ended width g ++ c.before) ++ dropped c.item ∷ []) ++ (c.behind ++ s ∷ [])
-  breaks c h word found =
-      filled_character width g s placing glyph fits
-      ∙ rw (h, word_grows (open_line width g) s (Some c) word found) refl
-      ∙ sym (append_assoc (ended width g) c.before (dropped c.item ∷ (c.behind ++ s ∷ [])))
-      ∙ sym (append_assoc (ended width g ++ c.before) (dropped c.item ∷ []) (c.behind ++ s ∷ []))
+  breaks c h word found = grind (arith, filled_character, word_grows, append_assoc, behind)
 
   -- without a space the line stays, and doesn't fit
   pub stays : line_fits width (open_line width g ++ s ∷ []) ≡ false → is_space s ≡ false → cut_at_last is_space (open_line width g) ≡ None → filled (Some width) (g ++ s ∷ []) ≡ filled (Some width) g ++ s ∷ []

@@ -1,12 +1,6 @@
 -- Placing items, and the groups of an area.
-use Rattle.multi_meaning.proofs.Common.{length_push, get_or_at, nat_tests, ◌≡◌, ℕ, Bool, true, false, ◌==◌, List, [], ◌∷◌, ◌++◌, None, refl, ◌∙◌, append-nil, arith, cond, length, sym, ap, inl, inr, append_assoc, ◌+◌, ◌<◌, ◌≤◌, subst, ◌&&◌, slice_index_or, ◌-◌, ◌*◌, if◌then◌else◌, nat_le, Some, and_parts, both_ways, cases_Bool, false≢true, All-weaker, filter-append, All-filter, All-nil, All-head, All-tail, All-push, All-cons, filter, AllPass, All, after_last, count_by, list_any, sum_by, sum_by_push, sum_by-cons, page_number, SignData, CellData, cell_numbered, Spot, is_glyph, Standing, Put, is_break, in_area, in_group, area_of, lines_of, segment, Glyph, standing, height_of, char_gap, glyph_width, width_of, IsPlacing, ended_lines, largest, fit, area_fits, is_space, Meaning}
-use Rattle.std.proofs.Common.{⊎_elim, ◌/◌, find}
-use Rattle.std.proofs.lemmas.Bool.{eq-eqb, ne_eqb, or_cases, cond_both}
-use Rattle.std.proofs.lemmas.List.Elements.{filter_passes, All-append}
-use Rattle.multi_tag.specs.Just.{line_number}
-use Rattle.multi_meaning.specs.Line.{given_gap, bearers, line_height}
+use Rattle.multi_meaning.proofs.Common.{length_push, get_or_at, nat_tests, ◌≡◌, ℕ, Bool, true, false, ◌==◌, List, [], ◌∷◌, ◌++◌, None, refl, ◌∙◌, append-nil, arith, cond, length, sym, ap, append_assoc, ◌+◌, ◌<◌, ◌≤◌, ◌&&◌, slice_index_or, ◌-◌, ◌*◌, if◌then◌else◌, nat_le, Some, and_parts, cases_Bool, false≢true, All-weaker, filter-append, All-filter, All-nil, All-head, All-tail, All-push, All-cons, filter, AllPass, All, after_last, count_by, list_any, sum_by, sum_by_push, sum_by-cons, page_number, SignData, CellData, cell_numbered, Spot, is_glyph, Standing, Put, is_break, in_area, in_group, area_of, lines_of, segment, Glyph, standing, char_gap, glyph_width, width_of, IsPlacing, ended_lines, largest, fit, area_fits, is_space, Meaning, ⊎_elim, ◌/◌, find, eq-eqb, ne_eqb, or_cases, cond_both, filter_passes, All-append, line_number, given_gap, bearers, line_height, SmallerFits, room_for}
 use Rattle.multi_meaning.proofs.WordLemmas.{All-around, Cut, cut, cut_ind, cut_push, after_last_is, ended_is, All-split, largest_most, cut_behind_is, cut_ind_all, part, extent_push, extent-append-le, cut_with_item}
-use Rattle.multi_meaning.specs.Fit.{SmallerFits, room_for}
 
 -- an item that passes, put behind a list
 pub filter_yes : {X : Type 0} (p : X → Bool) (xs : List X) (x : X) → p x ≡ true → filter p (xs ++ x ∷ []) ≡ filter p xs ++ x ∷ []
@@ -49,9 +43,9 @@ pub ended_glyph : (g : List Spot) (s : Spot) → is_glyph s ≡ true → ended_l
 ended_glyph g s b = ended_is is_break (g ++ s ∷ []) ∙ ap (λ (c : Cut Spot). c.closed) (cut_push is_break g s) ∙ rw (glyph_put s.at s.put b).0 (sym (ended_is is_break g))
 
 pub closed_count : (g : List Spot) → length (cut is_break g).closed ≡ count_by is_break g
-closed_count = cut_ind is_break (λ g c. length c.closed ≡ count_by is_break g) refl
-    (λ g c s e ih. omega (arith, length_push c.closed (c.open' ++ s ∷ []), ih, rw e at (sum_by_push (λ s. cond (is_break s) 1 0) g s)))
-    (λ g c s e ih. omega (arith, ih, rw e at (sum_by_push (λ s. cond (is_break s) 1 0) g s)))
+closed_count = cut_ind is_break (λ g c. length c.closed ≡ count_by is_break g) refl (λ g c s e ih.
+    let sum_by_push' = sum_by_push (λ s. cond (is_break s) 1 0) g s in
+    grind (arith, length_push, ih, sum_by_push', e)) (λ g c s e ih. grind (arith, ih, sum_by_push (λ s. cond (is_break s) 1 0) g s, e))
 
 -- there are as many ended lines as `nl`s
 pub ended_count : (g : List Spot) → length (ended_lines g) ≡ count_by is_break g
@@ -71,8 +65,7 @@ any_glyph s line h = rw (All-head (λ x. is_glyph x ≡ true) s line h) refl
 
 pub bearers_ended : (s : Spot) (line : List Spot) (b : Spot) → AllPass is_glyph (s ∷ line) → is_glyph b ≡ false → bearers ((s ∷ line) ++ b ∷ []) ≡ s ∷ line
 bearers_ended s line b h n =
-    let rest = filter_all line (All-tail (λ x. is_glyph x ≡ true) s line h) in
-    grind (arith, All-head (λ x. is_glyph x ≡ true) s line h, rest, n, filter-append, append-nil)
+    grind (arith, All-head (λ x. is_glyph x ≡ true) s line h, filter_all line (All-tail (λ x. is_glyph x ≡ true) s line h), n, filter-append, append-nil)
 
 pub bearers_empty : (b : Spot) → is_glyph b ≡ false → bearers (b ∷ []) ≡ b ∷ []
 bearers_empty b n = rw n refl
@@ -93,14 +86,21 @@ module _ (P : List Spot → List (List Spot) → Type 0) (none : P [] [])
       (λ all. record { before = []; is = refl; glyphs = All-nil (λ x. is_glyph x ≡ true); holds = none })
       (λ group c s e ih all.
       let h = ih (All-split IsPlacing group s all).0 in
-      let line = c.open' ++ s ∷ [] in
-      let is = ap (λ l. l ++ s ∷ []) h.is ∙ append_assoc h.before c.open' (s ∷ []) ∙ sym (append-nil (h.before ++ line)) in
-      record { before = h.before ++ line; is = is; glyphs = All-nil (λ x. is_glyph x ≡ true); holds = more h.before c.closed c.open' s h.glyphs e h.holds })
+      record {
+        before = h.before ++ (c.open' ++ s ∷ []);
+        is = grind (arith, h.is, append_assoc, append-nil);
+        glyphs = All-nil (λ x. is_glyph x ≡ true);
+        holds = more h.before c.closed c.open' s h.glyphs e h.holds;
+      })
       (λ group c s e ih all.
       let (earlier, placing) = All-split IsPlacing group s all in
       let h = ih earlier in
-      let glyph : is_glyph s ≡ true = elim placing [ inl glyph ↦ glyph | inr breaks ↦ absurd (both_ways (is_break s) e breaks) ] in
-      record { before = h.before; is = ap (λ l. l ++ s ∷ []) h.is ∙ append_assoc h.before c.open' (s ∷ []); glyphs = All-push (λ x. is_glyph x ≡ true) c.open' s h.glyphs glyph; holds = h.holds })
+      record {
+        before = h.before;
+        is = grind (arith, h.is, append_assoc);
+        glyphs = grind (arith, All-push (λ x. is_glyph x ≡ true) c.open' s h.glyphs, placing, e);
+        holds = h.holds;
+      })
 
 pub open_glyphs : (group : List Spot) → All IsPlacing group → AllPass is_glyph (cut is_break group).open'
 open_glyphs group all = (lines_ind (λ before lines. Unit {0}) tt (λ before lines line s glyphs e h. tt) group all).glyphs
@@ -122,26 +122,18 @@ abbrev IsHigh : List Spot → Type 0
 IsHigh line = 1 ≤ line_height line
 
 line_high : (line : List Spot) → 0 < length line → All High line → IsHigh line
-line_high line some high = elim (cases_Bool (list_any is_glyph line)) [
-  | inl e ↦ rw e (largest_some (λ t. t.at.font.height) (filter is_glyph line) (filter_some is_glyph line e) (All-filter is_glyph High line high))
-  | inr e ↦ rw e (largest_some (λ t. t.at.font.height) line some high)
-]
-
-part_high : (line : List Spot) → All High line → All IsHigh (part is_break line)
-part_high line high = grind (arith, All-nil, All-cons, line_high)
+line_high line some high = grind (arith, largest_some, filter_some, All-filter is_glyph High line high)
 
 -- and so has each line of a group
 lines_high : (g : List Spot) → All High g → All IsHigh (lines_of g)
 lines_high g all =
     let (closed, last) = cut_ind_all is_break High (λ c. All IsHigh c.closed × All High c.open') (All-nil IsHigh, All-nil High)
-    (λ c s h e (lines, line). (
-      All-push IsHigh c.closed (c.open' ++ s ∷ []) lines (line_high (c.open' ++ s ∷ []) (omega (arith, length_push c.open' s))
-          (All-push High c.open' s line h)),
-      All-nil High,
-    ))
+    (λ c s h e (lines, line).
+    let All_push' = All-push IsHigh c.closed (c.open' ++ s ∷ []) lines in
+    grind (arith, All-push High c.open' s line h, All_push', line_high (c.open' ++ s ∷ []), length_push c.open' s, All-nil))
     (λ c s h e (lines, line). (lines, All-push High c.open' s line h)) g all in
-    subst (All IsHigh) (sym (cut_behind_is is_break g)) (All-append IsHigh (cut is_break g).closed (part is_break (cut is_break g).open') closed
-    (part_high (cut is_break g).open' last))
+    let All_append' = All-append IsHigh (cut is_break g).closed (part is_break (cut is_break g).open') closed in
+    grind (arith, cut_behind_is is_break g, All_append', line_high (cut is_break g).open', All-nil, All-cons, last)
 
 pub sum_least : {X : Type 0} (f : X → ℕ) (xs : List X) → All (λ x. 1 ≤ f x) xs → length xs ≤ sum_by f xs
 sum_least f [] all = omega arith
@@ -158,10 +150,9 @@ each_just P p2 p3 p4 p5 just low high = grind arith
 pub lines_within : (height : ℕ) (area : List Spot) → area_fits height area ≡ true → All (λ (s : Spot). 1 ≤ s.at.font.height) area
     → length (lines_of (in_group 2 area)) + length (lines_of (in_group 3 area)) + length (lines_of (in_group 4 area)) ≤ height
 lines_within height area fits all =
-    let tall = λ (just : ℕ). height_of (lines_of (in_group just area)) in
-    let high = λ (just : ℕ). lines_high (in_group just area) (All-filter (λ t. page_number t.at.page_just == just) High area all) in
-    let most : (just : ℕ) → length (lines_of (in_group just area)) ≤ tall just = λ just. omega (arith, sum_least line_height (lines_of (in_group just area)) (high just)) in
-    omega (arith, most 2, most 3, most 4, fit_each (tall 2) (tall 3) (tall 4) height fits)
+    let All_filter' = All-filter (λ t. page_number t.at.page_just == 4) High area all in
+    let All_filter'' = All-filter (λ t. page_number t.at.page_just == 3) High area all in
+    grind (arith, lines_high, All-filter (λ t. page_number t.at.page_just == 2) High area all, All_filter'', All_filter', sum_least line_height, fit_each)
 
 -- what stands behind an item of a segment makes it no narrower
 wider : (j : ℕ) (open' rest : List Spot) (y : Spot) → is_glyph y ≡ true → line_number y.at.line_just ≡ j → 1 ≤ glyph_width y → width_of (segment j open') < width_of (segment j (open' ++ y ∷ rest))
@@ -172,10 +163,7 @@ wider j open' rest y glyph just wide =
 pub full_known : (j : ℕ) (front : List Spot) (y : Spot) (back : List Spot) → IsPlacing y → (is_glyph y ≡ true → (line_number y.at.line_just ≡ j) × (1 ≤ glyph_width y))
     → (width_of (segment j (after_last is_break front)) == width_of (segment j (slice_index_or (lines_of (front ++ y ∷ back)) (count_by is_break front) []))) ≡ is_break y
 full_known j front y back placing stands =
-    let (rest, others, is, ends) = cut_with_item is_break front y back in
-    let open' = (cut is_break front).open' in
-    let line = get_or_at (cut is_break front).closed (open' ++ y ∷ rest) others [] (count_by is_break front) (closed_count front) in
-    grind (arith, is, line, ends, after_last_is is_break front, wider j open' rest y, filter-append, append-nil)
+    grind (arith, cut_with_item is_break front y back, get_or_at, closed_count front, after_last_is is_break front, wider, filter-append, append-nil)
 
 pub smaller_fits : SmallerFits
 smaller_fits a b c a' b' c' len p q r h = grind (arith, nat_tests)

@@ -1,8 +1,5 @@
 -- What a token's item means, from what its tag was read as.
-use Rattle.multi_meaning.proofs.Common.{nat_tests, ◌≡◌, ℕ, List, arith, ◌+◌, ◌-◌, ◌*◌, ◌^◌, ◌<◌, ◌≤◌, true, false, length, inr, ◌⊎◌, Option, Some, refl, ◌∙◌, min, nat_eq, Tag, tag_of, Does, meaning, Faulty, Shows}
-use Rattle.std.proofs.lemmas.List.{append-nil, append_assoc}
-use Rattle.std.proofs.Common.{Result, slice_get, Err}
-use Rattle.std.specs.Option.{option_eq}
+use Rattle.multi_meaning.proofs.Common.{nat_tests, ◌≡◌, ℕ, List, arith, ◌+◌, ◌-◌, ◌*◌, ◌^◌, ◌<◌, ◌≤◌, true, false, length, inr, ◌⊎◌, Option, Some, refl, ◌∙◌, min, nat_eq, Tag, tag_of, Does, meaning, Faulty, Shows, append-nil, append_assoc, Result, slice_get, Err, option_eq, meaning_of_tag, said_by, common_steps}
 use Rattle.multi_token.specs.declared.token.Token.{Token}
 use Rattle.multi_token.specs.Tokens.{body_of, item_of, IsTagOf}
 use Rattle.multi_tag.specs.declared.tag.TagFault.{TagFault}
@@ -11,7 +8,6 @@ use Rattle.multi_tag.specs.Closed.{IsTagAt}
 use Rattle.multi_tag.proofs.AheadLemmas.{body_long}
 use Rattle.multi_tag.proofs.ShortLemmas.{short_body}
 use Rattle.multi_tag.proofs.TagOfLemmas.{tag_of-spelled}
-use Rattle.multi_meaning.specs.Meaning.{meaning_of_tag, said_by}
 use Rattle.multi_meaning.specs.kept.ItemAt.{IsFaultAt, IsItemAt}
 use Rattle.multi_token.specs.declared.token.Kind.TheVariants as kinds
 
@@ -34,8 +30,7 @@ module _ (octets : List ℕ) (at : ℕ) where
   -- a doubled bracket
   pub doubled_at : (bracket : ℕ) → length octets < 2 ^ 63 → (bracket ≡ 91) ⊎ (bracket ≡ 93) → slice_get octets at ≡ Some bracket → slice_get octets (at + 1) ≡ Some bracket
       → IsItemAt octets at 2 (Shows bracket)
-  doubled_at bracket room is first second =
-      (record { at = at; len = 2; kind = kinds.Char bracket }, refl, refl, doubled_token octets at bracket room first second is, refl)
+  doubled_at bracket room is first second = grind (arith, doubled_token octets at bracket room first second is)
 
   -- a tag of the table
   pub tag_at : (tag : Tag) (len : ℕ) → IsTagAt octets at tag len → IsItemAt octets at len (said_by tag)
@@ -43,11 +38,7 @@ module _ (octets : List ℕ) (at : ℕ) where
 
   -- the steps of one look and of the octets ahead, for a tag that stands there
   pub ahead_steps : (tag : Tag) (len steps : ℕ) → IsTagAt octets at tag len → steps ≡ 1 + min 26 (length octets - (at + 1)) → (len - 1 ≤ steps) × (steps ≤ 9 * len - 9)
-  ahead_steps tag len steps (is, spells) e =
-      let t : Token = record { at = at; len = len; kind = kinds.Tag } in
-      let long = body_long (body_of octets t) tag spells in
-      let short = (short_body (body_of octets t) tag spells).few in
-      (omega (arith, e, length-tag octets t is, short, is.is.within), omega (arith, e, length-tag octets t is, long))
+  ahead_steps tag len steps (is, spells) e = grind (arith, common_steps, body_long, short_body, length-tag)
 
   -- a tag at fault
   pub fault_at : (len code : ℕ) (fault : TagFault) → IsTagOf octets (record { at = at; len = len; kind = kinds.Tag })

@@ -1,15 +1,53 @@
--- Worked examples of widths, heights and what fits, computed.
-use Rattle.multi_meaning.proofs.Common.{◌≡◌, ℕ, Bool, true, false, List, [], ◌∷◌, map, None, refl, Option, Some, range_with_len, option_map_or, Centre, Full, Middle, Bottom, sample, SignData, whole_sign, Standing, Put, Glyph, Break, Cover, Spot, spots, standing, largest, glyph_width, fit, line_fits, area_fits, is_space, FlashTimes, Page, place_of, in_plane, thing_at, things, things_among, has_colour, Times, is_on}
+-- Worked examples of what items mean, of the attributes that they give, of widths, heights and what fits, and of what is put, computed.
+use Rattle.multi_meaning.proofs.Common.{◌≡◌, ℕ, Bool, true, false, List, [], ◌∷◌, map, Option, Some, None, inr, refl, Centre, Full, Middle, Bottom, NewLine, NewPage, Rect, sample, FlashTimes, Meaning, Shows, Does, Faulty, EndsArea, begins_area, has_place, is_inside, CharSpacing, CharSpacingEnd, Flash, FlashEnd, given_line_just, given_page_just, given_spacing, given_flash, rectangle, range_with_len, option_map_or, SignData, whole_sign, Standing, Put, Glyph, Break, Cover, Spot, spots, standing, largest, glyph_width, fit, line_fits, area_fits, is_space, Page, place_of, in_plane, thing_at, things, things_among, has_colour, Times, is_on, Left, Right, Top, small_font, laid_fits, pixel_at}
 use Rattle.multi_tag.specs.declared.just.LineJust.{LineJust}
-use Rattle.multi_tag.specs.declared.just.LineJust.TheVariants.{Left, Right}
 use Rattle.multi_tag.specs.declared.just.PageJust.{PageJust}
-use Rattle.multi_tag.specs.declared.just.PageJust.TheVariants.{Top}
-use Rattle.sign_font.specs.Sample.{small_font}
-use Rattle.multi_meaning.specs.Laid.{laid_fits}
+use Rattle.multi_tag.specs.declared.tag.Tag.TheVariants as tags
 use Rattle.multi_meaning.specs.declared.times.Shown.TheVariants.{Off}
-use Rattle.multi_meaning.specs.Picture.{pixel_at}
 
--- SPOTS
+-- an item of each kind
+abbrev items : List Meaning
+items = Shows 65 ∷ Does (NewLine None) ∷ Does (NewLine (Some 2)) ∷ Does NewPage ∷ Does (Rect 1 1 3 3) ∷ Does FlashEnd ∷ Faulty 3 ∷ []
+
+an_area_begins_at_a_new_page_and_a_rectangle : map begins_area items ≡ false ∷ false ∷ false ∷ true ∷ true ∷ false ∷ false ∷ []
+an_area_begins_at_a_new_page_and_a_rectangle = refl
+
+an_area_ends_before_a_new_page : EndsArea (Does NewPage ∷ [])
+an_area_ends_before_a_new_page = inr (Does NewPage, [], refl, refl)
+
+characters_and_new_lines_have_a_place : map has_place items ≡ true ∷ true ∷ true ∷ false ∷ false ∷ false ∷ false ∷ []
+characters_and_new_lines_have_a_place = refl
+
+line_justifications : map (given_line_just sample.defaults) (Does (tags.LineJust (Some Full)) ∷ Does (tags.LineJust None) ∷ Does NewPage ∷ []) ≡ Some Full ∷ Some Centre ∷ None ∷ []
+line_justifications = refl
+
+page_justifications : map (given_page_just sample.defaults) (Does (tags.PageJust (Some Bottom)) ∷ Does (tags.PageJust None) ∷ Does NewPage ∷ []) ≡ Some Bottom ∷ Some Middle ∷ None ∷ []
+page_justifications = refl
+
+spacings : map given_spacing (Does (CharSpacing 4) ∷ Does CharSpacingEnd ∷ Does NewPage ∷ []) ≡ Some (Some 4) ∷ Some None ∷ None ∷ []
+spacings = refl
+
+abbrev flash : Bool → ℕ → ℕ → Option (Option FlashTimes)
+flash off_first on off = Some (Some (record { off_first = off_first; on = on; off = off }))
+
+-- flashing text is on for 6 tenths and off for 8, unless a tag says otherwise
+flashes : map (given_flash (record sample.defaults { flash_on = 6; flash_off = 8 })) (Does (Flash true (Some 3) (Some 7)) ∷ Does (Flash false None (Some 7)) ∷ Does (Flash false (Some 3) None) ∷ Does FlashEnd ∷ Does NewPage ∷ [])
+    ≡ flash true 3 7 ∷ flash false 6 7 ∷ flash false 3 8 ∷ Some None ∷ None ∷ []
+flashes = refl
+
+-- rectangles, on 12 columns and 7 rows: one that fills the sign, one of the last pixel, and one amid the sign
+rectangles_inside_the_sign : is_inside sample 1 1 12 7 ∷ is_inside sample 12 7 1 1 ∷ is_inside sample 5 4 1 1 ∷ [] ≡ true ∷ true ∷ true ∷ []
+rectangles_inside_the_sign = refl
+
+a_rectangle_begins_and_ends_inside_the_sign : is_inside sample 0 1 1 1 ∷ is_inside sample 1 0 1 1 ∷ is_inside sample 13 1 0 1 ∷ is_inside sample 1 8 1 0
+    ∷ is_inside sample 1 1 13 1 ∷ is_inside sample 12 1 2 1 ∷ is_inside sample 1 1 1 8 ∷ is_inside sample 1 7 1 2 ∷ []
+    ≡ false ∷ false ∷ false ∷ false ∷ false ∷ false ∷ false ∷ false ∷ []
+a_rectangle_begins_and_ends_inside_the_sign = refl
+
+-- a rectangle is counted from 1, may be of 1 pixel, or of all that remains
+rectangles : rectangle sample 3 2 4 5 ∷ rectangle sample 3 2 1 1 ∷ rectangle sample 3 2 0 0 ∷ []
+    ≡ record { left = 2; top = 1; width = 4; height = 5 } ∷ record { left = 2; top = 1; width = 1; height = 1 } ∷ record { left = 2; top = 1; width = 10; height = 6 } ∷ []
+rectangles = refl
 
 -- where the first item of the sample sign stands
 abbrev pub first : Standing
@@ -42,13 +80,8 @@ only_character_32_is_a_space : map (λ put. is_space (standing_first put)) (char
     ≡ false ∷ true ∷ false ∷ false ∷ false ∷ []
 only_character_32_is_a_space = refl
 
-abbrev largest_number : List ℕ → ℕ
-largest_number numbers = largest (λ n. n) numbers
-
-the_largest_number : map largest_number ([] ∷ (2 ∷ 5 ∷ 3 ∷ []) ∷ []) ≡ 0 ∷ 5 ∷ []
+the_largest_number : map (largest {X = ℕ} (λ n. n)) ([] ∷ (2 ∷ 5 ∷ 3 ∷ []) ∷ []) ≡ 0 ∷ 5 ∷ []
 the_largest_number = refl
-
--- THREE PARTS
 
 -- three parts fit a length or not
 abbrev AreFits : List (ℕ × ℕ × ℕ × ℕ × Bool) → Type 0
@@ -66,8 +99,6 @@ three_parts : AreFits (
     (4, 4, 3, 11, false) ∷  -- and reaches into it
     [])
 three_parts = refl
-
--- LINES AND AREAS
 
 -- whether a character of a width fits 12 columns, with a line justification
 abbrev has_columns_for : ℕ → LineJust → Bool
@@ -90,8 +121,6 @@ rows = refl
 rows_as_laid_out : map (λ rows. map (λ just. laid_fits None 7 (area rows just)) (Top ∷ Middle ∷ Bottom ∷ [])) (7 ∷ 8 ∷ [])
     ≡ (true ∷ true ∷ true ∷ []) ∷ (false ∷ false ∷ false ∷ []) ∷ []
 rows_as_laid_out = refl
-
--- THINGS
 
 -- what is put on page 1 in colour 3, with a flash and in the font of three rows
 abbrev spot_with : Option FlashTimes → Put → Spot
@@ -116,19 +145,12 @@ a_character_covers_its_set_bits_and_nothing_above_or_below : map (columns_in 0 N
 a_character_covers_its_set_bits_and_nothing_above_or_below = refl
 
 -- 5 tenths on, then 5 off
-abbrev flash : Option FlashTimes
-flash = Some (record { off_first = false; on = 5; off = 5 })
-
-a_character_covers_nothing_in_its_off_time : map (λ phase. covers phase flash letter 5 2) (4 ∷ 5 ∷ 9 ∷ 10 ∷ []) ≡ true ∷ false ∷ false ∷ true ∷ []
+a_character_covers_nothing_in_its_off_time : map (λ phase. covers phase (Some (record { off_first = false; on = 5; off = 5 })) letter 5 2) (4 ∷ 5 ∷ 9 ∷ 10 ∷ []) ≡ true ∷ false ∷ false ∷ true ∷ []
 a_character_covers_nothing_in_its_off_time = refl
 
-a_background_covers_the_first_pixel_and_the_last : covers 0 None (Cover 1 2) 0 0 ∷ covers 0 None (Cover 1 2) 11 6 ∷ [] ≡ true ∷ true ∷ []
-a_background_covers_the_first_pixel_and_the_last = refl
-
-the_end_of_a_line_covers_nothing : covers 0 None (Break None) 4 2 ≡ false
-the_end_of_a_line_covers_nothing = refl
-
--- COLOURS
+-- a background covers the first pixel and the last, and the end of a line none
+covered : covers 0 None (Cover 1 2) 0 0 ∷ covers 0 None (Cover 1 2) 11 6 ∷ covers 0 None (Break None) 4 2 ∷ [] ≡ true ∷ true ∷ false ∷ []
+covered = refl
 
 -- a sign of many colours, whose pages begin with colour 2
 abbrev colourful : SignData
@@ -155,17 +177,12 @@ nothing_and_a_background_are_put : map (λ some. map (has some) (0 ∷ 1 ∷ 2 �
 unfolding has
 nothing_and_a_background_are_put = refl
 
--- TIMES
-
 -- two pages, each of 10 tenths and 5 off
 abbrev pages : List Times
 pages = record { on = 10; off = 5 } ∷ record { on = 10; off = 5 } ∷ []
 
-the_first_page_is_on : map (λ clock. is_on pages clock 0) (0 ∷ 9 ∷ 10 ∷ 15 ∷ []) ≡ true ∷ true ∷ false ∷ false ∷ []
-the_first_page_is_on = refl
-
-the_second_page_is_on : map (λ clock. is_on pages clock 1) (0 ∷ 14 ∷ 15 ∷ 24 ∷ 25 ∷ []) ≡ false ∷ false ∷ true ∷ true ∷ false ∷ []
-the_second_page_is_on = refl
-
-a_page_that_is_not_there_is_never_on : map (λ clock. is_on pages clock 2) (0 ∷ 29 ∷ 30 ∷ []) ≡ false ∷ false ∷ false ∷ []
-a_page_that_is_not_there_is_never_on = refl
+-- at these clocks the first page is on, the second, or a third, which there isn't
+pages_are_on : map (λ page. map (λ clock. is_on pages clock page) (0 ∷ 9 ∷ 10 ∷ 14 ∷ 15 ∷ 24 ∷ 25 ∷ 29 ∷ 30 ∷ [])) (0 ∷ 1 ∷ 2 ∷ [])
+    ≡ (true ∷ true ∷ false ∷ false ∷ false ∷ false ∷ false ∷ false ∷ false ∷ []) ∷ (false ∷ false ∷ false ∷ false ∷ true ∷ true ∷ false ∷ false ∷ false ∷ [])
+    ∷ (false ∷ false ∷ false ∷ false ∷ false ∷ false ∷ false ∷ false ∷ false ∷ []) ∷ []
+pages_are_on = refl

@@ -1,4 +1,3 @@
-pub mod AttributeExamples
 pub mod Common
 pub mod DrawnLemmas
 pub mod FillLawLemmas

@@ -1,20 +1,10 @@
 -- What is in force behind the items of an accepted string: the rectangle is inside the sign, and every font is at least one
-use Rattle.multi_meaning.proofs.Common.{◌≡◌, ℕ, ◌+◌, ◌≤◌, Bool, true, ◌&&◌, ◌||◌, ◌==◌, List, [], ◌∷◌, ◌++◌, Option, None, sym, ◌∙◌, arith, IfSome, inl, inr, false, cond, length, Some, refl, ap, option_map, map, subst, length-append, All, cons_option, find, after_last, nat_tests, All-nil, All-head, All-tail, All-filter, All-weaker, filter-append, or_parts, cases_Bool, cases_eq, map-append, Defaults, SignData, CellData, FontData, font_numbered, cell_numbered, NewPage, NewLine, Back, Rect, LineFill, Off, Words, page_number, Item, Rectangle, Meaning, Shows, Does, begins_area, meaning, given_rectangle, whole_sign, Standing, standing, Spot, put_at, spots, is_glyph, is_break, Put, Glyph, Break, in_group, lines_of, segment, glyph_width, height_of, width_of, offence_by, offence, conflicts, present_area, some_after, area_fits, line_fits, too_big, fill_at, filled, offences}
-use Rattle.std.proofs.Common.{IsSome}
-use Rattle.std.proofs.lemmas.List.Elements.{All-drop}
-use Rattle.std.proofs.lemmas.Bool.{le-leb, not-false}
-use Rattle.std.proofs.lemmas.Option.{none-some}
-use Rattle.sign_font.specs.Sound.{IsSound}
-use Rattle.multi_meaning.specs.Attributes.{default_font, given_font}
-use Rattle.multi_meaning.specs.kept.Present.{IsNarrow, IsNarrowArea}
+use Rattle.multi_meaning.proofs.Common.{◌≡◌, ℕ, ◌+◌, ◌≤◌, Bool, true, ◌&&◌, ◌||◌, ◌==◌, List, [], ◌∷◌, ◌++◌, Option, None, sym, ◌∙◌, arith, IfSome, inl, inr, false, cond, length, Some, refl, ap, option_map, map, length-append, All, cons_option, find, after_last, nat_tests, All-nil, All-head, All-tail, All-filter, All-weaker, filter-append, or_parts, cases_eq, map-append, Defaults, SignData, CellData, FontData, font_numbered, cell_numbered, NewPage, NewLine, Back, Rect, LineFill, Off, Words, page_number, Item, Rectangle, Meaning, Shows, Does, begins_area, meaning, given_rectangle, whole_sign, Standing, standing, Spot, put_at, spots, is_glyph, is_break, Put, Glyph, Break, in_group, lines_of, segment, glyph_width, height_of, offence_by, offence, conflicts, present_area, some_after, area_fits, line_fits, too_big, fill_at, filled, offences, IsSome, All-drop, le-leb, not-false, none-some, IsSound, default_font, given_font, IsNarrow, IsNarrowArea, IsFine, rules}
 use Rattle.multi_meaning.proofs.StandingLemmas.{spots_all, offence-rectangle, standing_push, offence-undefined, offence-character, offence-break, rectangle_stays, present_area-placing, present_area-nothing, present_area-cover, present_area-new, last_fine}
 use Rattle.multi_meaning.proofs.WordLemmas.{left_nil, none_of, push_ind, right_nil, some_after_push, some_after-append, cases_Option, after_last_push}
-use Rattle.multi_meaning.specs.kept.Fine.{IsFine}
-use Rattle.multi_meaning.proofs.GroupLemmas.{lines_within, area_placing, in_group_other, own_group, placing_group, each_just, fit_each, sum_least}
+use Rattle.multi_meaning.proofs.GroupLemmas.{lines_within, area_placing, in_group_other, own_group, placing_group, fit_each, sum_least}
 use Rattle.multi_meaning.specs.kept.FillOpen.{AllOpenFit}
 use Rattle.multi_meaning.proofs.FillLemmas.{nothing_fits, segment_front, filled_behind, filled_none}
-
--- ---- the items of an accepted string, from the end
 
 module _ (sign : SignData) where
   -- where no item offends by these errors, none of a front of them does
@@ -31,21 +21,16 @@ module _ (sign : SignData) where
   each_ind f P first step = push_ind (λ items. some_after f items ≡ [] → P items) (λ none. first)
       (λ items item holds none. step items item (none_last f items item none) (holds (none_front f items (item ∷ []) none)))
 
--- ---- the rectangle in force
-
 -- a rectangle is inside the sign
 abbrev pub IsInSign : SignData → Rectangle → Type 0
 IsInSign sign r = (r.left + r.width ≤ sign.width) × (r.top + r.height ≤ sign.height)
 
 module _ (sign : SignData) (big : List Spot → Spot → Bool) where
-  next_in_sign : (before : List Meaning) (x : Meaning) → offence_by big sign before x ≡ None → IsInSign sign (standing sign before).rectangle → IsInSign sign (standing sign (before ++ x ∷ [])).rectangle
-  next_in_sign before x none old = grind (arith, nat_tests, standing_push sign before x, offence-rectangle)
-
   -- behind the items of an accepted string the rectangle in force is inside the sign
   pub rectangle_inside : (items : List Meaning) → some_after (offence_by big sign) items ≡ [] → IsInSign sign (standing sign items).rectangle
   unfolding standing
-  rectangle_inside = each_ind sign (offence_by big sign) (λ before. IsInSign sign (standing sign before).rectangle)
-      (omega arith, omega arith) next_in_sign
+  rectangle_inside = each_ind sign (offence_by big sign) (λ before. IsInSign sign (standing sign before).rectangle) (omega arith, omega arith)
+      (λ before x none old. grind (arith, nat_tests, standing_push sign before x, offence-rectangle big sign before, none, old))
 
   -- and so the rectangle in force is no higher than the sign
   pub rectangle_within : (items : List Meaning) → some_after (offence_by big sign) items ≡ [] → (standing sign items).rectangle.height ≤ sign.height
@@ -54,8 +39,6 @@ module _ (sign : SignData) (big : List Spot → Spot → Bool) where
   -- and no wider
   pub rectangle_width_within : (items : List Meaning) → some_after (offence_by big sign) items ≡ [] → (standing sign items).rectangle.width ≤ sign.width
   rectangle_width_within items none = omega (arith, (rectangle_inside items none).0)
-
--- ---- the font in force
 
 -- what holds of each holds of the one that is found
 found_each : {X : Type 0} (P : X → Type 0) (p : X → Bool) (xs : List X) → All P xs → IfSome (find p xs) P
@@ -92,31 +75,18 @@ module _ (sign : SignData) (sound : IsSound sign) (some : IsSome (font_numbered 
   given_high : (x : Meaning) → IfSome (given_font sign x) HighFont
   given_high x = grind (arith, high_numbered, default_high)
 
-  first_high : AreHigh []
-  unfolding standing spots
-  first_high = (default_high, All-nil High)
-
   next_high : (before : List Meaning) (x : Meaning) → AreHigh before → AreHigh (before ++ x ∷ [])
-  next_high before x (font, each) = (
-    grind (arith, standing_push sign before x, given_high x, font),
-    spots_all sign High before x (λ put e. rw e at (high_put sign.defaults (standing sign before) x font)) each,
-  )
+  next_high before x (font, each) =
+      grind (arith, standing_push sign before x, given_high x, font, spots_all sign High before x, high_put sign.defaults (standing sign before) x font, each)
 
   -- whatever the items are, all that they put is high
   area_high_all : (items : List Meaning) → All High (present_area sign items)
-  area_high_all items =
-      let area = (standing sign items).area in
-      All-filter (λ t. (is_glyph t || is_break t) && (t.at.area == area)) High (spots sign items) (push_ind AreHigh first_high next_high items).1
+  unfolding standing spots
+  area_high_all items = All-filter _ High (spots sign items) (push_ind AreHigh (default_high, All-nil High) next_high items).1
 
-  -- the placing items of the present area are put in fonts of at least one row
-  pub area_high : (items : List Meaning) → All (λ (s : Spot). 1 ≤ s.at.font.height) (present_area sign items)
-  area_high items = All-weaker High (λ (s : Spot). 1 ≤ s.at.font.height) (λ s h. h.0) (present_area sign items) (area_high_all items)
-
-  -- and its characters are at least one column wide
+  -- the characters of the present area are at least one column wide
   pub area_wide : (items : List Meaning) → All (λ (s : Spot). is_glyph s ≡ true → 1 ≤ glyph_width s) (present_area sign items)
   area_wide items = All-weaker High (λ (s : Spot). is_glyph s ≡ true → 1 ≤ glyph_width s) (λ s h. h.1) (present_area sign items) (area_high_all items)
-
--- ---- the present area
 
 -- what holds of an empty area in each rectangle, and stays where a placing item joins that isn't too big, holds of the present
 -- area of an accepted string
@@ -138,12 +108,10 @@ module _ (setting : LineFill) (sign : SignData) (P : Rectangle → List Spot →
 
   -- a placing item joins it
   holds_placing : (before : List Meaning) (x : Meaning) (put : Put) → let spot : Spot = record { at = standing sign before; put = put } in
-      given_rectangle sign x ≡ None → begins_area x ≡ false → put_at sign.defaults (standing sign before) x ≡ Some put
-      → (is_glyph spot || is_break spot) ≡ true
+      given_rectangle sign x ≡ None → begins_area x ≡ false → put_at sign.defaults (standing sign before) x ≡ Some put → (is_glyph spot || is_break spot) ≡ true
       → cond {A = Option ℕ} (conflicts (spots sign before) spot) (Some 11) (cond (too_big setting (spots sign before) spot) (Some 5) None) ≡ None
       → Holds before → Holds (before ++ x ∷ [])
-  holds_placing before x put gives stays puts placing fine old =
-      holds_by before x _ gives (present_area-placing sign before x put stays puts placing) (joins before put placing (grind (arith, fine)) old)
+  holds_placing before x put gives stays puts placing fine old = grind (arith, holds_by, present_area-placing)
 
   -- it holds behind one more item that doesn't offend
   pub next_holds : (before : List Meaning) (x : Meaning) → offence setting sign before x ≡ None → Holds before → Holds (before ++ x ∷ [])
@@ -187,14 +155,12 @@ fits_first sign = first_holds Off sign Fitting (λ r. fits_none r.height) (fits_
 pub area_fits_always : (sign : SignData) (items : List Meaning) → IsFine sign items → area_fits (standing sign items).rectangle.height (present_area sign items) ≡ true
 area_fits_always sign = holds_always Off sign Fitting (λ r. fits_none r.height) (fits_joined sign)
 
--- ---- room for the lines of an area
-
 module _ (sign : SignData) (sound : IsSound sign) (some : IsSome (font_numbered sign sign.defaults.font)) (items : List Meaning) where
   -- a present area that fits has no more lines than a sign has rows
   pub room_of : area_fits (standing sign items).rectangle.height (present_area sign items) ≡ true → (standing sign items).rectangle.height ≤ sign.height
       → length (lines_of (in_group 2 (present_area sign items))) + length (lines_of (in_group 3 (present_area sign items)))
       + length (lines_of (in_group 4 (present_area sign items))) ≤ 128
-  room_of fits within = grind (arith, lines_within, area_high)
+  room_of fits within = grind (arith, lines_within, area_high_all, All-weaker High (λ (s : Spot). 1 ≤ s.at.font.height))
 
   -- and so has that behind the items of an accepted string
   pub room : IsFine sign items → length (lines_of (in_group 2 (present_area sign items))) + length (lines_of (in_group 3 (present_area sign items)))
@@ -218,19 +184,16 @@ module _ (setting : LineFill) (fill : Rectangle → Option ℕ) (is : (at : Stan
       (is_glyph s || is_break s) ≡ true → too_big setting (spots sign before) s ≡ false → Fits s.at.rectangle (present_area sign before) → Fits s.at.rectangle (present_area sign before ++ s ∷ [])
   fits_joins before put placing small old just =
       let s : Spot = record { at = standing sign before; put = put } in
-      let group = page_number s.at.page_just in
       let area = present_area sign before in
-      let whole = filled (fill_at setting s.at) (in_group group area) in
-      let joined : line_fits s.at.rectangle.width (after_last is_break (filled (fill_at setting s.at) (in_group group (area ++ s ∷ [])))) ≡ true =
-      elim (cases_Bool (is_glyph s)) [
-        | inl glyph ↦ not-false _ (or_parts _ _ (rw glyph at small)).0
-        | inr other ↦
-            let ends : is_break s ≡ true = rw other at placing in
-            let behind =
-            filled_behind (fill_at setting s.at) (in_group group area) s (placing_group group area (area_placing (spots sign before) s)) ends in
-            grind (arith, own_group group area s refl, behind, after_last_push is_break whole s, ends, nothing_fits s.at.rectangle.width)
-      ] in
-      elim (cases_eq group just) [ inl own ↦ grind (arith, own, is, joined) | inr other ↦ grind (arith, in_group_other, old) ]
+      let own = own_group (page_number s.at.page_just) area s refl in
+      let group = in_group (page_number s.at.page_just) area in
+      let ends = filled_behind (fill_at setting s.at) group s (placing_group (page_number s.at.page_just) area (area_placing (spots sign before) s)) in
+      elim (cases_eq (page_number s.at.page_just) just) [
+        | inl same ↦
+            let after_last_push' = after_last_push is_break (filled (fill_at setting s.at) group) s in
+            grind (arith, same, placing, small, own, ends, after_last_push', nothing_fits s.at.rectangle.width, is s.at)
+        | inr other ↦ grind (arith, in_group_other, old)
+      ]
 
 -- behind the items of an accepted string the present line of each group fits the rectangle in force
 pub lines_fit_always : (sign : SignData) (items : List Meaning) → IsFine sign items → LinesFit (standing sign items).rectangle.width (present_area sign items)
@@ -244,13 +207,9 @@ module _ (sign : SignData) where
   pub open_lines_fit : sign.line_fill ≡ Words → (before : List Item) → offences sign before ≡ [] → OpenLinesFit (map meaning before)
   open_lines_fit words =
       let fill = λ (r : Rectangle). Some r.width in
-      let fits = Fits Words fill (λ at. refl) sign in
-      let first = none_fit Words fill (λ at. refl) sign in
-      let joins = fits_joins Words fill (λ at. refl) sign in
-      push_ind (λ before. offences sign before ≡ [] → OpenLinesFit (map meaning before)) (λ none. first_holds Words sign fits first joins) (λ before item ih none.
-      let (earlier, fine) = last_fine sign before item none in
-      let fine' = ap (λ setting. offence setting sign (map meaning before) (meaning item)) (sym words) ∙ fine in
-      subst OpenLinesFit (sym (map-append meaning before (item ∷ []))) (next_holds Words sign fits first joins (map meaning before) (meaning item) fine' (ih earlier)))
+      let next = next_holds Words sign (Fits Words fill (λ at. refl) sign) (none_fit Words fill (λ at. refl) sign) (fits_joins Words fill (λ at. refl) sign) in
+      push_ind (λ before. offences sign before ≡ [] → OpenLinesFit (map meaning before)) (λ none. first_holds Words sign (Fits Words fill (λ at. refl) sign) (none_fit Words fill (λ at. refl) sign) (fits_joins Words fill (λ at. refl) sign))
+      (λ before item ih none. grind (arith, last_fine sign before item none, words, map-append, next (map meaning before) (meaning item), ih))
 
 -- the characters of a segment are at least one column wide
 wide_segment : (just : ℕ) (line : List Spot) → All (λ (s : Spot). is_glyph s ≡ true → 1 ≤ glyph_width s) line → All (λ (s : Spot). 1 ≤ glyph_width s) (segment just line)
@@ -266,12 +225,10 @@ module _ (sign : SignData) (sound : IsSound sign) (items : List Meaning) (fits :
       let line = after_last is_break (in_group just (present_area sign items)) in
       let P = λ (s : Spot). is_glyph s ≡ true → 1 ≤ glyph_width s in
       let wide : All P line = All-drop P _ (in_group just (present_area sign items)) (All-filter (λ t. page_number t.at.page_just == just) P (present_area sign items) (area_wide sign sound sound.font items)) in
-      let many = sum_least glyph_width (segment 5 line) (wide_segment 5 line wide) in
+      let fits' = fits just in
       record {
-        width = each_just (λ just. width_of (segment just line) ≤ 1024) (grind (arith, nat_tests, fits, across, sound.width.1))
-            (grind (arith, nat_tests, fits, across, sound.width.1)) (grind (arith, nat_tests, fits, across, sound.width.1))
-            (grind (arith, nat_tests, fits, across, sound.width.1));
-        characters = grind (arith, nat_tests, many, fits, across, sound.width.1);
+        width = (λ j low top. grind (arith, nat_tests, fits', across, sound.width.1));
+        characters = grind (arith, nat_tests, sum_least glyph_width (segment 5 line) (wide_segment 5 line wide), fits', across, sound.width.1);
       }
 
   -- and no group is higher than a sign
@@ -283,9 +240,7 @@ module _ (sign : SignData) (sound : IsSound sign) (items : List Meaning) (fits :
 
 -- and so is that behind the items of an accepted string
 pub narrow_area : (sign : SignData) → IsSound sign → (items : List Meaning) → IsFine sign items → IsNarrowArea (present_area sign items)
-narrow_area sign sound items none =
-    narrow_of sign sound items (lines_fit_always sign items none) (area_fits_always sign items none)
-    (rectangle_width_within sign (too_big Off) items none) (rectangle_within sign (too_big Off) items none)
+narrow_area sign sound items none = search (rules, narrow_of, lines_fit_always, area_fits_always, rectangle_width_within, rectangle_within)
 
 -- and the front of a narrow line
 pub narrow_front : (line behind : List Spot) → IsNarrow (line ++ behind) → IsNarrow line

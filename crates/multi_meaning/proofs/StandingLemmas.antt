@@ -1,16 +1,7 @@
 -- What one more item does to the values in force, the spots, the widths and the heights.
-use Rattle.multi_meaning.proofs.Common.{◌≡◌, inl, inr, ◌+◌, List, [], ◌∷◌, ◌++◌, Option, Some, unwrap_or, append-nil, arith, ℕ, ◌≤◌, cond, None, refl, sym, ap, subst, ◌∙◌, append_assoc, Bool, true, false, ◌&&◌, ◌||◌, ◌==◌, IfSome, eq-eqb, nat_lt, not, map, cons_option, All-push, filter_map-append, All-nil, All-weaker, filter-append, All-head, All-tail, sum_by_push, sum_by-append, option_map_or, SignData, CellData, cell_numbered, FontData, font_numbered, NewPage, NewLine, Rect, Defaults, Item, LineFill, Meaning, begins_area, Shows, Does, is_new_page, EndsArea, Faulty, has_place, meaning, given_rectangle, is_inside, Put, Spot, put_at, spot_at, spots, standing, Standing, is_break, is_glyph, in_area, Glyph, Cover, Break, glyph_width, char_gap, width_of, standing_behind, present_area, Rectangle, some_after, conflicts, offence_by, offence, unsized_offence, laid_item, fault_at, offences}
-use Rattle.std.proofs.Common.{All, count_by}
-use Rattle.std.specs.List.{Contains}
-use Rattle.std.proofs.lemmas.List.Elements.{All-contains_itself}
-use Rattle.multi_tag.specs.declared.tag.Tag.TheVariants.{Font}
+use Rattle.multi_meaning.proofs.Common.{◌≡◌, ◌+◌, List, [], ◌∷◌, ◌++◌, Option, Some, append-nil, arith, ℕ, ◌≤◌, cond, None, refl, sym, ap, subst, ◌∙◌, append_assoc, Bool, true, false, ◌&&◌, ◌||◌, ◌==◌, IfSome, eq-eqb, nat_lt, not, map, cons_option, All-push, filter_map-append, All-nil, All-weaker, filter-append, All-head, All-tail, sum_by_push, sum_by-append, option_map_or, SignData, CellData, cell_numbered, FontData, font_numbered, NewPage, NewLine, Rect, Item, LineFill, Meaning, begins_area, Shows, Does, is_new_page, EndsArea, Faulty, has_place, meaning, given_rectangle, is_inside, Put, Spot, put_at, spot_at, spots, standing, Standing, is_break, is_glyph, in_area, Glyph, Cover, Break, glyph_width, char_gap, width_of, standing_behind, present_area, Rectangle, some_after, conflicts, offence_by, offence, unsized_offence, laid_item, fault_at, offences, All, count_by, All-contains_itself, Font, common_steps}
 use Rattle.multi_tag.specs.declared.tag.FontPick.{FontPick}
-use Rattle.multi_meaning.specs.Attributes.{in_force}
 use Rattle.multi_meaning.proofs.WordLemmas.{cases_Option, some_after_push, last_or-append, extent_push, gap_before, push_ind, filter_none, some_after-append, left_nil, none_mapped, none_of, right_nil}
-
--- one more item gives the attribute its value, or leaves it
-pub in_force_push : {A : Type 0} (given : Meaning → Option A) (default : A) (before : List Meaning) (x : Meaning) → in_force given default (before ++ x ∷ []) ≡ unwrap_or (given x) (in_force given default before)
-in_force_push given default before x = grind (arith, filter_map-append, last_or-append)
 
 pub spots_push : (sign : SignData) (items : List Meaning) (x : Meaning) → spots sign (items ++ x ∷ []) ≡ spots sign items ++ cons_option (spot_at sign.defaults (standing sign items) x) []
 unfolding spots
@@ -19,10 +10,7 @@ spots_push sign items x = some_after_push (λ before x. spot_at sign.defaults (s
 -- what holds of all spots holds with what one more item puts, if it holds of that
 pub spots_all : (sign : SignData) (P : Spot → Type 0) (items : List Meaning) (x : Meaning) → ((put : Put) → put_at sign.defaults (standing sign items) x ≡ Some put → P (record { at = standing sign items; put = put }))
     → All P (spots sign items) → All P (spots sign (items ++ x ∷ []))
-spots_all sign P items x new old = rw (spots_push sign items x) (elim (cases_Option (put_at sign.defaults (standing sign items) x)) [
-  | inl none ↦ rw (none, append-nil (spots sign items)) old
-  | inr (put, e) ↦ rw e (All-push P (spots sign items) (record { at = standing sign items; put = put }) old (new put e))
-])
+spots_all sign P items x new old = grind (arith, common_steps, spots_push, cases_Option, append-nil, All-push)
 
 -- a segment after one more character of its own
 pub width_push : (characters : List Spot) (s : Spot) → width_of (characters ++ s ∷ []) ≡ width_of characters + gap_before char_gap characters s + glyph_width s
@@ -31,7 +19,7 @@ width_push characters s = extent_push glyph_width char_gap characters s
 -- the values in force behind one more item
 pub standing_push : (sign : SignData) (before : List Meaning) (x : Meaning) → standing sign (before ++ x ∷ []) ≡ standing_behind sign (standing sign before) x
 unfolding standing
-standing_push sign before x = simp (in_force_push, sum_by_push)
+standing_push sign before x = grind (arith, sum_by_push, filter_map-append, last_or-append)
 
 module _ (sign : SignData) where
   pub area_push : (items : List Meaning) (x : Meaning) → (standing sign (items ++ x ∷ [])).area ≡ (standing sign items).area + cond (begins_area x) 1 0
@@ -56,16 +44,13 @@ module _ (sign : SignData) where
   pub spots_placed : (items : List Meaning) → All (λ s. IsBehind s.at.area s.at.rectangle items) (spots sign items)
   unfolding spots
   spots_placed = push_ind (λ items. All (λ s. IsBehind s.at.area s.at.rectangle items) (spots sign items))
-      (All-nil (λ s. IsBehind s.at.area s.at.rectangle [])) (λ items x ih.
-      let here = standing sign items in
-      spots_all sign (λ s. IsBehind s.at.area s.at.rectangle (items ++ x ∷ [])) items x (λ put e. behind_push here.area here.rectangle items x (omega arith, λ is. refl))
-      (All-weaker (λ s. IsBehind s.at.area s.at.rectangle items) (λ s. IsBehind s.at.area s.at.rectangle (items ++ x ∷ [])) (λ s h. behind_push s.at.area s.at.rectangle items x h) (spots sign items) ih))
+      (All-nil (λ s. IsBehind s.at.area s.at.rectangle [])) (λ items x ih. spots_all sign (λ s. IsBehind s.at.area s.at.rectangle (items ++ x ∷ [])) items x (λ put e. behind_push (standing sign items).area (standing sign items).rectangle items x (omega arith, λ is. refl))
+      (All-weaker _ (λ s. IsBehind s.at.area s.at.rectangle (items ++ x ∷ [])) (λ s h. behind_push s.at.area s.at.rectangle items x h) (spots sign items) ih))
 
   stays_behind : (items behind : List Meaning) → IsBehind (standing sign items).area (standing sign items).rectangle (items ++ behind)
-  stays_behind items =
-      let here = standing sign items in
-      push_ind (λ behind. IsBehind here.area here.rectangle (items ++ behind)) (grind (arith, append-nil))
-      (λ behind x ih. grind (arith, append_assoc items behind (x ∷ []), behind_push here.area here.rectangle (items ++ behind) x ih))
+  stays_behind items = push_ind (λ behind. IsBehind (standing sign items).area (standing sign items).rectangle (items ++ behind)) (grind (arith, append-nil))
+      (λ behind x ih.
+      grind (arith, append_assoc items behind (x ∷ []), behind_push (standing sign items).area (standing sign items).rectangle (items ++ behind) x ih))
 
   -- all spots of a string in the area behind some items have the rectangle in force there
   pub same_rectangle : (items behind : List Meaning) → All (SameRectangle items) (spots sign (items ++ behind))
@@ -88,21 +73,18 @@ module _ (sign : SignData) (items : List Meaning) (x : Meaning) where
   pub same_area : begins_area x ≡ false → (standing sign (items ++ x ∷ [])).area ≡ (standing sign items).area
   same_area stays_in = omega (arith, rw stays_in at (area_push sign items x))
 
-  stays : begins_area x ≡ false → present_area sign (items ++ x ∷ []) ≡ present_area sign items ++ in_area (standing sign items).area (cons_option (spot_at sign.defaults (standing sign items) x) [])
-  stays stays_in = ap (λ k. in_area k (spots sign (items ++ x ∷ []))) (same_area stays_in) ∙ grown (standing sign items).area
-
   -- a placing item joins the present area
   pub present_area-placing : (put : Put) → begins_area x ≡ false → put_at sign.defaults (standing sign items) x ≡ Some put → is_placing (record { at = standing sign items; put = put }) ≡ true
       → present_area sign (items ++ x ∷ []) ≡ present_area sign items ++ record { at = standing sign items; put = put } ∷ []
-  present_area-placing put stays_in is placing = let k = (standing sign items).area in stays stays_in ∙ rw (is, placing, eq-eqb k k refl) refl
+  present_area-placing put stays_in is placing = grind (arith, same_area, grown, is, placing, eq-eqb)
 
   -- another item that begins stays_in area leaves it
   pub present_area-nothing : begins_area x ≡ false → put_at sign.defaults (standing sign items) x ≡ None → present_area sign (items ++ x ∷ []) ≡ present_area sign items
-  present_area-nothing stays_in is = stays stays_in ∙ rw is (append-nil (present_area sign items))
+  present_area-nothing stays_in is = grind (arith, same_area, grown, is, append-nil)
 
   pub present_area-cover : (put : Put) → begins_area x ≡ false → put_at sign.defaults (standing sign items) x ≡ Some put → is_placing (record { at = standing sign items; put = put }) ≡ false
       → present_area sign (items ++ x ∷ []) ≡ present_area sign items
-  present_area-cover put stays_in is cover = stays stays_in ∙ rw (is, cover) (append-nil (present_area sign items))
+  present_area-cover put stays_in is cover = grind (arith, same_area, grown, is, cover, append-nil)
 
   -- another area stays
   pub other_area : (k : ℕ) → ((standing sign items).area ≡ k → ⊥) → in_area k (spots sign (items ++ x ∷ [])) ≡ in_area k (spots sign items)
@@ -117,8 +99,7 @@ abbrev pub spots_behind : SignData → List Meaning → List Meaning → List Sp
 spots_behind sign before behind = some_after (λ more item. spot_at sign.defaults (standing sign (before ++ more)) item) behind
 
 -- all items are some and those behind them
-pub spots_split : (sign : SignData) (before behind : List Meaning) → spots sign (before ++ behind)
-    ≡ spots sign before ++ spots_behind sign before behind
+pub spots_split : (sign : SignData) (before behind : List Meaning) → spots sign (before ++ behind) ≡ spots sign before ++ spots_behind sign before behind
 unfolding spots
 spots_split sign before behind = some_after-append (λ before item. spot_at sign.defaults (standing sign before) item) before behind
 
@@ -144,10 +125,6 @@ spots_with sign before x rest put is = grind (arith, append_assoc, append-nil, s
 pub same_page_behind : (sign : SignData) (before : List Meaning) (x : Meaning) → is_new_page x ≡ false → (standing sign (before ++ x ∷ [])).page ≡ (standing sign before).page
 same_page_behind sign before x stays = grind (arith, standing_push)
 
--- behind a new page stands the next page
-pub next_page_behind : (sign : SignData) (before : List Meaning) → (standing sign (before ++ Does NewPage ∷ [])).page ≡ (standing sign before).page + 1
-next_page_behind sign before = ap (λ (s : Standing). s.page) (standing_push sign before (Does NewPage))
-
 -- what f makes of each of some items has a property
 pub some_all : {X Y : Type 0} (P : X → Type 0) (Q : Y → Type 0) (f : List X → X → Option Y) (xs : List X) → All P xs → ((before : List X) (x : X) → P x → IfSome (f before x) Q) → All Q (some_after f xs)
 some_all P Q f [] h each = All-nil Q
@@ -162,22 +139,16 @@ page_put at _ = at.page
 abbrev pub IsFrom : ℕ → Spot → Type 0
 IsFrom page s = page ≤ page_put s.at s.put
 
-spot_page : (here : Standing) (low : ℕ) → low ≤ here.page → (defaults : Defaults) (x : Meaning) → IfSome (spot_at defaults here x) (IsFrom low)
-spot_page here low reached defaults x = grind arith
-
 -- pages don't fall along the items, nor do areas
 falls_not : (sign : SignData) (before more : List Meaning)
     → ((standing sign before).page ≤ (standing sign (before ++ more)).page) × ((standing sign before).area ≤ (standing sign (before ++ more)).area)
 unfolding standing
-falls_not sign before more =
-    (omega (arith, sum_by-append (λ x. cond (is_new_page x) 1 0) before more), omega (arith, sum_by-append (λ x. cond (begins_area x) 1 0) before more))
+falls_not sign before more = grind (arith, sum_by-append)
 
 -- what the items behind some others put is of their page or a later one
 pub pages_behind : (sign : SignData) (before behind : List Meaning) → All (IsFrom (standing sign before).page) (spots_behind sign before behind)
 pages_behind sign before behind =
-    let low = (standing sign before).page in
-    some_all (λ x. Unit {0}) (IsFrom low) (λ more item. spot_at sign.defaults (standing sign (before ++ more)) item) behind (All-weaker (Contains behind) (λ x. Unit {0}) (λ x _. tt) behind (All-contains_itself behind))
-    (λ more x _. spot_page (standing sign (before ++ more)) low (falls_not sign before more).0 sign.defaults x)
+    some_all (λ x. Unit {0}) (IsFrom (standing sign before).page) (λ more item. spot_at sign.defaults (standing sign (before ++ more)) item) behind (grind (arith, All-contains_itself, All-weaker)) (λ more x _. grind (arith, (falls_not sign before more).0))
 
 module _ (sign : SignData) (before : List Meaning) where
   -- an item that begins an area, and the items behind it, place nothing in the area that ends
@@ -198,12 +169,9 @@ module _ (sign : SignData) (before : List Meaning) where
 
   -- a character joins its area, and the items behind it come after it
   pub area_with_glyph : (number : ℕ) (cell : CellData) (rest : List Meaning) → cell_numbered (standing sign before).font number ≡ Some cell →
-      let at = standing sign before in
-      let spot : Spot = record { at = at; put = Glyph cell } in
+      let at = standing sign before in let spot : Spot = record { at = at; put = Glyph cell } in
       (more : List Spot) × (in_area at.area (spots sign (before ++ Shows number ∷ rest)) ≡ in_area at.area (spots sign before) ++ spot ∷ more)
-  area_with_glyph number cell rest found =
-      let at = standing sign before in
-      (in_area at.area (spots_behind sign (before ++ Shows number ∷ []) rest), grind (arith, spots_with sign before (Shows number) rest (Glyph cell), found, in_area-append, eq-eqb at.area at.area refl))
+  area_with_glyph number cell rest found = (in_area (standing sign before).area (spots_behind sign (before ++ Shows number ∷ []) rest), grind (arith, spots_with sign before (Shows number) rest (Glyph cell), found, in_area-append, eq-eqb (standing sign before).area (standing sign before).area refl))
 
 module _ (big : List Spot → Spot → Bool) (sign : SignData) (items : List Meaning) where
   -- a character without a cell
@@ -219,8 +187,7 @@ module _ (big : List Spot → Spot → Bool) (sign : SignData) (items : List Mea
   offence-character number cell found = grind (arith, found)
 
   -- the end of a line
-  pub offence-break : (gap : Option ℕ) →
-      let spot : Spot = record { at = standing sign items; put = Break gap } in
+  pub offence-break : (gap : Option ℕ) → let spot : Spot = record { at = standing sign items; put = Break gap } in
       offence_by big sign items (Does (NewLine gap)) ≡ cond (conflicts (spots sign items) spot) (Some 11) (cond (big (spots sign items) spot) (Some 5) None)
   unfolding offence_by
   offence-break gap = grind arith

@@ -1,10 +1,5 @@
 -- Worked examples of places on the sample sign, computed.
-use Rattle.multi_meaning.proofs.Common.{◌≡◌, ℕ, List, [], ◌∷◌, map, refl, true, if◌then◌else◌, nat_eq, range_with_len, count_by, sum_by, reading, tag_of, sample, SignData, Words, meaning, spots, standing, place_of, offence_by, Accepted, Refused, verdict, verdict_on, in_plane, things, things_among, Page, shown, shown_at, shown_within, page_times}
-use Rattle.std.proofs.Common.{codes}
-use Rattle.multi_token.specs.Reading.{read_items, read_item}
-use Rattle.multi_meaning.specs.Place.{places}
-use Rattle.multi_meaning.specs.Verdict.{Verdict}
-use Rattle.multi_meaning.specs.Picture.{picture}
+use Rattle.multi_meaning.proofs.Common.{◌≡◌, ℕ, List, [], ◌∷◌, map, refl, true, if◌then◌else◌, nat_eq, range_with_len, count_by, sum_by, reading, tag_of, sample, SignData, Words, meaning, spots, standing, place_of, offence_by, Accepted, Refused, verdict, verdict_on, in_plane, things, things_among, Page, shown, shown_at, shown_within, page_times, codes, read_items, read_item, places, Verdict, picture}
 use Rattle.multi_meaning.specs.declared.times.Shown.{Shown}
 use Rattle.multi_meaning.specs.declared.times.Shown.TheVariants.{Off}
 
@@ -139,34 +134,22 @@ two_words_on_two_lines : rows words (codes "AA AA") 0 0 1
 unfolding rows
 two_words_on_two_lines = refl
 
--- each of these strings lights so many pixels at these phases
-abbrev AreLit : List (List ℕ × List ℕ × List ℕ) → Type 0
-AreLit rows = map (λ row. map (λ phase. lit sample row.0 0 phase 1) row.1) rows ≡ map (λ row. row.2) rows
+-- on each of these signs a string lights so many pixels at these pages, phases and colours
+abbrev AreLit : List (SignData × List ℕ × List (ℕ × ℕ × ℕ) × List ℕ) → Type 0
+AreLit rows = map (λ row. map (λ p. lit row.0 row.1 p.0 p.1 p.2) row.2) rows ≡ map (λ row. row.3) rows
 
-flashes : AreLit (
-    (codes "[flt5o5]A[/fl]", 0 ∷ 4 ∷ 5 ∷ 9 ∷ 10 ∷ [], 6 ∷ 6 ∷ 0 ∷ 0 ∷ 6 ∷ []) ∷  -- flash on first
-    (codes "[flt3]A", 7 ∷ 8 ∷ [], 0 ∷ 6 ∷ []) ∷  -- an absent flash time is the default
-    (codes "[flo5t5]A", 0 ∷ 5 ∷ 10 ∷ [], 0 ∷ 6 ∷ 0 ∷ []) ∷  -- flash off first
-    (codes "[flt0o0]A", 7 ∷ [], 6 ∷ []) ∷  -- flash without times is lit
+lights : AreLit (
+    (sample, codes "[flt5o5]A[/fl]", (0, 0, 1) ∷ (0, 4, 1) ∷ (0, 5, 1) ∷ (0, 9, 1) ∷ (0, 10, 1) ∷ [], 6 ∷ 6 ∷ 0 ∷ 0 ∷ 6 ∷ []) ∷  -- flash on first
+    (sample, codes "[flt3]A", (0, 7, 1) ∷ (0, 8, 1) ∷ [], 0 ∷ 6 ∷ []) ∷  -- an absent flash time is the default
+    (sample, codes "[flo5t5]A", (0, 0, 1) ∷ (0, 5, 1) ∷ (0, 10, 1) ∷ [], 0 ∷ 6 ∷ 0 ∷ []) ∷  -- flash off first
+    (sample, codes "[flt0o0]A", (0, 7, 1) ∷ [], 6 ∷ []) ∷  -- flash without times is lit
+    (sample_classic, codes "[cf3]A[pb1]", (0, 0, 1) ∷ (0, 0, 3) ∷ [], 84 ∷ 0 ∷ []) ∷  -- a background covers what stands before it
+    (sample_classic, codes "[pb1][cf3]A", (0, 0, 1) ∷ (0, 0, 3) ∷ [], 78 ∷ 6 ∷ []) ∷  -- a character covers the background
+    (sample, codes "[cf3]A", (0, 0, 1) ∷ (0, 0, 3) ∷ [], 6 ∷ 0 ∷ []) ∷  -- a monochrome sign shows one colour
+    (sample_classic, codes "A[pb2][np][cf3]A", (0, 0, 2) ∷ (1, 0, 2) ∷ [], 84 ∷ 78 ∷ []) ∷  -- a background stays in force on the next page
     [])
 unfolding lit
-flashes = refl
-
-a_background_covers_what_stands_before_it : map (lit sample_classic (codes "[cf3]A[pb1]") 0 0) (1 ∷ 3 ∷ []) ≡ 84 ∷ 0 ∷ []
-unfolding lit
-a_background_covers_what_stands_before_it = refl
-
-a_character_covers_the_background : map (lit sample_classic (codes "[pb1][cf3]A") 0 0) (1 ∷ 3 ∷ []) ≡ 78 ∷ 6 ∷ []
-unfolding lit
-a_character_covers_the_background = refl
-
-a_monochrome_sign_shows_one_colour : map (lit sample (codes "[cf3]A") 0 0) (1 ∷ 3 ∷ []) ≡ 6 ∷ 0 ∷ []
-unfolding lit
-a_monochrome_sign_shows_one_colour = refl
-
-a_background_stays_in_force_on_the_next_page : map (λ page. lit sample_classic (codes "A[pb2][np][cf3]A") page 0 2) (0 ∷ 1 ∷ []) ≡ 84 ∷ 78 ∷ []
-unfolding lit
-a_background_stays_in_force_on_the_next_page = refl
+lights = refl
 
 unfoldable at_clock : List ℕ → ℕ → Shown
 unfolding shown_at shown_within page_times standing reading read_items read_item tag_of

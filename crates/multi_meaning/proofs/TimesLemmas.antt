@@ -1,19 +1,10 @@
 -- The times of pages, and the page at a clock.
-use Rattle.multi_meaning.proofs.Common.{◌≡◌, ℕ, zero, suc, ◌+◌, ◌-◌, ◌<◌, ◌≤◌, Bool, true, false, ◌||◌, ◌==◌, cond, length, take, List, [], ◌∷◌, ◌++◌, Option, Some, None, refl, ap, ◌∙◌, arith, append_assoc, append-nil, length-append, ◌^◌, sym, eq-eqb, find, range_with_len, count_by, sum_by-append, sum_by-cons, sum_by_push, take-append_seam, nat_tests, SignData, NewPage, standing, Meaning, Does, is_new_page, meanings, Page, Times, cycle, is_on, page_times, shown, shown_at, shown_within, pages_of, Accepted, IsCycle, IsVerdict, some_after}
-use Rattle.std.proofs.Common.{◌%◌, get_or, take-take}
-use Rattle.std.specs.List.{slice_get}
-use Rattle.std.proofs.lemmas.List.Sums.{sum_by_more, sum_by-take-le}
+use Rattle.multi_meaning.proofs.Common.{◌≡◌, ℕ, zero, suc, ◌+◌, ◌-◌, ◌<◌, ◌≤◌, Bool, true, false, ◌||◌, ◌==◌, cond, length, take, List, [], ◌∷◌, ◌++◌, Some, None, refl, ap, ◌∙◌, arith, append_assoc, append-nil, length-append, ◌^◌, sym, eq-eqb, find, range_with_len, count_by, sum_by-append, sum_by-cons, sum_by_push, take-append_seam, nat_tests, SignData, NewPage, standing, Meaning, Does, is_new_page, meanings, Page, Times, cycle, is_on, page_times, shown, shown_at, shown_within, pages_of, Accepted, IsCycle, IsVerdict, some_after, ◌%◌, get_or, take-take, slice_get, sum_by_more, sum_by-take-le, slice_get-get_or, get_or-append_seam, or_left, or_right, begin, ended_times, times_at, rules}
 use Rattle.std.proofs.lemmas.List.FromFn.{get_or-range_with_len, length-range_with_len}
-use Rattle.std.proofs.lemmas.Option.{slice_get-get_or}
-use Rattle.std.proofs.Math.Seq.{get_or-append_seam}
 use Rattle.std.proofs.lemmas.List.Recursion.{found_at}
-use Rattle.std.proofs.lemmas.Bool.{or_left, or_right}
 use Rattle.multi_meaning.specs.declared.times.Shown.TheVariants.{Off}
-use Rattle.multi_meaning.specs.Times.{begin, ended_times, times_at}
 use Rattle.multi_meaning.proofs.WordLemmas.{some_after-append}
 use Rattle.multi_meaning.proofs.VerdictLemmas.{accepted_is, cycle_is}
-
--- THE CYCLE
 
 -- one more page adds its times to the cycle
 pub cycle_push : (before : List Times) (here : Times) → cycle (before ++ here ∷ []) ≡ cycle before + (here.on + here.off)
@@ -21,19 +12,13 @@ cycle_push before here = sum_by_push (λ (t : Times). t.on + t.off) before here
 
 -- each page ends within the cycle
 pub cycle_within : (before after : List Times) (here : Times) → cycle before + (here.on + here.off) ≤ cycle (before ++ here ∷ after)
-cycle_within before after here =
-    omega (arith, sum_by-append (λ (t : Times). t.on + t.off) before (here ∷ after), sum_by-cons (λ (t : Times). t.on + t.off) here after)
-
--- THE PAGE AT A CLOCK
+cycle_within before after here = search (rules, sum_by-append, sum_by-cons)
 
 -- the first number of a range that passes a test is found
 find_first : (p : ℕ → Bool) (n k : ℕ) → k < n → p k ≡ true → ((j : ℕ) → j < k → p j ≡ false) → find p (range_with_len 0 n) ≡ Some k
 find_first p n k below passes fails =
-    let at : (j : ℕ) → j < n → get_or (range_with_len 0 n) j 0 ≡ j = λ j h. omega (arith, get_or-range_with_len 0 n j 0 h) in
-    let none = λ (j : ℕ) (h : j < k). ap p (at j (omega arith)) ∙ fails j h in
-    found_at (find p) p (λ x. Some x) None refl (λ x xs. refl) (range_with_len 0 n) k 0 (omega (arith, length-range_with_len 0 n)) none
-    (ap p (at k below) ∙ passes)
-    ∙ ap (λ j. Some j) (at k below)
+    let found_at' = found_at (find p) p (λ x. Some x) None refl (λ x xs. refl) (range_with_len 0 n) k 0 in
+    grind (arith, found_at', length-range_with_len 0 n, get_or-range_with_len 0 n, passes, fails)
 
 -- where no number of a range passes a test, none is found
 find_none : (p : ℕ → Bool) (a n : ℕ) → ((j : ℕ) → a ≤ j → j < a + n → p j ≡ false) → find p (range_with_len a n) ≡ None
@@ -43,12 +28,6 @@ find_none p a (suc n) fails = rw (fails a (omega arith) (omega arith)) (find_non
 -- a later page begins no earlier
 begins_later : (pages : List Times) (j k : ℕ) → j ≤ k → begin pages j ≤ begin pages k
 begins_later pages j k h = omega (arith, ap cycle (take-take j k pages h), sum_by-take-le (λ (t : Times). t.on + t.off) (take k pages) j)
-
--- a page isn't on from the next page's begin on
-ended : (pages : List Times) (t k : ℕ) → k < length pages → begin pages (k + 1) ≤ t → is_on pages t k ≡ false
-ended pages t k within h =
-    let none : Times = record { on = 0; off = 0 } in
-    grind (arith, nat_tests, slice_get-get_or pages k none within, sum_by_more (λ (t : Times). t.on + t.off) pages k none within)
 
 -- one page, or a cycle of 0, always shows page 0
 pub shown_always : (pages : List Times) (clock : ℕ) → ((length pages == 1) || (cycle pages == 0)) ≡ true → shown_at pages clock ≡ Page 0 clock
@@ -76,26 +55,21 @@ module _ (pages before after : List Times) (here : Times) (is : pages ≡ before
 
   -- no earlier page is on from its begin on
   none_before : (t j : ℕ) → cycle before ≤ t → j < length before → is_on pages t j ≡ false
-  none_before t j from below = ended pages t j (omega (arith, within)) (omega (arith, begins_later pages (j + 1) (length before) (omega arith), begins))
+  none_before t j from below =
+      grind (arith, nat_tests, slice_get-get_or pages j (record { on = 0; off = 0 }), sum_by_more, within, begins_later pages (j + 1) (length before), begins)
 
   -- in its on time a page is shown
   pub shown_on : (t : ℕ) → cycle before ≤ t → t < cycle before + here.on → shown_within pages t ≡ Page (length before) (t - cycle before)
   unfolding shown_within
-  shown_on t from until =
-      let found = find_first (is_on pages t) (length pages) (length before) (omega (arith, within)) (grind (arith, begins, stands))
-      (λ j below. none_before t j from below) in
-      rw (found, begins) refl
+  shown_on t from until = grind (arith, find_first (is_on pages t) (length pages) (length before), within, begins, stands, none_before t)
 
   -- in its off time nothing is shown
   pub shown_off : (t : ℕ) → cycle before + here.on ≤ t → t < cycle before + here.on + here.off → shown_within pages t ≡ Off
   unfolding shown_within
   shown_off t from until = grind (arith, nat_tests, stands, begins, none_before, begins_later, ends, find_none)
 
--- THE TIMES OF PAGES
-
 -- behind the last item the present page is the last
-pub times_are_all : (sign : SignData) (before : List Meaning)
-    → page_times sign before ≡ ended_times sign before ++ times_at (standing sign before) ∷ []
+pub times_are_all : (sign : SignData) (before : List Meaning) → page_times sign before ≡ ended_times sign before ++ times_at (standing sign before) ∷ []
 unfolding page_times
 times_are_all sign before = refl
 
@@ -103,10 +77,7 @@ times_are_all sign before = refl
 pub times_are : (sign : SignData) (before rest : List Meaning)
     → (more : List Times) × (page_times sign (before ++ Does NewPage ∷ rest) ≡ ended_times sign before ++ times_at (standing sign before) ∷ more)
 unfolding page_times
-times_are sign before rest =
-    let ends : List Meaning → Meaning → Option Times = λ ms m. cond (is_new_page m) (Some (times_at (standing sign ms))) None in
-    let behind : List Times = some_after (λ ms. ends (before ++ Does NewPage ∷ ms)) rest in
-    (behind ++ times_at (standing sign (before ++ Does NewPage ∷ rest)) ∷ [], grind (arith, some_after-append, append_assoc, append-nil))
+times_are sign before rest = (some_after (λ ms m. cond (is_new_page m) (Some (times_at (standing sign (before ++ Does NewPage ∷ ms)))) None) rest ++ times_at (standing sign (before ++ Does NewPage ∷ rest)) ∷ [], grind (arith, some_after-append, append_assoc, append-nil))
 
 -- there is one item for each that passes a test
 count_some : {X Y : Type 0} (p : X → Bool) (of : List X → Y) (xs : List X) → length (some_after (λ before x. cond (p x) (Some (of before)) None) xs) ≡ count_by p xs
@@ -120,8 +91,6 @@ ended_count sign before = count_some is_new_page (λ ms. times_at (standing sign
 -- there is one page more than new pages begin
 pub times_count : (sign : SignData) (items : List Meaning) → length (page_times sign items) ≡ count_by is_new_page items + 1
 times_count sign items = grind (arith, times_are_all, length-append, ended_count)
-
--- THE PAGE AT A CLOCK IS A PAGE
 
 -- what is found in a range is below its end
 found_below : (p : ℕ → Bool) (a n k : ℕ) → find p (range_with_len a n) ≡ Some k → k < a + n

@@ -1,27 +1,19 @@
 -- Each string has one verdict, and a refusal for an item stands however the string goes on.
-use Rattle.multi_meaning.proofs.Common.{◌≡◌, ℕ, List, [], ◌∷◌, ◌++◌, map, length, Option, Some, refl, ap, subst, append_assoc, option_map, arith, Bool, false, cond, ◌||◌, inl, inr, None, sym, ◌∙◌, append-nil, ◌^◌, ◌<◌, All, cons_option, after_last, list_any, or_parts, map-append, list_any-append, Item, reading, SignData, cell_numbered, NewLine, LineFill, meaning, Does, Meaning, Shows, has_place, meanings, offence, conflicts, goes_back, offence_by, unsized_offence, Refused, verdict, verdict_on, fault_at, offences, pages_of, Accepted, IsVerdict, IsCycle, Break, Glyph, Put, Spot, Standing, area_of, is_break, put_at, spots, standing, laid, laid_spot, laid_item, laid_items, some_after, cycle, page_times}
-use Rattle.std.proofs.Common.{◌≢◌, drop}
-use Rattle.std.proofs.Math.Seq.{drop-append_seam}
+use Rattle.multi_meaning.proofs.Common.{◌≡◌, ℕ, List, [], ◌∷◌, ◌++◌, map, length, Option, Some, refl, ap, append_assoc, option_map, arith, Bool, false, cond, ◌||◌, None, sym, append-nil, ◌^◌, ◌<◌, All, cons_option, after_last, list_any, or_parts, map-append, list_any-append, Item, reading, SignData, LineFill, meaning, Meaning, has_place, meanings, offence, conflicts, offence_by, unsized_offence, Refused, verdict, verdict_on, fault_at, offences, pages_of, Accepted, IsVerdict, IsCycle, Break, Put, Spot, is_break, put_at, spots, standing, laid, laid_spot, laid_item, laid_items, cycle, page_times, ◌≢◌, drop, drop-append_seam, Char, HasNoItem, IsItem, IsReading, spell, BrokenBracketStands, OneVerdict, RefusalStands, of_first, broken, laid_out, IsOrderly, IsAccepted}
 use Rattle.multi_token.specs.Broken.{IsOpen, StaysBroken}
-use Rattle.multi_token.specs.Spelling.{Char, HasNoItem, IsItem, IsReading, spell}
 use Rattle.multi_token.proofs.BrokenLemmas.{open_or_broken}
 use Rattle.multi_token.proofs.SpellingLemmas.{reading_begins, one_reading}
 use Rattle.multi_token.proofs.ReadingLemmas.{each_string_has_a_reading}
-use Rattle.multi_meaning.specs.Offence.{never_big}
-use Rattle.multi_meaning.specs.Verdict.{BrokenBracketStands, OneVerdict, RefusalStands, of_first, broken}
 use Rattle.multi_meaning.proofs.WordLemmas.{some_after-append, some_after_push, after_last_push, group_goes_back, cases_Option, each_after_push, front_ind, none_more, push_ind, left_nil, right_nil}
-use Rattle.multi_meaning.specs.LaidItems.{laid_out}
-use Rattle.multi_meaning.specs.kept.Fine.{IsOrderly, IsAccepted}
 use Rattle.multi_meaning.proofs.LaidItemLemmas.{largest_laid, is_member, laid_as, members, members_push, same_member, are_laid}
 use Rattle.multi_meaning.proofs.RoomLemmas.{none_front, none_last}
-use Rattle.multi_meaning.proofs.StandingLemmas.{offence-break, offence-character, offence-undefined, unplaced_item, no_conflict, last_fine, spots_with}
+use Rattle.multi_meaning.proofs.StandingLemmas.{offence-break, offence-undefined, unplaced_item, no_conflict, last_fine, spots_with}
 
 pub one_verdict : OneVerdict
 unfolding verdict
 one_verdict sign octets v = (
   (λ (items, rest, read, is).
-      let same = one_reading octets items (reading octets).items rest (reading octets).rest read (each_string_has_a_reading octets) in
-      grind (arith, is, same)),
+      grind (arith, is, one_reading octets items (reading octets).items rest (reading octets).rest read (each_string_has_a_reading octets))),
   (λ is. ((reading octets).items, (reading octets).rest, each_string_has_a_reading octets, is)),
 )
 
@@ -33,9 +25,7 @@ offences_push sign items item o none is = grind (arith, some_after_push (fault_a
 -- the first fault of these items is that of every string that goes on behind them
 first_stands : (sign : SignData) (items : List Item) (more : List ℕ) (fault : ℕ × ℕ) (faults : List (ℕ × ℕ)) → All IsItem items → offences sign items ≡ fault ∷ faults → verdict sign (spell items ++ more) ≡ Refused fault.0 fault.1
 unfolding verdict verdict_on
-first_stands sign items more fault faults each first =
-    let all = each_string_has_a_reading (spell items ++ more) in
-    grind (arith, reading_begins, some_after-append, first)
+first_stands sign items more fault faults each first = grind (arith, each_string_has_a_reading (spell items ++ more), reading_begins, some_after-append)
 
 -- a refusal for an item stands for every string with the same octets up to the end of that item
 pub item_refused : (sign : SignData) (before : List Item) (item : Item) (code : ℕ) (rest : List ℕ)
@@ -69,16 +59,13 @@ stands_by sign items (octet ∷ rest) [] code at each ends none e closed more =
 pub refusal_stands : RefusalStands
 unfolding verdict verdict_on
 refusal_stands sign octets code at e closed more =
-    let read = each_string_has_a_reading octets in
-    let closed' = subst (λ l. ¬ (IsOpen (drop at l))) read.spelled closed in
-    grind (arith, stands_by sign (reading octets).items (reading octets).rest (offences sign (reading octets).items) code at read.each read.ends refl e closed' more, read.spelled)
+    let stands_by' = stands_by sign (reading octets).items (reading octets).rest (offences sign (reading octets).items) code at in
+    grind (arith, each_string_has_a_reading octets, stands_by', e, closed, more)
 
 -- as many are meant as are read
 pub length-meanings : (items : List Item) → length (map meaning items) ≡ length items
 length-meanings [] = refl
 length-meanings (x ∷ items) = ap (λ n. Prim.Native.Nat.suc n) (length-meanings items)
-
--- THE LINE OF A CHARACTER
 
 -- what is no character on the line of a group isn't one on its laid line, which is an end of it
 module _ (setting : LineFill) (all : List Spot) (a j : ℕ) (p : Spot → Bool) where
@@ -94,30 +81,13 @@ module _ (setting : LineFill) (all : List Spot) (a j : ℕ) (p : Spot → Bool) 
 
   none_laid : (some more : List Spot) → all ≡ some ++ more → None_of some
   none_laid = front_ind all None_of (λ none. none) (λ some more x is ih none.
-      let y = laid_spot setting all some x in
-      let as' = laid_as setting all some more x is in
-      ap (λ l. list_any p (line l)) (each_after_push (laid_spot setting all) some x)
-      ∙ grind (arith, as', same_member a j x y as', any_push (laid setting all some) y, any_push some x, ih, none))
-
--- A PLACING ITEM
-
-module _ (setting : LineFill) (all some more : List Spot) (is : all ≡ some ++ more) (s : Spot) (apart : conflicts some s ≡ false) where
-  -- its group doesn't go back among what is laid out
-  pub goes_on : (t : Spot) → t.at ≡ s.at → list_any (goes_back t) (area_of t (laid setting all some)) ≡ false
-  goes_on t at = grind (arith, at, group_goes_back, largest_laid setting 0 s.at.area all some more is, or_parts)
-
-  -- and neither does its segment
-  pub stays_apart : conflicts (laid setting all some) s ≡ false
-  stays_apart = grind (arith, goes_on, none_laid, or_parts)
-
--- THE ITEMS
+      let any_push' = any_push (laid setting all some) (laid_spot setting all some x) in
+      let same_member' = same_member a j x (laid_spot setting all some x) in
+      grind (arith, laid_as setting all some more x is, each_after_push (laid_spot setting all) some x, same_member', any_push', any_push some x, ih, none))
 
 module _ (setting : LineFill) (sign : SignData) (all : List Meaning) where
   abbrev before : List Meaning → List Meaning
   before some = laid_items setting sign all some
-
-  abbrev Fine : List Meaning → Meaning → Type 0
-  Fine some y = unsized_offence sign (before some) y ≡ None
 
   module _ (some more : List Meaning) (x : Meaning) (is : all ≡ some ++ x ∷ more) where
     are : (standing sign (before some) ≡ standing sign some) × (spots sign (before some) ≡ laid setting (spots sign all) (spots sign some))
@@ -128,40 +98,11 @@ module _ (setting : LineFill) (sign : SignData) (all : List Meaning) where
         → conflicts (spots sign some) (record { at = standing sign some; put = put }) ≡ false
         → (conflicts (spots sign (before some)) (record { at = standing sign (before some); put = put }) ≡ false)
         × (conflicts (spots sign (before some)) (record { at = standing sign (before some); put = Break None }) ≡ false)
-    apart put puts none =
-        let s : Spot = record { at = standing sign some; put = put } in
-        let split = ap (spots sign) is ∙ spots_with sign some x more put puts in
-        let goes = goes_on setting (spots sign all) (spots sign some) _ split s none (record { at = s.at; put = Break None }) refl in (
-          (λ i. conflicts (are.1 i) (record { at = are.0 i; put = put })) ∙ stays_apart setting (spots sign all) (spots sign some) _ split s none,
-          (λ i. conflicts (are.1 i) (record { at = are.0 i; put = Break None })) ∙ ap (λ b. b || false) goes,
-        )
+    apart put puts none = grind (arith, spots_with sign some x more put puts, group_goes_back, largest_laid setting 0, are, none_laid, or_parts)
 
-  -- an item that places nothing offends by its page alone
-  same_offence : (xs ys : List Meaning) → (standing sign xs).page ≡ (standing sign ys).page → (x : Meaning) → has_place x ≡ false
-      → unsized_offence sign xs x ≡ unsized_offence sign ys x
+  laid_fine : (some more : List Meaning) (x : Meaning) → all ≡ some ++ x ∷ more → unsized_offence sign some x ≡ None → unsized_offence sign (before some) (laid_item setting sign all some x) ≡ None
   unfolding offence_by standing
-  same_offence xs ys pages x e = grind arith
-
-  laid_fine : (some more : List Meaning) (x : Meaning) → all ≡ some ++ x ∷ more → unsized_offence sign some x ≡ None → Fine some (laid_item setting sign all some x)
-  laid_fine some more (Shows number) is fine = elim (cases_Option (cell_numbered (standing sign some).font number)) [
-    | inl none ↦ grind (arith, offence-undefined, none, fine)
-    | inr (cell, found) ↦
-        let puts = ap (option_map Glyph) found in
-        let s : Spot = record { at = standing sign some; put = Glyph cell } in
-        let none = no_conflict (conflicts (spots sign some) s) false (sym (offence-character never_big sign some number cell found) ∙ fine) in
-        let (stays, ends) = apart some more (Shows number) is (Glyph cell) puts none in
-        let as' = laid_as setting (spots sign all) (spots sign some) _ s (ap (spots sign) is
-        ∙ spots_with sign some (Shows number) more (Glyph cell) puts) in
-        let found' = ap (λ (s : Standing). cell_numbered s.font number) (are some more (Shows number) is).0 ∙ found in
-        grind (arith, found, as', stays, ends, offence-character never_big sign (before some) number cell found', offence-break never_big sign (before some) None)
-  ]
-  laid_fine some more (Does (NewLine gap)) is fine =
-      let stays = apart some more (Does (NewLine gap)) is (Break gap) refl in
-      grind (arith, offence-break never_big sign some gap, fine, stays, offence-break never_big sign (before some) gap)
-  laid_fine some more x is fine = ap (unsized_offence sign (before some)) (unplaced_item setting sign all some x refl)
-      ∙ same_offence (before some) some (ap (λ (s : Standing). s.page) (are some more x is).0) x refl ∙ fine
-
--- A STRING
+  laid_fine some more x is fine = grind (arith, cases_Option, offence-undefined, no_conflict, apart, laid_as, spots_with, are, offence-break, unplaced_item)
 
 -- what doesn't offend doesn't by more than its size
 pub unsized_if : (setting : LineFill) (sign : SignData) (ms : List Meaning) (x : Meaning) → offence setting sign ms x ≡ None → (b : Bool) → has_place x ≡ b → unsized_offence sign ms x ≡ None
@@ -170,37 +111,32 @@ unsized_if setting sign ms x fine b e = grind arith
 
 pub orderly_items : (sign : SignData) (items : List Item) → offences sign items ≡ [] → IsOrderly sign (map meaning items)
 orderly_items sign = push_ind (λ items. offences sign items ≡ [] → IsOrderly sign (map meaning items)) (λ none. refl) (λ items item ih none.
-    let (earlier, here) = last_fine sign items item none in
-    ap (some_after (unsized_offence sign)) (map-append meaning items (item ∷ []))
-    ∙ none_more (unsized_offence sign) (map meaning items) (meaning item) (ih earlier) (unsized_if sign.line_fill sign (map meaning items) (meaning item) here (has_place (meaning item)) refl))
+    let none_more' = none_more (unsized_offence sign) (map meaning items) (meaning item) in
+    grind (arith, last_fine sign items item none, map-append, none_more', ih, unsized_if sign.line_fill sign (map meaning items) (meaning item)))
 
 -- the items of an accepted string, as they are laid out, don't offend by more than their size
 pub orderly_out : (sign : SignData) (items : List Item) → offences sign items ≡ [] → IsOrderly sign (laid_out sign (map meaning items))
 orderly_out sign items none =
     let all = map meaning items in
     let f = unsized_offence sign in
-    let fine = λ (some more : List Meaning) (x : Meaning) (is : all ≡ some ++ x ∷ more).
-    none_last sign f some x (none_front sign f (some ++ x ∷ []) more (subst (IsOrderly sign) (is ∙ sym (append_assoc some (x ∷ []) more)) (orderly_items sign items none))) in
+    let fine = λ (some more : List Meaning) (x : Meaning) (is : all ≡ some ++ x ∷ more). none_last sign f some x (none_front sign f (some ++ x ∷ []) more (grind (arith, is, append_assoc some (x ∷ []) more, orderly_items sign items none))) in
     front_ind all (λ some. IsOrderly sign (laid_items sign.line_fill sign all some)) refl (λ some more x is ih.
-    ap (some_after f) (each_after_push (laid_item sign.line_fill sign all) some x)
-    ∙ none_more f (laid_items sign.line_fill sign all some) (laid_item sign.line_fill sign all some x) ih
-    (laid_fine sign.line_fill sign all some more x is (fine some more x is))) all [] (sym (append-nil all))
+    let none_more'' = none_more f (laid_items sign.line_fill sign all some) (laid_item sign.line_fill sign all some x) ih in
+    let laid_fine' = laid_fine sign.line_fill sign all some more x is (fine some more x is) in
+    grind (arith, each_after_push (laid_item sign.line_fill sign all) some x, none_more'', laid_fine')) all [] (sym (append-nil all))
 
 -- the items of an accepted string are those of its reading, and it has so many pages
 pub accepted_is : (sign : SignData) (octets : List ℕ) (pages : ℕ) → IsVerdict sign octets (Accepted pages) → length octets < 2 ^ 32
     → IsAccepted sign octets (reading octets).items × (pages ≡ pages_of (meanings octets))
 unfolding verdict_on
 accepted_is sign octets pages (items, rest, read, is) short =
-    let all = each_string_has_a_reading octets in
-    let same = one_reading octets items (reading octets).items rest (reading octets).rest read all in
-    grind (arith, all, same, is, left_nil, right_nil, append-nil)
+    let one_reading' = one_reading octets items (reading octets).items rest (reading octets).rest read in
+    grind (arith, each_string_has_a_reading octets, one_reading', is, left_nil, right_nil, append-nil)
 
 -- the cycle of a string is that of its reading
-pub cycle_is : (sign : SignData) (octets : List ℕ) (tenths : ℕ) → IsCycle sign octets tenths
-    → tenths ≡ cycle (page_times sign (meanings octets))
+pub cycle_is : (sign : SignData) (octets : List ℕ) (tenths : ℕ) → IsCycle sign octets tenths → tenths ≡ cycle (page_times sign (meanings octets))
 cycle_is sign octets tenths (items, rest, read, is) =
-    let same = one_reading octets items (reading octets).items rest (reading octets).rest read (each_string_has_a_reading octets) in
-    is ∙ ap (λ l. cycle (page_times sign (map meaning l))) same.0
+    grind (arith, one_reading octets items (reading octets).items rest (reading octets).rest read (each_string_has_a_reading octets), each_string_has_a_reading octets)
 
 -- none of its items offends, as they are laid out
 pub accepted_orderly : (sign : SignData) (octets : List ℕ) → IsAccepted sign octets (reading octets).items → IsOrderly sign (laid_out sign (meanings octets))

@@ -1,11 +1,5 @@
 -- The words on lists, at one more item and at two lists.
-use Rattle.multi_meaning.proofs.Common.{◌≡◌, ◌⊎◌, inl, inr, ℕ, ◌+◌, ◌≤◌, length, List, [], ◌∷◌, ◌++◌, Option, Some, None, suc, refl, sym, ap, subst, ◌∙◌, arith, append_assoc, append-nil, Bool, false, zero, true, cond, take, length-append, nat_lt, sum_by, filter_map, cons_option, list_any, after_last, option_map_or, filter_map-append, All-nil, All-head, All-push, All-tail, All-weaker, filter-append, sum_by_push, sum_by-cons, fold-append, both_ways, cases_Bool, false≢true, list_any-append, nat_tests, drop_all, drop-append-le, page_number, each_after, some_after, largest, CutAt, longest_prefix, cut_at_last, longer, Spot, goes_back}
-use Rattle.std.proofs.Common.{max, filter, All}
-use Rattle.std.specs.List.{last_or, fold, onto_first}
-use Rattle.std.specs.Option.{option_map}
-use Rattle.std.proofs.lemmas.List.Sums.{fold_push}
-use Rattle.std.proofs.lemmas.List.{reverse-append}
-use Rattle.multi_meaning.specs.Words.{successive, extent, cut_behind}
+use Rattle.multi_meaning.proofs.Common.{◌≡◌, ◌⊎◌, inl, inr, ℕ, ◌+◌, ◌≤◌, length, List, [], ◌∷◌, ◌++◌, Option, Some, None, suc, refl, sym, ap, subst, ◌∙◌, arith, append_assoc, append-nil, Bool, false, zero, true, cond, take, length-append, nat_lt, sum_by, filter_map, cons_option, list_any, after_last, option_map_or, filter_map-append, All-nil, All-head, All-push, All-tail, All-weaker, filter-append, sum_by_push, sum_by-cons, fold-append, both_ways, cases_Bool, false≢true, list_any-append, nat_tests, drop_all, drop-append-le, page_number, each_after, some_after, largest, CutAt, longest_prefix, cut_at_last, longer, Spot, goes_back, max, filter, All, last_or, fold, onto_first, option_map, fold_push, reverse-append, successive, extent, cut_behind}
 
 -- each item of two lists
 pub each_after-append : {X Y : Type 0} (f : List X → X → Y) (xs ys : List X) → each_after f (xs ++ ys) ≡ each_after f xs ++ each_after (λ before. f (xs ++ before)) ys
@@ -69,14 +63,12 @@ push_ind P none step xs = push_ind_from P step xs [] none
 
 -- what holds of no items, and of each of these behind those before it, holds of every front of them
 pub front_ind : {X : Type 0} (all : List X) (P : List X → Type 0) → P [] → ((some more : List X) (x : X) → all ≡ some ++ x ∷ more → P some → P (some ++ x ∷ [])) → (some more : List X) → all ≡ some ++ more → P some
-front_ind {X} all P none step = push_ind (λ some. (more : List X) → all ≡ some ++ more → P some) (λ more is. none)
-    (λ some x ih more is. let is' : all ≡ some ++ x ∷ more = is ∙ append_assoc some (x ∷ []) more in step some more x is' (ih (x ∷ more) is'))
+front_ind {X} all P none step = push_ind (λ some. (more : List X) → all ≡ some ++ more → P some) (λ more is. none) (λ some x ih more is. step some more x (is ∙ append_assoc some (x ∷ []) more) (ih (x ∷ more) (is ∙ append_assoc some (x ∷ []) more)))
 
 -- where the same is made of each item, the same is made of all
 pub each_same : {X Y : Type 0} (f g : List X → X → Y) (xs : List X) → ((some more : List X) (x : X) → xs ≡ some ++ x ∷ more → f some x ≡ g some x) → each_after f xs ≡ each_after g xs
-each_same f g xs same =
-    front_ind xs (λ some. each_after f some ≡ each_after g some) refl
-    (λ some more x is ih. each_after_push f some x ∙ (λ i. ih i ++ same some more x is i ∷ []) ∙ sym (each_after_push g some x)) xs [] (sym (append-nil xs))
+each_same f g xs same = front_ind xs (λ some. each_after f some ≡ each_after g some) refl (λ some more x is ih.
+    grind (arith, each_after_push f some x, each_after_push g some x, ih, same some more x is)) xs [] (sym (append-nil xs))
 
 -- no value is more than the largest
 pub largest_most : {X : Type 0} (f : X → ℕ) (xs : List X) → All (λ x. f x ≤ largest f xs) xs
@@ -117,8 +109,6 @@ pub filter_none : {X : Type 0} (p : X → Bool) (xs : List X) → All (λ x. p x
 filter_none p [] h = refl
 filter_none p (x ∷ xs) h = rw (All-head (λ x. p x ≡ false) x xs h) (filter_none p xs (All-tail (λ x. p x ≡ false) x xs h))
 
--- THE LONGEST PREFIX
-
 -- one more item: the whole, or the longest so far
 pub longest_push : {X : Type 0} (p : List X → Bool) (xs : List X) (x : X) → longest_prefix p (xs ++ x ∷ []) ≡ cond (p (xs ++ x ∷ [])) (xs ++ x ∷ []) (longest_prefix p xs)
 longest_push p xs x = grind (arith, each_after_push, filter-append, last_or-append)
@@ -133,10 +123,7 @@ longest_most p = push_ind (λ xs. length (longest_prefix p xs) ≤ length xs) (g
 
 -- it is shorter than a list that doesn't pass
 pub longest_short : {X : Type 0} (p : List X → Bool) (xs : List X) → p [] ≡ true → p xs ≡ false → length (longest_prefix p xs) + 1 ≤ length xs
-longest_short p xs some = push_ind (λ xs. p xs ≡ false → length (longest_prefix p xs) + 1 ≤ length xs) (λ none. absurd (both_ways (p []) none some))
-    (λ xs x ih none. let more = longest_push p xs x in omega (arith, ap length (rw none at more), longest_most p xs, length-append xs (x ∷ []))) xs
-
--- A CUT AT THE LAST
+longest_short p xs some = push_ind (λ xs. p xs ≡ false → length (longest_prefix p xs) + 1 ≤ length xs) (λ none. absurd (both_ways (p []) none some)) (λ xs x ih none. grind (arith, longest_push p xs x, none, longest_most p xs, length-append)) xs
 
 abbrev pub last_more : {X : Type 0} → Bool → List X → X → Option (CutAt X) → Option (CutAt X)
 last_more b xs x o = cond b (Some (record { before = xs; item = x; behind = [] })) (option_map (longer (x ∷ [])) o)
@@ -229,9 +216,7 @@ module _ {X : Type 0} (p : X → Bool) where
 
   -- the parts of two lists
   pub cut_append : (xs ys : List X) → cut_behind p (xs ++ ys) ≡ (cut xs).closed ++ onto (cut xs).open' (cut_behind p ys)
-  cut_append xs ys =
-      let whole = cut_parts (xs ++ ys) (record { closed = []; open' = [] }) in
-      sym whole ∙ ap (λ (c : Cut X). c.closed ++ part c.open') (fold-append cut_more (record { closed = []; open' = [] }) xs ys) ∙ cut_parts ys (cut xs)
+  cut_append xs ys = grind (arith, cut_parts (xs ++ ys) (record { closed = []; open' = [] }), fold-append, cut_parts ys (cut xs))
 
   pub cut_behind_is : (xs : List X) → cut_behind p xs ≡ (cut xs).closed ++ part (cut xs).open'
   cut_behind_is xs = sym (cut_parts xs (record { closed = []; open' = [] }))
@@ -247,14 +232,7 @@ module _ {X : Type 0} (p : X → Bool) where
   pub cut_with_item : (xs : List X) (x : X) (ys : List X)
       → (rest : List X) × (others : List (List X)) × (cut_behind p (xs ++ x ∷ ys) ≡ (cut xs).closed ++ ((cut xs).open' ++ x ∷ rest) ∷ others)
       × (p x ≡ true → rest ≡ [])
-  cut_with_item xs x ys =
-      let (rest, others, is, ends) = first_of (p x) x (cut_behind p ys) in (
-        rest,
-        others,
-        cut_append xs (x ∷ ys) ∙ ap (λ l. (cut xs).closed ++ onto (cut xs).open' l) is
-            ∙ ap (λ l. (cut xs).closed ++ l) (onto-cons (cut xs).open' (x ∷ rest) others),
-        ends,
-      )
+  cut_with_item xs x ys = grind (arith, first_of (p x) x (cut_behind p ys), cut_append xs (x ∷ ys), onto-cons)
 
   pub cut_push : (xs : List X) (x : X) → cut (xs ++ x ∷ []) ≡ cut_more (cut xs) x
   cut_push xs x = fold_push cut_more (record { closed = []; open' = [] }) xs x
@@ -263,10 +241,8 @@ module _ {X : Type 0} (p : X → Bool) where
   pub cut_ind : (P : List X → Cut X → Type 0) → P [] (record { closed = []; open' = [] })
       → ((xs : List X) (c : Cut X) (x : X) → p x ≡ true → P xs c → P (xs ++ x ∷ []) (ends_part c x))
       → ((xs : List X) (c : Cut X) (x : X) → p x ≡ false → P xs c → P (xs ++ x ∷ []) (longer_part c x)) → (xs : List X) → P xs (cut xs)
-  cut_ind P none ends lengthens = push_ind (λ xs. P xs (cut xs)) none (λ xs x ih. rw (cut_push xs x) (elim (cases_Bool (p x)) [
-    | inl e ↦ rw e (ends xs (cut xs) x e ih)
-    | inr e ↦ rw e (lengthens xs (cut xs) x e ih)
-  ]))
+  cut_ind P none ends lengthens = push_ind (λ xs. P xs (cut xs)) none (λ xs x ih.
+      grind (arith, cut_push xs x, ends xs (cut xs) x, lengthens xs (cut xs) x, ih, cases_Bool (p x)))
 
   -- the same for lists of which something holds of each item
   pub cut_ind_all : (Q : X → Type 0) (P : Cut X → Type 0) → P (record { closed = []; open' = [] })
@@ -294,7 +270,6 @@ module _ {X : Type 0} (p : X → Bool) where
   -- the parts that an item ends are the closed ones
   pub ended_is : (xs : List X) → filter (list_any p) (cut_behind p xs) ≡ (cut p xs).closed
   ended_is xs =
-      let (closed, none) = cut_ind p (λ xs c. (filter (list_any p) c.closed ≡ c.closed) × (list_any p c.open' ≡ false)) (refl, refl)
-      (λ xs c x e (closed, none). (grind (arith, filter-append, list_any-append, closed, none, e), refl))
-      (λ xs c x e (closed, none). (closed, grind (arith, list_any-append p c.open' (x ∷ []), none, e))) xs in
-      grind (arith, closed, none, cut_behind_is, filter-append, append-nil)
+      let parts = cut_ind p (λ xs c. (filter (list_any p) c.closed ≡ c.closed) × (list_any p c.open' ≡ false)) (refl, refl) (λ xs c x e h.
+      grind (arith, filter-append, list_any-append, h, e)) (λ xs c x e h. grind (arith, list_any-append, h, e)) xs in
+      grind (arith, parts, cut_behind_is, filter-append, append-nil)

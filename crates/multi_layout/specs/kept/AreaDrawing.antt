@@ -1,8 +1,6 @@
 -- The two readings of an area: one for the table of its lines, one to put its cells.
 use Rattle.std.specs.Prelude.{◌≡◌, ℕ, ◌+◌, ◌*◌, ◌≤◌, false, nat_lt, List, [], ◌∷◌, ◌++◌, map, length, if◌then◌else◌}
 use Rattle.std.specs.List.{All}
-use Rattle.multi_tag.specs.declared.tag.Tag.{Tag}
-use Rattle.multi_tag.specs.declared.tag.Tag.TheVariants.{Back}
 use Rattle.multi_tag.specs.Just.{page_number}
 use Rattle.page_plane.specs.Plane.{BitPlane}
 use Rattle.sign_font.specs.Sign.{SignData, tallest}
@@ -43,11 +41,6 @@ HasRoom area = length (lines_of (in_group 2 area)) + length (lines_of (in_group 
 -- no area begins behind these items (own)
 abbrev pub BeginsNoArea : List LaidItem → Type 0
 BeginsNoArea area = All (λ item. begins_area (meant item) ≡ false) area
-
--- a tag that sets no background (own)
-abbrev pub IsQuiet : Tag → Type 0
-IsQuiet (Back given) = ⊥
-IsQuiet tag = Unit {0}
 
 -- the placing items of the area in which the next item stands, those behind that item too (own)
 abbrev pub whole_area : SignData → List LaidItem → List LaidItem → List Spot

@@ -9,6 +9,8 @@ use Rattle.multi_meaning.specs.kept.Fine.{IsAccepted, IsOrderly}
 use Rattle.multi_layout.specs.declared.cursor.Cursor.{Cursor}
 use Rattle.multi_judge.specs.declared.item.NextItem.{NextItem}
 use Rattle.multi_judge.specs.KnownItem.{meant_by}
+use Rattle.multi_meaning.specs.Offence.{unsized_offence}
+use Rattle.multi_judge.specs.declared.state.State.{State}
 use Rattle.multi_judge.specs.State.{IsStateOf}
 
 -- the offset is between these items of an accepted string (own)
@@ -75,13 +77,7 @@ abbrev pub IsPieceFirst : List LaidItem → Option NextItem → Type 0
 IsPieceFirst behind None = behind ≡ []
 IsPieceFirst behind (Some next) = (piece : LaidItem) × (rest : List LaidItem) × (behind ≡ piece ∷ rest) × IsRead piece next
 
--- the cursor stands before an item of an accepted string, of which this is read (own)
-abbrev pub IsBefore : SignData → List ℕ → NextItem → Cursor → Type 0
-IsBefore sign octets next cursor =
-    (before rest : List LaidItem) × (item : LaidItem) × IsBetween sign octets before (item ∷ rest) cursor × IsRead item next
-
--- the new cursor stands behind the next item, of which this is read, wherever the old one stands before it (own)
-abbrev pub GoesBehind : SignData → List ℕ → NextItem → Cursor → Cursor → Type 0
-GoesBehind sign octets next old new =
-    (before rest : List LaidItem) (item : LaidItem) → IsBetween sign octets before (item ∷ rest) old → IsRead item next
-    → IsBetween sign octets (before ++ item ∷ []) rest new
+-- with a tag that doesn't offend by more than its size, the state becomes that with the tag (own)
+abbrev pub PassesTag : SignData → Meaning → State → State → Type 0
+PassesTag sign tag old new =
+    (items : List Meaning) → IsStateOf sign items old → unsized_offence sign items tag ≡ None → IsStateOf sign (items ++ tag ∷ []) new

@@ -1,18 +1,13 @@
 -- Passing a page of an accepted string, with nothing laid out (own).
-use Rattle.std.specs.Prelude.{◌≡◌, ◌⊎◌, ℕ, ◌+◌, ◌<◌, ◌≤◌, not, length, Option, Some, None, List, [], ◌∷◌, ◌++◌, map}
+use Rattle.std.specs.Prelude.{◌≡◌, ◌⊎◌, ℕ, ◌+◌, ◌<◌, ◌≤◌, not, length, List, [], ◌∷◌, ◌++◌, map}
 use Rattle.std.specs.List.{filter}
 use Rattle.multi_token.specs.Spelling.{Item}
 use Rattle.sign_font.specs.Sign.{SignData}
-use Rattle.multi_meaning.specs.declared.times.Shown.{Shown}
-use Rattle.multi_meaning.specs.declared.times.Shown.TheVariants.{Page, Off}
 use Rattle.multi_meaning.specs.Meaning.{BeginsPage, Meaning, has_place, meaning, meanings}
 use Rattle.multi_meaning.specs.Verdict.{pages_of}
-use Rattle.multi_judge.specs.declared.attributes.Attributes.{Attributes}
-use Rattle.multi_judge.specs.declared.state.State.{State}
 use Rattle.multi_meaning.specs.Times.{Times, cycle, page_times}
 use Rattle.multi_layout.specs.declared.cursor.Cursor.{Cursor}
-use Rattle.multi_judge.specs.declared.item.NextItem.{NextItem}
-use Rattle.multi_layout.specs.kept.Cursors.{IsItemRead, IsPlaced}
+use Rattle.multi_layout.specs.kept.Cursors.{IsPlaced}
 use Rattle.multi_judge.specs.State.{IsStateOf}
 
 -- without the characters and the `nl`, which alone are laid out (own)
@@ -40,17 +35,6 @@ pub record IsAtPage (sign : SignData) (octets : List ℕ) (cursor : Cursor) : Ty
   pub between : IsPassing sign octets before behind cursor
   pub begins : BeginsPage (map meaning before)
 
--- the cursor passes before an item of an accepted string, of which this is read (own)
-abbrev pub IsPassingBefore : SignData → List ℕ → NextItem → Cursor → Type 0
-IsPassingBefore sign octets next cursor =
-    (before rest : List Item) × (item : Item) × IsPassing sign octets before (item ∷ rest) cursor × IsItemRead item next
-
--- the new cursor has passed the next item, of which this is read, wherever the old one stands before it (own)
-abbrev pub PassesOn : SignData → List ℕ → NextItem → Cursor → Cursor → Type 0
-PassesOn sign octets next old new =
-    (before rest : List Item) (item : Item) → IsPassing sign octets before (item ∷ rest) old → IsItemRead item next
-    → IsPassing sign octets (before ++ item ∷ []) rest new
-
 -- the page that begins at the old cursor is passed, and nothing was laid out: the new one stands behind the `np` that ends it, or at the
 -- end of the string. The page's times are those in force there, behind those of earlier pages and before those of later ones (own)
 pub record IsPageSkipped (sign : SignData) (octets : List ℕ) (old new : Cursor) : Type 0 where
@@ -65,10 +49,3 @@ pub record IsPageSkipped (sign : SignData) (octets : List ℕ) (old new : Cursor
       ((new.state.pages ≡ old.state.pages) × (later ≡ []) × (old.state.pages ≡ pages_of (meanings octets)))
       ⊎ ((new.state.pages ≡ old.state.pages + 1) × (old.at < new.at)
       × (new.state.cycle ≡ old.state.cycle + new.state.attributes.on + new.state.attributes.off) × IsAtPage sign octets new)
-
--- this is what a page shows at a time, if it isn't over: it begins at this state, and has these times (own)
-abbrev pub IsShownIn : State → Attributes → ℕ → Option Shown → Type 0
-IsShownIn start times time (Some (Page page phase)) =
-    (start.pages ≡ page + 1) × (time ≡ start.cycle + phase) × (time < start.cycle + times.on)
-IsShownIn start times time (Some Off) = (start.cycle + times.on ≤ time) × (time < start.cycle + times.on + times.off)
-IsShownIn start times time None = start.cycle + times.on + times.off ≤ time

@@ -1,6 +1,5 @@
 -- The drawing of an area's items, of which characters beside each other are drawn as a run (own).
-use Rattle.std.specs.Prelude.{◌≡◌, ◌≢◌, ℕ, ◌+◌, ◌-◌, ◌^◌, ◌<◌, ◌≤◌, true, false, List, ◌∷◌, ◌++◌, map, Option, None, Some, IfSome, slice_get}
-use Rattle.multi_tag.specs.declared.just.LineJust.TheVariants.{Full}
+use Rattle.std.specs.Prelude.{◌≡◌, ℕ, ◌+◌, ◌-◌, ◌<◌, true, false, List, ◌∷◌, ◌++◌, map, Option, None, Some, IfSome, slice_get}
 use Rattle.page_plane.specs.Plane.{BitPlane}
 use Rattle.sign_font.specs.Cell.{SizedCell}
 use Rattle.sign_font.specs.Sign.{SignData, CellData, cell_in, cell_numbered}
@@ -16,7 +15,7 @@ use Rattle.multi_layout.specs.declared.read.AreaLines.{AreaLines}
 use Rattle.multi_judge.specs.declared.state.State.{State}
 use Rattle.multi_layout.specs.kept.AreaDrawing.{DrawsGlyph, IsAreaDrawn, IsDrawnUpTo, IsInArea}
 use Rattle.multi_layout.specs.kept.Cursors.{IsRead, LaidItem, meant}
-use Rattle.multi_judge.specs.Run.{IsBehindCharacter, lengthened, line_in_force}
+use Rattle.multi_judge.specs.Run.{lengthened, line_in_force}
 use Rattle.multi_judge.specs.State.{IsStateOf}
 
 -- a page is drawn as far as the cursor before an item of an area that was read, and this is read of the item (own)
@@ -72,15 +71,6 @@ cursor_behind cursor from column at = record {
   state = lengthened ((line_in_force cursor.state).part.width + (column - from))
       ((line_in_force cursor.state).part.count + (at - cursor.at)) cursor.state;
 }
-
--- behind an item that is drawn the next one stands at this place, if it is a character, and the line isn't full (own)
-pub record PlacesNext (sign : SignData) (octets : List ℕ) (layer : Layer) (read : AreaLines) (next : NextItem) (old new : Cursor)
-    (plane plane' : BitPlane) (place : Place) : Type 0 where
-  pub drawn : (page : ℕ) → IsNextDrawn sign octets layer page read next old plane
-      → IsRunDrawn sign octets layer page read place new plane'
-  pub behind : IsBehindCharacter new.state
-  pub apart : new.state.attributes.line_just ≢ Full
-  pub low : place.column ≤ 2 ^ 63
 
 -- the octets that were read behind the cursor (own)
 abbrev pub octets_read : Option ℕ → ℕ

@@ -4,7 +4,6 @@ use Rattle.multi_token.specs.Spelling.{Item}
 use Rattle.multi_tag.specs.declared.tag.Tag.{Tag}
 use Rattle.sign_font.specs.Sign.{SignData}
 use Rattle.multi_meaning.specs.Meaning.{Does, Meaning}
-use Rattle.multi_layout.specs.declared.cursor.Begun.{Begun}
 use Rattle.multi_layout.specs.declared.cursor.Cursor.{Cursor}
 use Rattle.multi_layout.specs.declared.cursor.Met.{Met}
 use Rattle.multi_layout.specs.declared.cursor.Met.TheVariants as met
@@ -54,9 +53,9 @@ met_steps (Setting len) = 9 * len - 8
 met_steps (met.Item next) = 9 * next.len - 9
 
 -- this is read of what stands at an offset of an accepted string (own)
-pub record IsBegun (sign : SignData) (octets : List ℕ) (at : ℕ) (begun : Begun) : Type 0 where
-  pub first : begun.first ≡ slice_get octets at
-  pub item : IfSome begun.item (IsNextAt sign octets at)
+pub record IsBegun (sign : SignData) (octets : List ℕ) (at : ℕ) (begun : Option ℕ × Option NextItem) : Type 0 where
+  pub first : begun.0 ≡ slice_get octets at
+  pub item : IfSome begun.1 (IsNextAt sign octets at)
 
 -- the steps that an item took at most, if it was read, behind its first octet (own)
 abbrev pub item_steps : Option NextItem → ℕ

@@ -1,10 +1,9 @@
-use Rattle.multi_judge.proofs.Common.{sym, ◌∙◌}
-use Rattle.multi_judge.proofs.FillGroupLemmas.{split_none, split_space, split_word}
+use Rattle.multi_judge.proofs.Lemmas.{sym, rules, ◌∙◌, split_none, split_space, split_word}
 use Rattle.multi_judge.proofs.fill.grow.Goals as goal
 
 pub returns-then-space-clause-sum : goal.returns-then-space-clause-sum
 returns-then-space-clause-sum c before s glyphs is space apart line split =
-    split_space before s c.args.character.now is (space ∙ c.if-space.true) c.args.line.now c.new.result line c.new.ensures.sum
+    split_space before s c.args.character.now is (space ∙ c.if-space.true) c.args.line.now c.default.result line (search rules)
 
 pub returns-in-Some-clause-sum : goal.returns-in-Some-clause-sum
 returns-in-Some-clause-sum c before s glyphs is space apart line split =

@@ -1,5 +1,4 @@
-use Rattle.multi_judge.proofs.Common.{ℕ, ◌+◌, ◌<◌, ◌≤◌, Option, cond, Some, None, refl, ap, ◌∙◌, arith, lt-ltb, le-ltb, SignData}
-use Rattle.multi_judge.proofs.JudgedLemmas.{judged-page, state-page}
+use Rattle.multi_judge.proofs.Lemmas.{ℕ, ◌+◌, ◌<◌, ◌≤◌, Option, cond, Some, None, refl, ap, ◌∙◌, arith, rules, lt-ltb, le-ltb, SignData, judged-page, state-page}
 use Rattle.multi_judge.proofs.judge.judge_page.Goals as goal
 
 pub returns-then-state-max_pages-clause-judged : goal.returns-then-state-max_pages-clause-judged
@@ -13,5 +12,5 @@ returns-clause-judged c = λ items st.
     let on : c.args.state.now.attributes.on ≤ 255 = omega arith in
     let off : c.args.state.now.attributes.off ≤ 255 = omega arith in (
       judged-page c.args.sign.now items c.args.state.now st ∙ ap (λ b. cond {A = Option ℕ} b (Some 12) None) (le-ltb c.args.sign.now.max_pages (c.args.state.now.pages + 1) room),
-      state-page c.args.sign.now items c.args.state.now st _ refl (omega (arith, c.from.ensures, c.from-2.ensures)) (rw c.whole_sign-state.ensures refl) c.new-state.ensures.sum c.new-state.ensures.below on off,
+      state-page c.args.sign.now items c.args.state.now st _ refl (omega (arith, c.from.ensures, c.from-2.ensures)) (rw c.whole_sign-state.ensures refl) (search rules) on off,
     )

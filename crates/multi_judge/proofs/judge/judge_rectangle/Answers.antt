@@ -1,6 +1,4 @@
-use Rattle.multi_judge.proofs.Common.{ℕ, Option, cond, Some, None, refl, ap, ◌∙◌, SignData, Attributes}
-use Rattle.multi_meaning.specs.Attributes.{rectangle}
-use Rattle.multi_judge.proofs.JudgedLemmas.{judged-rectangle, state-rectangle, outside_across, outside_down, inside}
+use Rattle.multi_judge.proofs.Lemmas.{ℕ, Option, cond, Some, None, refl, ap, ◌∙◌, rules, SignData, Attributes, judged-rectangle, state-rectangle, outside_across, outside_down, inside, rectangle}
 use Rattle.multi_judge.proofs.judge.judge_rectangle.Goals as goal
 
 pub returns-in_default-clause-judged : goal.returns-in_default-clause-judged
@@ -27,5 +25,5 @@ returns-clause-judged c = λ items st.
       judged-rectangle sign items c.args.state.now st c.args.x c.args.y c.args.w c.args.h ∙ ap (λ b. cond {A = Option ℕ} b None (Some 4)) fine,
       state-rectangle sign items c.args.state.now _ c.args.x c.args.y c.args.w c.args.h st refl refl
           (rw (across.3, across.4, down.3, high) (ap (λ (a : Attributes). let b : Attributes = record a { rectangle = rectangle sign c.args.x c.args.y c.args.w c.args.h } in b) st.attributes))
-          c.new-state.ensures.sum c.new-state.ensures.below,
+          (search rules),
     )

@@ -1,11 +1,6 @@
-use Rattle.multi_judge.proofs.Common.{◌≡◌, ◌∷◌, ◌++◌, ◌==◌, ◌^◌, [], sym, ap, ◌∙◌, take, slice_index_or, after_last, count_by, line_number, is_break, lines_of, ended_count, Group, group_sum, counted_line}
-use Rattle.multi_meaning.proofs.GroupLemmas.{full_known}
+use Rattle.multi_judge.proofs.Lemmas.{◌≡◌, ◌∷◌, ◌++◌, ◌==◌, ◌^◌, [], sym, ap, ◌∙◌, take, slice_index_or, after_last, count_by, line_number, is_break, lines_of, ended_count, Group, group_sum, counted_line, full_known, kept_width_is, line_is_there, width_in_is, look_up}
 use Rattle.multi_judge.specs.Table.{width_in}
-use Rattle.multi_judge.proofs.PlaceLemmas.{line_is_there, width_in_is, look_up}
 use Rattle.multi_judge.proofs.place.is_full.Goals as goal
-
-pub width-requires-clause-known : goal.width-requires-clause-known
-width-requires-clause-known c = (c.group_for-group.ensures.below (2 ^ 43) c.requires.below).line.known
 
 pub returns : goal.returns
 returns c = record {
@@ -18,7 +13,7 @@ returns c = record {
       let ended : c.group_for-group.result.ended ≡ k = ap (λ (g : Group). g.ended) sum ∙ ended_count front in
       let entry = counted_line (take k all_lines) (slice_index_or all_lines k []) in
       let line : c.line_at-line.result ≡ entry = c.line_at-line.ensures.line entry (rw (lines, ended) (look_up all_lines k (line_is_there front back y))) in
-      let wide = c.width.ensures.sum (after_last is_break front) (ap (λ (g : Group). g.line) sum) in
+      let wide = c.width.ensures ∙ kept_width_is (after_last is_break front) c.group_for-group.result.line (ap (λ (g : Group). g.line) sum) (c.group_for-group.ensures.below (2 ^ 43) c.requires.below).line.known just known.0 known.1 in
       let there = c.width-2.ensures ∙ ap (width_in just) line ∙ width_in_is (take k all_lines) (slice_index_or all_lines k []) just known.0 known.1 in
       (λ i. wide i == there i) ∙ full_known just front y back placing (λ g. (ap line_number (stands g).0 ∙ sym c.number-just.ensures.number, (stands g).1));
 }

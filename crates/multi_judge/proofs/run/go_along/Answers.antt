@@ -1,4 +1,4 @@
-use Rattle.multi_judge.proofs.Common.{◌≡◌, ◌+◌, ◌-◌, drop, take, ◌∙◌, subst, arith, slice_range, All, IsPlain, HasWidth, width_in, lengthened, line_in_force}
+use Rattle.multi_judge.proofs.Lemmas.{◌≡◌, ◌+◌, ◌-◌, drop, take, ◌∙◌, subst, arith, slice_range, All, IsPlain, HasWidth, width_in, lengthened, line_in_force}
 use Rattle.multi_judge.proofs.run.go_along.Goals as goal
 
 pub returns-clause-run : goal.returns-clause-run

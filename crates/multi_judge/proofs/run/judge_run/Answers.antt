@@ -1,7 +1,4 @@
-use Rattle.multi_judge.proofs.Common.{◌≡◌, ℕ, ◌+◌, ◌-◌, sym, ap, subst, arith, Counted, charged, State, ReadSoFar, IsUnfilledOf, IsAt, IsPassOf, Pass}
-use Rattle.multi_judge.specs.Judging.{IsBehind}
-use Rattle.multi_judge.proofs.RunReadLemmas.{front_read}
-use Rattle.multi_judge.proofs.ReadLemmas.{is_false}
+use Rattle.multi_judge.proofs.Lemmas.{◌≡◌, ℕ, ◌+◌, ◌-◌, sym, ap, subst, arith, Counted, charged, State, ReadSoFar, IsUnfilledOf, IsAt, IsPassOf, Pass, front_read, is_false, IsBehind}
 use Rattle.multi_judge.proofs.run.judge_run.Goals as goal
 
 pub returns-else-this-ne0-clause-at : goal.returns-else-this-ne0-clause-at

@@ -52,8 +52,8 @@ lay-next-requires c =
     let now = area_met (c.loop-cursor.invariant.drawn page d) c.meet.new.state c.in-Item.ensures.met.0 in
     record { stands = (c.args.source.now.octets, now.before, now.behind, now.up_to.between) }
 
-pub draw_next-first-requires-clause-known : goal.draw_next-first-requires-clause-known
-draw_next-first-requires-clause-known c =
+pub draw_item-first-requires-clause-known : goal.draw_item-first-requires-clause-known
+draw_item-first-requires-clause-known c =
     let (page, d) = c.requires.known in
     let same = same_octets c.octet_at.ensures.step ∙ same_octets c.loop-cursor.invariant.steps.3 in
     (page, next_met same (same_octets c.in-Item.ensures.steps.3) c.meet.new.state c.in-Item.next c.lay-next.result c.in-Item.ensures.met c.lay-next.ensures.read c.loop-cursor-test.true (c.loop-cursor.invariant.drawn page d))
@@ -62,17 +62,17 @@ pub loop-cursor-preserved : goal.loop-cursor-preserved
 loop-cursor-preserved c =
     let i = c.loop-cursor.invariant in
     let start = c.args.source.now in
-    let d = c.draw_next-first.ensures in
+    let d = c.draw_item-first.ensures in
     let same = same_octets c.octet_at.ensures.step ∙ same_octets i.steps.3 in
     let met = same_octets c.in-Item.ensures.steps.3 in
-    let on : c.loop-cursor.cursor.at - c.args.cursor.now.at + (c.draw_next-first.new.cursor.at - c.loop-cursor.cursor.at) ≡ c.draw_next-first.new.cursor.at - c.args.cursor.now.at = omega (arith, i.on, d.forward) in
+    let on : c.loop-cursor.cursor.at - c.args.cursor.now.at + (c.draw_item-first.new.cursor.at - c.loop-cursor.cursor.at) ≡ c.draw_item-first.new.cursor.at - c.args.cursor.now.at = omega (arith, i.on, d.forward) in
     record {
       drawn = λ page known. area_in (sym (met ∙ same)) (d.drawn page (next_met same met c.meet.new.state c.in-Item.next c.lay-next.result c.in-Item.ensures.met c.lay-next.ensures.read c.loop-cursor-test.true (i.drawn page known)));
       on = omega (arith, i.on, d.forward);
-      read_behind = IfSome_then c.draw_next-first.result d.next (λ octet is. (ap (λ o. slice_get o c.draw_next-first.new.cursor.at) (sym (met ∙ same)) ∙ is.0, is.1));
+      read_behind = IfSome_then c.draw_item-first.result d.next (λ octet is. (ap (λ o. slice_get o c.draw_item-first.new.cursor.at) (sym (met ∙ same)) ∙ is.0, is.1));
       steps = steps_within start (steps_then start (steps_then start (steps_then start i.steps (steps_of c.loop-cursor.source c.octet_at.ensures.step)) c.in-Item.ensures.steps) d.steps)
           (omega arith) (omega (arith, i.on, d.forward, c.lay-next.ensures.len, c.in-Item.ensures.some, read_one c.loop-cursor.first));
-      fills = subst (IsFilledBy c.args.sign.now c.args.plane.now c.draw_next-first.new.plane) on (filled_then c.args.sign.now c.args.plane.now c.loop-cursor.plane c.draw_next-first.new.plane _ _ i.fills d.fills);
+      fills = subst (IsFilledBy c.args.sign.now c.args.plane.now c.draw_item-first.new.plane) on (filled_then c.args.sign.now c.args.plane.now c.loop-cursor.plane c.draw_item-first.new.plane _ _ i.fills d.fills);
     }
 
 pub returns : goal.returns

@@ -1,10 +1,10 @@
-use Rattle.multi_layout.proofs.Common.{rules, ◌≡◌, ◌+◌, ◌*◌, ◌/◌, ◌≤◌, [], ◌∷◌, ◌++◌, length, true, refl, sym, ap, ◌∙◌, subst, arith, spelling_some, begins_area, has_place, is_new_page, plane_octets, IsFilledBy, meant, item_steps}
+use Rattle.multi_layout.proofs.Common.{rules, map, ◌≡◌, ◌+◌, ◌*◌, ◌/◌, [], ◌∷◌, ◌++◌, length, true, refl, sym, ap, ◌∙◌, subst, arith, spelling_some, begins_area, has_place, is_new_page, plane_octets, IsFilledBy, meant, item_steps}
 use Rattle.page_plane.specs.Octets.{octet_count}
-use Rattle.multi_layout.proofs.AreaDrawLemmas.{area_in, filled_longer, filled_none, filled_then}
+use Rattle.multi_layout.proofs.AreaDrawLemmas.{filled_longer, filled_none, filled_then}
 use Rattle.multi_layout.proofs.DrawLemmas.{four_octets}
-use Rattle.multi_layout.proofs.PageDrawLemmas.{if_same, last_passed, last_shown, new_page_is, next_area, page_begins, page_ends, page_filled, page_goes_on, page_in, page_passed}
+use Rattle.multi_layout.proofs.PageDrawLemmas.{area_begins, area_passed, if_same, last_passed, last_shown, new_page_is, next_area, page_begins, page_ends, page_filled, page_goes_on, page_in, page_passed}
 use Rattle.multi_layout.proofs.PieceLemmas.{begins_tag, itself}
-use Rattle.multi_layout.proofs.WalkLemmas.{no_steps, same_octets, stands_in, steps_then, steps_within, within_between}
+use Rattle.multi_layout.proofs.WalkLemmas.{no_steps, ready_between, same_octets, steps_then, steps_within, item_fine, item_fits, tag_passed, within_between}
 use Rattle.multi_layout.proofs.draw.draw_page.Goals as goal
 
 pub loop-read-init : goal.loop-read-init
@@ -16,38 +16,61 @@ loop-read-init c = record {
   filled = subst (IsFilledBy c.args.sign.now c.fill.new.self c.fill.new.self) (omega arith) (filled_none c.args.sign.now c.fill.new.self);
 }
 
-pub draw_next_area-requires-clause-known : goal.draw_next_area-requires-clause-known
-draw_next_area-requires-clause-known c = (c.args.cursor.now.state.pages, page_in (same_octets c.loop-read.invariant.steps.3) c.loop-read.invariant.drawn)
+pub pass_settings-begun-requires : goal.pass_settings-begun-requires
+pass_settings-begun-requires c = (c.args.layer, c.args.cursor.now.state.pages, c.loop-read.plane, page_in (same_octets c.loop-read.invariant.steps.3) c.loop-read.invariant.drawn)
+
+pub read_area-requires-clause-begins : goal.read_area-requires-clause-begins
+read_area-requires-clause-begins c =
+    let set = c.pass_settings-begun.ensures in
+    let now = page_in (same_octets set.steps.3) (set.passed c.args.layer c.args.cursor.now.state.pages c.loop-read.plane (page_in (same_octets c.loop-read.invariant.steps.3) c.loop-read.invariant.drawn)) in
+    (now.before, now.behind, now.up_to.between, now.begins)
+
+pub draw_area-requires-clause-known : goal.draw_area-requires-clause-known
+draw_area-requires-clause-known c =
+    let set = c.pass_settings-begun.ensures in
+    let was = page_in (same_octets c.loop-read.invariant.steps.3) c.loop-read.invariant.drawn in
+    (c.args.cursor.now.state.pages, area_begins (same_octets set.steps.3) (same_octets c.read_area.ensures.steps.3) (set.passed c.args.layer c.args.cursor.now.state.pages c.loop-read.plane was) c.read_area.ensures.read)
 
 pub returns-in_default : goal.returns-in_default
 returns-in_default c =
     let sign = c.args.sign.now in
     let source = c.args.source.now in
     let start = c.args.cursor.now in
-    let new = c.draw_next_area.new.cursor in
+    let new = c.draw_area.new.cursor in
     let i = c.loop-read.invariant in
-    let e = c.draw_next_area.ensures in
+    let e =
+    area_passed c.loop-read.cursor c.pass_settings-begun.new.self c.loop-read.source c.pass_settings-begun.result.1 c.loop-read.invariant.drawn (same_octets c.loop-read.invariant.steps.3)
+    c.pass_settings-begun.ensures.passed c.pass_settings-begun.ensures.on c.pass_settings-begun.ensures.steps c.read_area.ensures.read c.read_area.ensures.known c.read_area.ensures.steps
+    c.draw_area.ensures.drawn c.draw_area.ensures.at c.draw_area.ensures.steps c.draw_area.ensures.fills in
     let same = same_octets i.steps.3 in
-    let d = area_in (sym same) (e.drawn start.state.pages (page_in same i.drawn)) in
-    let past : c.draw_next_area.new.read.end ≤ new.at = omega (arith, e.at) in
-    let areas = filled_then sign c.fill.new.self c.loop-read.plane c.draw_next_area.new.plane _ _ i.filled e.fills in
+    let d = e.drawn in
+    let past = e.reached in
+    let areas = filled_then sign c.fill.new.self c.loop-read.plane c.draw_area.new.plane _ _ i.filled e.fills in
     let count : octet_count c.args.plane.now ≡ plane_octets sign = ap (λ w. (w + 7) / 8 * c.args.plane.now.height) c.requires.size.0 ∙ ap (λ h. (sign.width + 7) / 8 * h) c.requires.size.1 in
     record {
       drawn = last_shown d past c.in_default.is;
-      passed = last_passed d past c.in_default.is start refl (omega (arith, i.on, e.at));
+      passed = last_passed d past c.in_default.is start refl (omega (arith, i.on, e.on));
       size = search rules;
-      kept = same_octets e.steps.3 ∙ same;
-      steps = steps_within source (steps_then source i.steps e.steps) (omega arith) (omega (arith, i.on, e.at, ap item_steps c.in_default.is, if_same new.state.pages start.state.pages 2 d.up_to.page_is));
-      fills = page_filled sign c.args.plane.now c.fill.new.self c.draw_next_area.new.plane start new _ (octet_count c.args.plane.now) (omega (arith, c.fill.ensures.steps)) (omega (arith, c.fill.ensures.steps)) count areas
-          (omega (arith, i.on, e.at)) (omega (arith, i.on, e.at, if_same new.state.pages start.state.pages 4 d.up_to.page_is));
+      kept = e.same ∙ same;
+      steps = steps_within source (steps_then source i.steps e.steps) (omega arith) (omega (arith, i.on, e.on, ap item_steps c.in_default.is, if_same new.state.pages start.state.pages 2 d.up_to.page_is));
+      fills = page_filled sign c.args.plane.now c.fill.new.self c.draw_area.new.plane start new _ (octet_count c.args.plane.now) (omega (arith, c.fill.ensures.steps)) (omega (arith, c.fill.ensures.steps)) count areas
+          (omega (arith, i.on, e.on)) (omega (arith, i.on, e.on, if_same new.state.pages start.state.pages 4 d.up_to.page_is));
     }
 
 pub pass_tag-requires : goal.pass_tag-requires
 pass_tag-requires c =
-    let e = c.draw_next_area.ensures in
-    let d = e.drawn c.args.cursor.now.state.pages (page_in (same_octets c.loop-read.invariant.steps.3) c.loop-read.invariant.drawn) in
-    let n = next_area (same_octets e.steps.3) d (omega (arith, e.at)) c.in-Some.is in
-    record { before = (n.before, n.rest, n.item, n.up_to.between, n.read_is); tag = begins_tag c.in-Some.next.item (ap begins_area (sym n.read_is.meant) ∙ n.begins) }
+    let e =
+    area_passed c.loop-read.cursor c.pass_settings-begun.new.self c.loop-read.source c.pass_settings-begun.result.1 c.loop-read.invariant.drawn (same_octets c.loop-read.invariant.steps.3)
+    c.pass_settings-begun.ensures.passed c.pass_settings-begun.ensures.on c.pass_settings-begun.ensures.steps c.read_area.ensures.read c.read_area.ensures.known c.read_area.ensures.steps
+    c.draw_area.ensures.drawn c.draw_area.ensures.at c.draw_area.ensures.steps c.draw_area.ensures.fills in
+    let n = next_area (e.same ∙ same_octets c.loop-read.invariant.steps.3) e.drawn e.reached c.in-Some.is in
+    let b = n.up_to.between in
+    record {
+      ready = ready_between c.args.sign.now c.draw_area.new.source.octets n.before (n.item ∷ n.rest) c.draw_area.new.cursor b;
+      tag = begins_tag c.in-Some.next.item (ap begins_area (sym n.read_is.meant) ∙ n.begins);
+      fine = (map meant n.before, b.state_is, item_fine b n.read_is);
+      room = omega (arith, item_fits b n.read_is);
+    }
 
 pub returns-then-ends_page : goal.returns-then-ends_page
 returns-then-ends_page c =
@@ -56,53 +79,62 @@ returns-then-ends_page c =
     let start = c.args.cursor.now in
     let new = c.pass_tag.new.self in
     let i = c.loop-read.invariant in
-    let e = c.draw_next_area.ensures in
+    let e =
+    area_passed c.loop-read.cursor c.pass_settings-begun.new.self c.loop-read.source c.pass_settings-begun.result.1 c.loop-read.invariant.drawn (same_octets c.loop-read.invariant.steps.3)
+    c.pass_settings-begun.ensures.passed c.pass_settings-begun.ensures.on c.pass_settings-begun.ensures.steps c.read_area.ensures.read c.read_area.ensures.known c.read_area.ensures.steps
+    c.draw_area.ensures.drawn c.draw_area.ensures.at c.draw_area.ensures.steps c.draw_area.ensures.fills in
     let same = same_octets i.steps.3 in
-    let past : c.draw_next_area.new.read.end ≤ c.draw_next_area.new.cursor.at = omega (arith, e.at) in
-    let n = next_area (sym same) (e.drawn start.state.pages (page_in same i.drawn)) past c.in-Some.is in
+    let past = e.reached in
+    let n = next_area refl e.drawn past c.in-Some.is in
     let turns : is_new_page (meant n.item) ≡ true = ap is_new_page n.read_is.meant ∙ sym c.ends_page.ensures ∙ c.if-ends_page.true in
     let page = new_page_is (meant n.item) turns in
     let four = four_octets n.item.item _ ((itself n.up_to.between (ap has_place page)).1 ∙ page) in
-    let there = same_octets e.steps.3 ∙ same in
-    let behind = stands_in (sym there) (c.pass_tag.ensures.passed n.before n.rest n.item (stands_in there n.up_to.between) n.read_is) in
-    let far : new.at ≡ c.draw_next_area.new.cursor.at + c.in-Some.next.len = c.pass_tag.ensures.at in
-    let areas = filled_then sign c.fill.new.self c.loop-read.plane c.draw_next_area.new.plane _ _ i.filled e.fills in
+    let there = e.same ∙ same in
+    let behind = tag_passed n.up_to.between n.read_is c.pass_tag.new.self c.pass_tag.ensures.at c.pass_tag.ensures.passed in
+    let far : new.at ≡ c.draw_area.new.cursor.at + c.in-Some.next.len = c.pass_tag.ensures.at in
+    let areas = filled_then sign c.fill.new.self c.loop-read.plane c.draw_area.new.plane _ _ i.filled e.fills in
     let count : octet_count c.args.plane.now ≡ plane_octets sign = ap (λ w. (w + 7) / 8 * c.args.plane.now.height) c.requires.size.0 ∙ ap (λ h. (sign.width + 7) / 8 * h) c.requires.size.1 in
     record {
       drawn = page_ends n turns;
-      passed = page_passed n turns start new refl behind (omega (arith, i.on, e.at, far));
+      passed = page_passed n turns start new refl behind (omega (arith, i.on, e.on, far));
       size = search rules;
       kept = same_octets c.pass_tag.ensures.steps.3 ∙ there;
-      steps = steps_within source (steps_then source (steps_then source i.steps e.steps) c.pass_tag.ensures.steps) (omega arith) (omega (arith, i.on, e.at, far, n.read_is.len, four, ap item_steps c.in-Some.is));
-      fills = page_filled sign c.args.plane.now c.fill.new.self c.draw_next_area.new.plane start new _ (octet_count c.args.plane.now) (omega (arith, c.fill.ensures.steps)) (omega (arith, c.fill.ensures.steps)) count areas
-          (omega (arith, i.on, e.at, far)) (omega (arith, i.on, e.at, far, n.read_is.len, four));
+      steps = steps_within source (steps_then source (steps_then source i.steps e.steps) c.pass_tag.ensures.steps) (omega arith) (omega (arith, i.on, e.on, far, n.read_is.len, four, ap item_steps c.in-Some.is));
+      fills = page_filled sign c.args.plane.now c.fill.new.self c.draw_area.new.plane start new _ (octet_count c.args.plane.now) (omega (arith, c.fill.ensures.steps)) (omega (arith, c.fill.ensures.steps)) count areas
+          (omega (arith, i.on, e.on, far)) (omega (arith, i.on, e.on, far, n.read_is.len, four));
     }
 
 pub loop-read-smaller : goal.loop-read-smaller
 loop-read-smaller c =
-    let e = c.draw_next_area.ensures in
+    let e =
+    area_passed c.loop-read.cursor c.pass_settings-begun.new.self c.loop-read.source c.pass_settings-begun.result.1 c.loop-read.invariant.drawn (same_octets c.loop-read.invariant.steps.3)
+    c.pass_settings-begun.ensures.passed c.pass_settings-begun.ensures.on c.pass_settings-begun.ensures.steps c.read_area.ensures.read c.read_area.ensures.known c.read_area.ensures.steps
+    c.draw_area.ensures.drawn c.draw_area.ensures.at c.draw_area.ensures.steps c.draw_area.ensures.fills in
     let same = same_octets c.loop-read.invariant.steps.3 in
-    let there = same_octets e.steps.3 in
-    let n = next_area there (e.drawn c.args.cursor.now.state.pages (page_in same c.loop-read.invariant.drawn)) (omega (arith, e.at)) c.in-Some.is in
-    let behind = c.pass_tag.ensures.passed n.before n.rest n.item n.up_to.between n.read_is in
-    omega (arith, e.at, c.pass_tag.ensures.at, n.read_is.len, spelling_some n.item.item, within_between c.args.sign.now c.draw_next_area.new.source.octets (n.before ++ n.item ∷ []) n.rest c.pass_tag.new.self behind, ap length (there ∙ same))
+    let there = e.same in
+    let n = next_area (there ∙ same) e.drawn e.reached c.in-Some.is in
+    let behind = tag_passed n.up_to.between n.read_is c.pass_tag.new.self c.pass_tag.ensures.at c.pass_tag.ensures.passed in
+    omega (arith, e.on, c.pass_tag.ensures.at, n.read_is.len, spelling_some n.item.item, within_between c.args.sign.now c.draw_area.new.source.octets (n.before ++ n.item ∷ []) n.rest c.pass_tag.new.self behind, ap length (there ∙ same))
 
 pub loop-read-preserved : goal.loop-read-preserved
 loop-read-preserved c =
     let sign = c.args.sign.now in
     let source = c.args.source.now in
     let i = c.loop-read.invariant in
-    let e = c.draw_next_area.ensures in
+    let e =
+    area_passed c.loop-read.cursor c.pass_settings-begun.new.self c.loop-read.source c.pass_settings-begun.result.1 c.loop-read.invariant.drawn (same_octets c.loop-read.invariant.steps.3)
+    c.pass_settings-begun.ensures.passed c.pass_settings-begun.ensures.on c.pass_settings-begun.ensures.steps c.read_area.ensures.read c.read_area.ensures.known c.read_area.ensures.steps
+    c.draw_area.ensures.drawn c.draw_area.ensures.at c.draw_area.ensures.steps c.draw_area.ensures.fills in
     let same = same_octets i.steps.3 in
-    let n = next_area (sym same) (e.drawn c.args.cursor.now.state.pages (page_in same i.drawn)) (omega (arith, e.at)) c.in-Some.is in
-    let there = same_octets e.steps.3 ∙ same in
-    let behind = stands_in (sym there) (c.pass_tag.ensures.passed n.before n.rest n.item (stands_in there n.up_to.between) n.read_is) in
-    let far : c.pass_tag.new.self.at ≡ c.draw_next_area.new.cursor.at + c.in-Some.next.len = c.pass_tag.ensures.at in
+    let n = next_area refl e.drawn e.reached c.in-Some.is in
+    let there = e.same ∙ same in
+    let behind = tag_passed n.up_to.between n.read_is c.pass_tag.new.self c.pass_tag.ensures.at c.pass_tag.ensures.passed in
+    let far : c.pass_tag.new.self.at ≡ c.draw_area.new.cursor.at + c.in-Some.next.len = c.pass_tag.ensures.at in
     record {
       drawn = page_goes_on n (ap is_new_page n.read_is.meant ∙ sym c.ends_page.ensures ∙ c.if-ends_page.false) c.pass_tag.new.self behind;
-      on = omega (arith, i.on, e.at, far);
+      on = omega (arith, i.on, e.on, far);
       steps = steps_within source (steps_then source (steps_then source i.steps e.steps) c.pass_tag.ensures.steps) (omega arith)
-          (omega (arith, i.on, e.at, far, n.read_is.len, spelling_some n.item.item, ap item_steps c.in-Some.is));
-      filled = filled_longer sign c.fill.new.self c.draw_next_area.new.plane _ _ (omega (arith, i.on, e.at, far))
-          (filled_then sign c.fill.new.self c.loop-read.plane c.draw_next_area.new.plane _ _ i.filled e.fills);
+          (omega (arith, i.on, e.on, far, n.read_is.len, spelling_some n.item.item, ap item_steps c.in-Some.is));
+      filled = filled_longer sign c.fill.new.self c.draw_area.new.plane _ _ (omega (arith, i.on, e.on, far))
+          (filled_then sign c.fill.new.self c.loop-read.plane c.draw_area.new.plane _ _ i.filled e.fills);
     }

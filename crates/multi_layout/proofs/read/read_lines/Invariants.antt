@@ -10,8 +10,8 @@ invariant-loop-first g l = record {
   forward : l.cursor.at ≤ l.at;
   first : l.first ≡ slice_get l.initial.source.octets l.at;
   item : IfSome l.item (IsNextAt l.sign l.initial.source.octets l.at);
-  few : item_steps l.fn.begun.item ≤ 9 * (l.at - l.cursor.at) + item_steps l.item;
-  steps : RisesBetween l.initial.source l.source 0 (9 * (l.at - l.cursor.at) + item_steps l.item - item_steps l.fn.begun.item);
+  few : item_steps l.fn.begun.1 ≤ 9 * (l.at - l.cursor.at) + item_steps l.item;
+  steps : RisesBetween l.initial.source l.source 0 (9 * (l.at - l.cursor.at) + item_steps l.item - item_steps l.fn.begun.1);
 }
 
 abbrev pub decreases-loop-first : goal.decreases-loop-first

@@ -1,7 +1,6 @@
-use Rattle.multi_judge.proofs.Common.{arith, page_number}
-use Rattle.multi_judge.proofs.AreaSumLemmas.{group_of_later}
+use Rattle.multi_judge.proofs.Lemmas.{arith, rules, page_number, group_of_later}
 use Rattle.multi_judge.proofs.area.Area.group_for.Goals as goal
 
 pub returns-else-number-self-clause-sum : goal.returns-else-number-self-clause-sum
 returns-else-number-self-clause-sum c area e order =
-    group_of_later area c.args.self.now e (page_number c.args.page_just) (omega (arith, order, c.number.ensures.number, c.if-number-self.false)) c.new.result c.new.ensures.sum
+    group_of_later area c.args.self.now e (page_number c.args.page_just) (omega (arith, order, c.number.ensures.number, c.if-number-self.false)) c.default.result (search rules)

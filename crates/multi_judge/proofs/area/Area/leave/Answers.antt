@@ -1,5 +1,4 @@
-use Rattle.multi_judge.proofs.Common.{◌≡◌, ◌<◌, ◌+◌, ◌==◌, [], refl, sym, arith, le-leb, nat_tests, page_number, kept_height, group_sum}
-use Rattle.multi_judge.proofs.RunLemmas.{area_turned, cond_most, kept_group_height}
+use Rattle.multi_judge.proofs.Lemmas.{◌≡◌, ◌<◌, ◌+◌, ◌==◌, [], refl, sym, arith, rules, le-leb, nat_tests, page_number, kept_height, group_sum, area_turned, cond_most, kept_group_height}
 use Rattle.multi_judge.proofs.area.Area.leave.Goals as goal
 use Rattle.multi_judge.proofs.area.Area.leave.Goals.{in-2, in-3, in_default}
 
@@ -11,9 +10,9 @@ returns c =
     let later : area.present < page = omega (arith, c.if-page_just-self.false, c.number-page_just.ensures.number, c.requires.other) in
     let ended = c.height-ended.ensures in
     let moved : (new.present ≡ page) × (new.top ≡ kept_group_height 2 area) × (new.middle ≡ kept_group_height 3 area) × (new.group ≡ group_sum []) = elim c.match-before.branch [
-      | in-2 w ↦ rw w.self-is (c.number-page_just.ensures.number, rw w.in-2.is ended.kept, rw w.in-2.is refl, c.new-self.ensures.sum)
-      | in-3 w ↦ rw w.self-is (c.number-page_just.ensures.number, rw w.in-3.is refl, rw w.in-3.is ended.kept, c.new-self.ensures.sum)
-      | in_default w ↦ rw w.self-is (c.number-page_just.ensures.number, grind (arith, nat_tests, w.in_default), grind (arith, nat_tests, w.in_default), c.new-self.ensures.sum)
+      | in-2 w ↦ rw w.self-is (c.number-page_just.ensures.number, rw w.in-2.is ended.kept, rw w.in-2.is refl, search rules)
+      | in-3 w ↦ rw w.self-is (c.number-page_just.ensures.number, rw w.in-3.is refl, rw w.in-3.is ended.kept, search rules)
+      | in_default w ↦ rw w.self-is (c.number-page_just.ensures.number, grind (arith, nat_tests, w.in_default), grind (arith, nat_tests, w.in_default), search rules)
     ] in
     record {
       reached = record {
@@ -30,7 +29,7 @@ returns c =
           stays = λ same. absurd (c.requires.other same);
           begins = λ less. rw moved.3 refl;
         };
-        limit = λ is kept. c.room.ensures;
+        limit = λ is kept. c.room_for.ensures.room;
         left = λ none. absurd cc;
       };
     }

@@ -1,7 +1,4 @@
-use Rattle.multi_judge.proofs.Common.{common_steps, ◌≡◌, ◌≤◌, Bool, true, false, refl, arith, rules, le-leb, page_number_known, Area}
-use Rattle.multi_meaning.proofs.GroupLemmas.{room_alone}
-use Rattle.multi_judge.proofs.AreaSumLemmas.{empty_area}
-use Rattle.multi_judge.proofs.RunLemmas.{area_turned}
+use Rattle.multi_judge.proofs.Lemmas.{common_steps, ◌≡◌, ◌≤◌, Bool, true, false, refl, arith, rules, le-leb, page_number_known, Area, room_alone, empty_area, area_turned}
 use Rattle.multi_judge.proofs.area.Area.reach.Goals as goal
 
 -- where no item stands, no character does

@@ -1,6 +1,5 @@
-use Rattle.multi_judge.proofs.Common.{◌+◌, ◌^◌, sym, ◌∙◌, subst, arith, le-leb, lt-leb, IsSplitBelow, IsLineBelow}
-use Rattle.multi_judge.proofs.FillGroupLemmas.{Joins, breaks_there, drops_there, present_glyphs, present_line, put_line, stands_there, stays_there}
-use Rattle.multi_judge.proofs.JudgedLemmas.{lined_below, split_more}
+use Rattle.multi_judge.proofs.Lemmas.{◌+◌, ◌^◌, sym, ◌∙◌, subst, arith, le-leb, lt-leb, IsSplitBelow, Joins, breaks_there, drops_there, present_line, put_line, stands_there, stays_there, lined_below, split_more}
+use Rattle.multi_judge.proofs.FillGroupLemmas.{present_glyphs}
 use Rattle.multi_judge.proofs.area.Group.fill_character.Goals as goal
 
 pub returns-then-self-most-clause-sum : goal.returns-then-self-most-clause-sum
@@ -24,22 +23,22 @@ returns-then-space-clause-sum c most group s placing is space fits apart e o =
 pub returns-then-space-clause-grows : goal.returns-then-space-clause-grows
 returns-then-space-clause-grows c k below split = (c.add_break.ensures.grows k below, subst (IsSplitBelow (k + 1024)) (sym c.forget.ensures) tt)
 
-pub room-requires : goal.room-requires
-room-requires c =
-    record { below = c.add.ensures.grows (2 ^ 62) (subst (IsLineBelow (2 ^ 62)) (sym c.break_at.ensures.line) (subst (IsSplitBelow (2 ^ 62)) c.in-Some.is c.requires.parts).1) }
+pub room_for-requires : goal.room_for-requires
+room_for-requires c =
+    let grown = c.add.ensures.grows (2 ^ 62) (subst (IsSplitBelow (2 ^ 62)) c.in-Some.is c.requires.parts).1 in record { below = omega (arith, grown.left) }
 
 pub returns-in-Some-clause-sum : goal.returns-in-Some-clause-sum
 returns-in-Some-clause-sum c most group s placing is space fits apart e o =
     let j : Joins c.args.width group s c.args.character.now c.args.self.now = record { placing = placing; is = is; fits = fits; apart = apart; sum = e } in
     let (grown, room) = put_line j c.put.result c.put.new.self c.args.most.now c.put.new.most c.put.ensures.apart c.put.ensures.put c.put.ensures.most most in
     rw c.forget-in-Some.ensures (breaks_there j c.put.new.self grown c.put.new.most room (lt-leb c.put.new.self.part.width c.put.new.most c.if-self-most.false)
-    (space ∙ c.if-space.false) c.in-Some.parts (sym c.in-Some.is ∙ o) c.break_at.new.self c.break_at.ensures.sum c.add.new.self (λ l glyphs line away. c.add.ensures.sum l s glyphs is line away))
+    (space ∙ c.if-space.false) c.in-Some.parts (sym c.in-Some.is ∙ o) c.add_break-in-Some.new.self c.add_break-in-Some.ensures.sum c.add.new.self c.add.ensures.sum)
 
 pub returns-in-Some-clause-grows : goal.returns-in-Some-clause-grows
 returns-in-Some-clause-grows c k below split =
     let parts = subst (IsSplitBelow k) c.in-Some.is split in
-    let ended = c.break_at.ensures.grows k below parts.0 parts.1 in (
-      record { ended = ended.ended; closed = ended.closed; line = c.add.ensures.grows k (subst (IsLineBelow k) (sym c.break_at.ensures.line) parts.1) },
+    let ended = c.add_break-in-Some.ensures.grows k (record { ended = below.ended; closed = below.closed; line = parts.0 }) in (
+      record { ended = ended.ended; closed = ended.closed; line = c.add.ensures.grows k parts.1 },
       subst (IsSplitBelow (k + 1024)) (sym c.forget-in-Some.ensures) tt,
     )
 

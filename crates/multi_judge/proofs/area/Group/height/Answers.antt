@@ -1,5 +1,4 @@
-use Rattle.multi_judge.proofs.Common.{◌∙◌}
-use Rattle.multi_judge.proofs.LineSumLemmas.{height_ended, height_present}
+use Rattle.multi_judge.proofs.Lemmas.{◌∙◌, height_ended, height_present}
 use Rattle.multi_judge.proofs.area.Group.height.Goals as goal
 
 pub returns-then-not-self-clause-sum : goal.returns-then-not-self-clause-sum

@@ -1,5 +1,4 @@
-use Rattle.multi_judge.proofs.Common.{◌∙◌, ap, refl, line_sum}
-use Rattle.multi_judge.proofs.LineSumLemmas.{no_character}
+use Rattle.multi_judge.proofs.Lemmas.{◌∙◌, ap, refl, sym, line_sum, line_clashes, no_character}
 use Rattle.multi_judge.proofs.line.Line.put.Goals as goal
 
 pub returns-then-not-self-clause-apart : goal.returns-then-not-self-clause-apart
@@ -12,3 +11,12 @@ returns-then-not-self-clause-put c = λ is. record {
       rw empty (c.begin.ensures.sum s own (e ∙ ap line_sum empty));
   behind = c.begin.ensures.behind;
 }
+
+pub returns-then-just-self-clause-apart : goal.returns-then-just-self-clause-apart
+returns-then-just-self-clause-apart c line s glyphs e just = sym c.if-just-self.true ∙ rw (e, c.number-just.ensures.number, ← just) (sym (line_clashes line s))
+
+pub returns-then-not-stays-clause-apart : goal.returns-then-not-stays-clause-apart
+returns-then-not-stays-clause-apart c line s glyphs e just = sym c.if-just-self.false ∙ rw (e, c.number-just.ensures.number, ← just) (sym (line_clashes line s))
+
+pub returns-else-not-stays-clause-apart : goal.returns-else-not-stays-clause-apart
+returns-else-not-stays-clause-apart c line s glyphs e just = sym c.if-just-self.false ∙ rw (e, c.number-just.ensures.number, ← just) (sym (line_clashes line s))

@@ -1,6 +1,4 @@
-use Rattle.multi_judge.proofs.Common.{sym, ◌∙◌, cell_in}
-use Rattle.multi_judge.proofs.ReadLemmas.{pass_undefined}
-use Rattle.multi_judge.proofs.RunReadLemmas.{no_cell}
+use Rattle.multi_judge.proofs.Lemmas.{sym, ◌∙◌, cell_in, pass_undefined, no_cell}
 use Rattle.multi_judge.proofs.pass.Pass.judge_octet.Goals as goal
 
 pub returns-in-None-clause-judged : goal.returns-in-None-clause-judged

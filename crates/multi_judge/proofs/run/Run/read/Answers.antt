@@ -1,5 +1,5 @@
-use Rattle.multi_judge.proofs.Common.{◌≡◌, ℕ, drop, take, Option, sym, ap, subst, ◌∙◌, arith, if◌then◌else◌, IsWithin, width_in}
-use Rattle.std.specs.Prelude.{IfSome, unwrap_or}
+use Rattle.multi_judge.proofs.Lemmas.{◌≡◌, ℕ, drop, take, Option, sym, ap, subst, ◌∙◌, arith, if◌then◌else◌, IsWithin, width_in, IfSome}
+use Rattle.std.specs.Prelude.{unwrap_or}
 use Rattle.multi_token.specs.Run.{taken}
 use Rattle.sign_font.specs.Advance.{AreAdvances, ends_run}
 use Rattle.sign_font.proofs.SoundLemmas.{width_sound}

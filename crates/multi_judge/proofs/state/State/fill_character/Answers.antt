@@ -1,5 +1,4 @@
-use Rattle.multi_judge.proofs.Common.{◌≡◌, ◌^◌, Some, refl, sym, ap, ◌∙◌, subst, arith, after_last, le-leb, page_number, is_break, filled, page_number_known, Area, IsSplitBelow, split_sum, IsCharacter, group_sum}
-use Rattle.multi_judge.proofs.AreaSumLemmas.{area_filled, nothing_yet, reached_below, reached_group, reached_line, regrouped_below}
+use Rattle.multi_judge.proofs.Lemmas.{◌≡◌, ◌^◌, Some, refl, sym, ap, ◌∙◌, subst, arith, after_last, le-leb, page_number, is_break, filled, page_number_known, Area, IsSplitBelow, split_sum, IsCharacter, group_sum, area_filled, nothing_yet, reached_below, reached_group, reached_line, regrouped_below}
 use Rattle.multi_judge.proofs.state.State.fill_character.Goals as goal
 use Rattle.multi_judge.proofs.state.State.fill_character.Goals.{then-number-self, else-number-self}
 

@@ -1,5 +1,4 @@
-use Rattle.multi_judge.proofs.Common.{◌^◌, refl, sym, ap, ◌∙◌, false≢true, page_number, in_group, own_group, placing_group, page_number_known, Area, group_sum}
-use Rattle.multi_judge.proofs.AreaSumLemmas.{reached_below, reached_conflicts, regrouped_below, area_with}
+use Rattle.multi_judge.proofs.Lemmas.{◌^◌, refl, sym, ap, ◌∙◌, false≢true, page_number, in_group, own_group, placing_group, page_number_known, Area, group_sum, reached_below, reached_conflicts, regrouped_below, area_with}
 use Rattle.multi_judge.proofs.state.State.put_break.Goals as goal
 
 pub returns-then-not-reach-clause-conflicts : goal.returns-then-not-reach-clause-conflicts

@@ -1,7 +1,4 @@
-use Rattle.multi_judge.proofs.Common.{◌^◌, refl, sym, subst, ap, ◌∙◌, after_last, false≢true, page_number, area_of, in_group, is_break, area_placing, page_number_known, Area, Character, PutsCharacter, character_of}
-use Rattle.multi_judge.proofs.JudgedLemmas.{lined_below}
-use Rattle.multi_judge.proofs.AreaSumLemmas.{reached_below, reached_conflicts, reached_group, reached_line, regrouped_below, area_with}
-use Rattle.multi_judge.proofs.LineSumLemmas.{group_character, present_glyphs}
+use Rattle.multi_judge.proofs.Lemmas.{◌^◌, refl, sym, subst, ap, ◌∙◌, after_last, false≢true, page_number, area_of, in_group, is_break, area_placing, page_number_known, Area, Character, PutsCharacter, character_of, lined_below, reached_below, reached_conflicts, reached_group, reached_line, regrouped_below, area_with, group_character, present_glyphs}
 use Rattle.multi_judge.proofs.state.State.put_character.Goals as goal
 
 pub returns-then-not-reach-clause-conflicts : goal.returns-then-not-reach-clause-conflicts

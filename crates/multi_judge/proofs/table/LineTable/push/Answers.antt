@@ -1,7 +1,4 @@
-use Rattle.multi_judge.proofs.Common.{common_steps, ◌≡◌, ◌++◌, [], ◌∷◌, refl, ap, ◌∙◌, arith, rules, if◌then◌else◌, TableLines, split_lines}
-use Rattle.std.specs.Prelude.{◌==◌}
-use Rattle.multi_judge.specs.Table.{group_lines}
-use Rattle.multi_judge.proofs.RunLemmas.{each_group, pushed_middle, pushed_top}
+use Rattle.multi_judge.proofs.Lemmas.{◌==◌, common_steps, ◌≡◌, ◌++◌, [], ◌∷◌, refl, ap, ◌∙◌, arith, rules, if◌then◌else◌, TableLines, split_lines, each_group, pushed_middle, pushed_top, group_lines}
 use Rattle.multi_judge.proofs.table.LineTable.push.Goals as goal
 
 pub returns-in-2 : goal.returns-in-2

@@ -1,6 +1,6 @@
-use Rattle.multi_layout.proofs.Common.{◌≡◌, length, ap, arith, nat_tests}
-use Rattle.multi_layout.proofs.PagesLemmas.{accepted_of, drawing_reads}
-use Rattle.multi_layout.proofs.WalkLemmas.{same_octets}
+use Rattle.multi_layout.proofs.Common.{length, ap, subst, arith, nat_tests, IsPageSkipped}
+use Rattle.multi_layout.proofs.PagesLemmas.{accepted_of, at_start, drawing_reads, if_next, page_follows, page_starts}
+use Rattle.multi_layout.proofs.WalkLemmas.{no_steps, same_octets, steps_then, steps_within}
 use Rattle.multi_layout.proofs.checked.Checked.draw.Goals as goal
 
 pub returns-then-page-self-clause-exists : goal.returns-then-page-self-clause-exists
@@ -13,28 +13,45 @@ returns-clause-exists c =
     let count = (accepted_of c.self.invariant).1 in
     rw (← c.self.view_is) (grind (arith, nat_tests))
 
-pub page_start-cursor-requires : goal.page_start-cursor-requires
-page_start-cursor-requires c = record { known = (c.self.inside.told, c.self.invariant, omega (arith, c.if-page-self.false)) }
+pub loop-cursor-init : goal.loop-cursor-init
+loop-cursor-init c =
+    let (begins, one) = at_start c.self.invariant c.new-cursor.ensures.start in
+    record { begins = begins; few = omega (arith, one); steps = no_steps c.self.inside.source }
+
+pub loop-cursor-smaller : goal.loop-cursor-smaller
+loop-cursor-smaller c =
+    let skipped = subst (λ o. IsPageSkipped c.self.inside.terms o c.loop-cursor.cursor c.pass_page.new.self) (same_octets c.loop-cursor.invariant.steps.3) c.pass_page.ensures.passed in
+    omega (arith, page_follows skipped (omega (arith, c.loop-cursor-test.true, c.if-page-self.false, (accepted_of c.self.invariant).1)), skipped.within)
+
+pub loop-cursor-preserved : goal.loop-cursor-preserved
+loop-cursor-preserved c =
+    let i = c.loop-cursor.invariant in
+    let start = c.self.inside.source in
+    let skipped = subst (λ o. IsPageSkipped c.self.inside.terms o c.loop-cursor.cursor c.pass_page.new.self) (same_octets i.steps.3) c.pass_page.ensures.passed in
+    let (pages, further, begins) = page_follows skipped (omega (arith, c.loop-cursor-test.true, c.if-page-self.false, (accepted_of c.self.invariant).1)) in
+    record {
+      begins = begins;
+      few = omega (arith, pages, c.loop-cursor-test.true);
+      steps = steps_within start (steps_then start i.steps c.pass_page.ensures.steps) (omega arith)
+          (omega (arith, further, if_next c.pass_page.new.self.state.pages c.loop-cursor.cursor.state.pages 1 pages));
+    }
 
 pub draw_next-requires-clause-page : goal.draw_next-requires-clause-page
 draw_next-requires-clause-page c =
-    let s = c.self.inside in
-    let e = c.page_start-cursor.ensures in
-    let same : c.page_start-cursor.new.source.octets ≡ s.source.octets = same_octets e.steps.3 in
-    rw same (c.args.page, omega (arith, (accepted_of c.self.invariant).1), λ more. (e.begins, e.page))
+    let i = c.loop-cursor.invariant in
+    let (accepted, count, orderly) = accepted_of c.self.invariant in
+    rw (same_octets i.steps.3) (c.args.page, omega (arith, count, c.if-page-self.false), λ more. (page_starts i.begins orderly, omega (arith, i.few, c.loop-cursor-test.false)))
 
 pub returns-clause-drawn : goal.returns-clause-drawn
 returns-clause-drawn c =
-    let s = c.self.inside in
-    let e = c.page_start-cursor.ensures in
-    let same : c.page_start-cursor.new.source.octets ≡ s.source.octets = same_octets e.steps.3 in
-    let shows = rw same at c.draw_next.ensures.drawn in
-    λ _. rw (← c.self.view_is) (shows c.args.page (omega (arith, (accepted_of c.self.invariant).1)) (λ more. (e.begins, e.page)))
+    let i = c.loop-cursor.invariant in
+    let (accepted, count, orderly) = accepted_of c.self.invariant in
+    let shows = rw (same_octets i.steps.3) at c.draw_next.ensures.drawn in
+    λ _. rw (← c.self.view_is) (shows c.args.page (omega (arith, count, c.if-page-self.false)) (λ more. (page_starts i.begins orderly, omega (arith, i.few, c.loop-cursor-test.false))))
 
 pub returns-clause-steps : goal.returns-clause-steps
 returns-clause-steps c =
     let s = c.self.inside in
-    let e = c.page_start-cursor.ensures in
-    let same : c.page_start-cursor.new.source.octets ≡ s.source.octets = same_octets e.steps.3 in
+    let i = c.loop-cursor.invariant in
     let on = c.draw_next.ensures.on in
-    rw (← c.self.view_is) (drawing_reads s.source c.page_start-cursor.result c.draw_next.new.next.cursor (length s.source.octets) e.steps (omega arith) on.2 on.0 (omega (arith, on.1, ap length same)))
+    rw (← c.self.view_is) (drawing_reads s.source c.loop-cursor.cursor c.draw_next.new.next.cursor (length s.source.octets) i.steps (omega arith) on.2 on.0 (omega (arith, on.1, ap length (same_octets i.steps.3))))

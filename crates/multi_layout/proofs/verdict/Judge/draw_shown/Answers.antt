@@ -1,4 +1,4 @@
 use Rattle.multi_layout.proofs.verdict.Judge.draw_shown.Goals as goal
 
-pub returns-in-Ok-clause-accepted : goal.returns-in-Ok-clause-accepted
-returns-in-Ok-clause-accepted c = (c.in-Ok.told.pages, rw (← c.self.view_is) c.in-Ok.ensures.told.verdict)
+pub returns-clause-accepted : goal.returns-clause-accepted
+returns-clause-accepted c = (c.in_ok-told.told.pages, rw (← c.self.view_is) c.in_ok-told.ensures.told.verdict)

@@ -1,6 +1,0 @@
-use Rattle.multi_judge.proofs.Common.{sym}
-use Rattle.multi_judge.proofs.LineSumLemmas.{line_clashes}
-use Rattle.multi_judge.proofs.pass.Order.clashes.Goals as goal
-
-pub returns : goal.returns
-returns c line s e j = rw (e, c.number-just.ensures.number, ← j) (sym (line_clashes line s))

@@ -1,0 +1,40 @@
+-- The words of this crate's contracts that aren't std's, each from where it is defined.
+pub use Rattle.std.specs.Borrow.{sem}
+pub use Rattle.multi_token.specs.Counted.{RisesBetween, charged}
+pub use Rattle.multi_token.specs.Spelling.{is_bracket}
+pub use Rattle.multi_tag.specs.Closed.{HasNoTagAt}
+pub use Rattle.multi_tag.specs.Just.{page_number}
+pub use Rattle.multi_tag.specs.declared.just.LineJust.TheVariants.{Full}
+pub use Rattle.sign_font.specs.Sound.{IsSound, IsSoundSize}
+pub use Rattle.sign_font.specs.Defaults.{default_fault, under}
+pub use Rattle.sign_font.specs.Sign.{SignData}
+pub use Rattle.page_plane.specs.Plane.{BitPlane}
+pub use Rattle.multi_meaning.specs.Codes.{code_of}
+pub use Rattle.multi_meaning.specs.Drawn.{Lights}
+pub use Rattle.multi_meaning.specs.Meaning.{Meaning, begins_area, has_place, meanings}
+pub use Rattle.multi_meaning.specs.Offence.{unsized_offence}
+pub use Rattle.multi_meaning.specs.Picture.{picture, is_lit_at, shown_colour, pixel_at}
+pub use Rattle.multi_meaning.specs.kept.ItemAt.{IsFaultAt, IsItemAt}
+pub use Rattle.multi_meaning.specs.Times.{shown}
+pub use Rattle.multi_meaning.specs.Verdict.{Accepted, IsVerdict, IsCycle, Refused}
+pub use Rattle.multi_judge.specs.KnownItem.{meant_by, IsOctet}
+pub use Rattle.multi_judge.specs.PassState.{fill_of, IsPassOf}
+pub use Rattle.multi_judge.specs.Run.{IsBehindCharacter}
+pub use Rattle.multi_judge.specs.State.{IsReady, IsStateOf, IsLimited}
+pub use Rattle.multi_judge.specs.Sums.{IsBelow}
+pub use Rattle.multi_judge.specs.Table.{group_lines}
+pub use Rattle.multi_judge.specs.declared.item.KnownItem.TheVariants.{Char}
+pub use Rattle.multi_judge.specs.Judging.{IsAt}
+pub use Rattle.multi_layout.specs.Pages.{IsSized, TakesFew, page_count, ShowsAt, IsUnderWay, PagesState, pages_state}
+pub use Rattle.multi_layout.specs.declared.paint.Layer.{Layer}
+pub use Rattle.multi_layout.specs.kept.AreaDrawing.{IsPageDrawn, DrawsOn, HasCounted, IsAreaDrawn, IsFilledBy, whole_area, IsCountedBy, BeginsArea, ReadsArea, next_group}
+pub use Rattle.multi_layout.specs.kept.AreaReading.{EndsGroup, GoesOn, IsNextRead, IsReadOf, KnowsArea, KnowsOn, ReadsOn}
+pub use Rattle.multi_layout.specs.kept.Cursors.{PassesTag, IsBetween, IsItemRead, IsRead, LaidItem}
+pub use Rattle.multi_layout.specs.kept.PageDrawing.{IsFilledFew, IsPagePassed, IsPageStart, IsReadTwice, IsStartOf}
+pub use Rattle.multi_layout.specs.kept.Passing.{IsAtStart, IsOnTheWay, IsPageSkipped}
+pub use Rattle.multi_layout.specs.kept.RunDrawing.{DrawsNext, DrawsRun, IsNextDrawn, IsReadBehind, IsRunDrawn, octets_read, DrawsCharacter}
+pub use Rattle.multi_layout.specs.kept.Settings.{IsBegun, IsMet, IsNextAt, MayMeet, PassesSettings, item_steps, met_octets, met_steps}
+pub use Rattle.multi_layout.specs.Limits.{check_limit, reading_limit, drawing_limit, plane_limit}
+pub use Rattle.multi_layout.specs.NextPage.{IsNextPage, IsReadOn}
+pub use Rattle.multi_layout.specs.kept.Told.{IsToldOf, IsRefused, IsTold}
+pub use Rattle.multi_layout.specs.CheckedData.{CheckedData}
