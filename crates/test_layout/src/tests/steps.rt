@@ -107,7 +107,7 @@ impl Walk {
             if let Tag::NewPage = item {
                 return;
             }
-            if !is_setting(item) {
+            if let Tag::HexChar(_) | Tag::NewLine(_) = item {
                 self.pass_text(source);
             }
         }
