@@ -1,5 +1,5 @@
 -- The sums of an area after one more placing item, and what is judged by them.
-use Rattle.multi_judge.proofs.Common.{◌≡◌, ℕ, ◌<◌, ◌≤◌, Bool, true, false, not, ◌&&◌, ◌||◌, ◌==◌, List, [], ◌∷◌, ◌++◌, refl, sym, ap, ◌∙◌, arith, rules, inl, inr, ◌+◌, Option, Some, None, nat_lt, list_any, after_last, or_parts, cases_eq, cases_lt, eq-eqb, le-ltb, lt-ltb, ne_eqb, cases_Bool, false≢true, le-leb, lt-leb, All-head, All-weaker, page_number, largest, Off, Spot, is_glyph, is_break, area_of, in_group, line_before, line_fits, area_fits, too_big, clashes, conflicts, page_number_known, largest_most, largest_push, filter_none, own_group, in_group_other, filled, IsFilledOn, Area, Group, group_sum, area_sum, area_sum_in, line_sum, IsBelow, IsGroupBelow, Split, split_sum, IsMost, group_room, ltb-false, leb-false, leb-true, goes_back, group_goes_back, break_put, IsBare, ReachesGroup}
+use Rattle.multi_judge.proofs.Common.{◌≡◌, ℕ, ◌<◌, ◌≤◌, Bool, true, false, not, ◌&&◌, ◌||◌, ◌==◌, List, [], ◌∷◌, ◌++◌, refl, sym, ap, ◌∙◌, arith, rules, inl, inr, ◌+◌, Option, Some, None, nat_lt, list_any, after_last, or_parts, cases_eq, cases_lt, eq-eqb, le-ltb, lt-ltb, ne_eqb, cases_Bool, false≢true, le-leb, lt-leb, All-head, All-weaker, page_number, largest, Off, Spot, is_glyph, is_break, area_of, in_group, line_before, line_fits, area_fits, too_big, clashes, conflicts, page_number_known, largest_most, largest_push, filter_none, own_group, in_group_other, filled, IsFilledOn, Area, Group, group_sum, area_sum, area_sum_in, line_sum, IsBelow, IsGroupBelow, Split, split_sum, IsMost, group_room, ltb-false, leb-false, leb-true, goes_back, group_goes_back, break_put, ReachesGroup}
 use Rattle.multi_judge.proofs.LineSumLemmas.{present_push}
 
 -- no item of an area is in a group behind the one with the largest justification
@@ -124,20 +124,20 @@ module _ {page height : ℕ} {old : Area} {most : ℕ} {reached : Bool} {new : A
       ])
 
   -- has numbers that grew by no more than 1,024
-  pub reached_below : (k : ℕ) → IsBelow k old → (new.top ≤ k + 1024) × (new.middle ≤ k + 1024) × IsGroupBelow k new.group × IsBare new.group.line × (2 ≤ new.present) × (new.present ≤ 4)
+  pub reached_below : (k : ℕ) → IsBelow k old → (new.top ≤ k + 1024) × (new.middle ≤ k + 1024) × IsGroupBelow k new.group × (2 ≤ new.present) × (new.present ≤ 4)
   reached_below k b = elim (cases_Bool reached) [
     | inl on ↦
         let goes = r.goes on in
-        let (top, middle, group, bare) = goes.grows k b in
-        (top, middle, group, bare, omega (arith, goes.present, page_known.0), omega (arith, goes.present, page_known.1))
-    | inr off ↦ rw ((r.left off).0) (omega (arith, b.top), omega (arith, b.middle), b.group, b.bare, omega (arith, before off, page_known.0), b.known)
+        let (top, middle, group) = goes.grows k b in
+        (top, middle, group, omega (arith, goes.present, page_known.0), omega (arith, goes.present, page_known.1))
+    | inr off ↦ rw ((r.left off).0) (omega (arith, b.top), omega (arith, b.middle), b.group, omega (arith, before off, page_known.0), b.known)
   ]
 
   -- and so it has with another group there, whose numbers may have grown
-  pub regrouped_below : (k : ℕ) → IsBelow k old → (group : Group) → (IsGroupBelow k new.group → IsGroupBelow (k + 1024) group) → IsBare group.line → IsBelow (k + 1024) (record new { group = group })
-  regrouped_below k b group below bare =
-      let (top, middle, old_group, old_bare, least, known) = reached_below k b in
-      record { top = top; middle = middle; group = below old_group; known = known; some = λ any. least; bare = bare; empty = λ none. absurd (omega (arith, none, least)) }
+  pub regrouped_below : (k : ℕ) → IsBelow k old → (group : Group) → (IsGroupBelow k new.group → IsGroupBelow (k + 1024) group) → IsBelow (k + 1024) (record new { group = group })
+  regrouped_below k b group below =
+      let (top, middle, old_group, least, known) = reached_below k b in
+      record { top = top; middle = middle; group = below old_group; known = known; some = λ any. least; empty = λ none. absurd (omega (arith, none, least)) }
 
   -- and the limits of its present group and of its present line are known where they were
   pub reached_group : (2 ≤ old.present → most ≡ group_room old height) → most' ≡ group_room new height

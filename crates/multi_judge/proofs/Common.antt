@@ -34,6 +34,7 @@ pub use Rattle.multi_meaning.specs.declared.fault.SyntaxError.{SyntaxError}
 pub use Rattle.multi_meaning.specs.kept.Present.{IsFilledOn, IsPlacing, ended_lines, present_area, standing_behind}
 pub use Rattle.multi_tag.proofs.JustLemmas.{page_number_known, line_number_known}
 pub use Rattle.multi_tag.specs.Just.{page_number, line_number}
+pub use Rattle.multi_tag.specs.declared.just.LineJust.{LineJust}
 pub use Rattle.multi_tag.specs.declared.tag.Tag.{Tag}
 pub use Rattle.multi_tag.specs.declared.tag.Tag.TheVariants.{NewPage, NewLine, Rect, Back, Font}
 pub use Rattle.multi_token.specs.Counted.{Counted, RisesBetween, charged}
@@ -48,15 +49,15 @@ pub use Rattle.sign_font.specs.declared.font.FontInfo.{FontInfo}
 pub use Rattle.sign_font.specs.declared.parts.LineFill.{LineFill}
 pub use Rattle.sign_font.specs.declared.parts.LineFill.TheVariants.{Off, Words}
 pub use Rattle.multi_judge.specs.Adding.{PutsCharacter, AddsCharacter, character_of, AddsBreak, ReachesGroup}
-pub use Rattle.multi_judge.specs.FillSums.{split_sum, EndsLine, order_sum, IsSplitBelow, FillsArea, parts_sum}
+pub use Rattle.multi_judge.specs.FillSums.{split_sum, EndsLine, order_sum, IsSplitBelow, FillsGroup, parts_sum}
 pub use Rattle.multi_judge.specs.FilledRun.{IsFilledRun, even_line, longer_line, with_run, with_run_behind, with_word, with_space, GoesOnBehind}
 pub use Rattle.multi_judge.specs.FilledState.{IsFilledOf, begins_line, IsFilledFor, IsFilledReady}
 pub use Rattle.multi_judge.specs.Judging.{ReadSoFar, IsAt, IsBehind}
-pub use Rattle.multi_judge.specs.PassState.{IsItemJudged, IsPassOf, IsPassReady, fill_of, JudgesCell}
-pub use Rattle.multi_judge.specs.Passed.{IsFilledPut, IsItemPassed, PassesCharacter}
+pub use Rattle.multi_judge.specs.PassState.{IsPassOf, IsPassReady, fill_of}
+pub use Rattle.multi_judge.specs.Passed.{IsCellPut, IsItemJudged, IsItemPassed, JudgesCell, PutsCell, next_group}
 pub use Rattle.multi_judge.specs.Run.{FitsBefore, is_within, lengthened_line, kept_height, kept_width, IsBehindCharacter, kept_fits, IsRun, lengthened, lengthened_area, line_in_force, IsBehindOne}
-pub use Rattle.multi_judge.specs.State.{IsMost, group_room, segment_room, AreaFits, IsJudged, IsLimited, IsStateOf, attributes_of, IsReady, IsUnfilledOf, IsSimple}
-pub use Rattle.multi_judge.specs.Sums.{group_sum, area_sum, area_sum_in, line_sum, IsBelow, IsGroupBelow, IsCharacter, IsBreak, IsLineBelow, segment_sum, width_before, height_before, ended_sum, IsSegmentBelow, IsBare}
+pub use Rattle.multi_judge.specs.State.{IsMost, group_room, segment_room, AreaFits, IsJudged, IsLimited, IsStateOf, attributes_of, IsReady, IsUnfilledOf, IsSimple, JudgesTag}
+pub use Rattle.multi_judge.specs.Sums.{group_sum, area_sum, area_sum_in, line_sum, IsBelow, IsGroupBelow, IsCharacter, IsBreak, IsLineBelow, segment_sum, width_before, height_before, ended_sum, IsSegmentBelow}
 pub use Rattle.multi_judge.specs.Table.{counted_line, TableLines, split_lines, line_entry, table_of, column_in, IsOrdered, group_lines}
 pub use Rattle.multi_judge.specs.Text.{IsInText, TakesSpace}
 pub use Rattle.multi_judge.specs.declared.area.Area.{Area}

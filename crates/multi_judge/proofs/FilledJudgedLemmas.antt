@@ -1,6 +1,7 @@
 -- What is kept behind one more tag, where lines are filled.
-use Rattle.multi_judge.proofs.Common.{nat_lt, ◌≡◌, ℕ, ◌*◌, ◌≤◌, true, false, List, [], ◌∷◌, ◌++◌, length, Option, Some, None, Result, Ok, Err, refl, sym, ap, subst, ◌∙◌, arith, append-nil, ◌&&◌, rules, Bool, cond, not, ◌||◌, ◌==◌, after_last, list_any, cases_eq, le-leb, length-append, Tag, NewPage, NewLine, Rect, page_number, LineFill, Off, Words, SignData, CellData, cell_in, cell_numbered, SyntaxError, Break, Spot, Standing, in_area, in_group, is_break, spots, standing, Glyph, area_of, group_of, filled, is_space, line_fits, area_fits, too_big, laid_items, Meaning, Does, Shows, conflicts, offence, clashes, first_code, never_big, unsized_offence, present_area, largest, in_group_other, own_group, placing_group, area_placing, nothing_fits, largest_laid, are_laid, offence-break, no_conflict, standing_push, present_area-new, present_area-placing, offence-character, largest_push, SizedCell, page_number_known, area_sum, IsBelow, IsCharacter, line_sum, Area, Pass, State, IsFilledOf, begins_line, order_sum, split_sum, IsSplitBelow, EndsLine, FillsArea, IsItemJudged, AreaFits, IsJudged, IsLimited, IsStateOf, attributes_of, Split, Character, Line, Attributes, is_within, FitsBefore, Limits, filled_break, offends_as_laid, laid_tag, fits_next, after_last_push}
+use Rattle.multi_judge.proofs.Common.{nat_lt, ◌≡◌, ℕ, ◌*◌, ◌≤◌, true, false, List, [], ◌∷◌, ◌++◌, length, Option, Some, None, Result, Ok, Err, refl, sym, ap, subst, ◌∙◌, arith, append-nil, ◌&&◌, rules, Bool, cond, not, ◌||◌, ◌==◌, after_last, list_any, cases_eq, le-leb, length-append, Tag, NewPage, NewLine, Rect, page_number, LineFill, Off, Words, SignData, CellData, cell_in, cell_numbered, SyntaxError, Break, Spot, Standing, in_area, in_group, is_break, spots, standing, Glyph, area_of, group_of, filled, is_space, line_fits, area_fits, too_big, laid_items, Meaning, Does, Shows, conflicts, offence, clashes, first_code, never_big, unsized_offence, present_area, largest, in_group_other, own_group, placing_group, area_placing, nothing_fits, largest_laid, are_laid, offence-break, no_conflict, standing_push, present_area-new, present_area-placing, offence-character, largest_push, SizedCell, page_number_known, area_sum, IsBelow, IsCharacter, line_sum, Area, Pass, State, IsFilledOf, begins_line, order_sum, split_sum, IsSplitBelow, EndsLine, AreaFits, IsJudged, IsPassOf, IsFilledOn, IsPlacing, All, IsLimited, IsStateOf, attributes_of, Split, Character, Line, Attributes, is_within, FitsBefore, Limits, filled_break, offends_as_laid, laid_tag, fits_next, after_last_push}
 use Rattle.multi_judge.proofs.Sums.{area_stays, split_more, cell_found, cell_missing, no_back, empty_area, both_fit, no_clash, present_glyphs}
+use Rattle.multi_meaning.specs.Codes.{code_of}
 use Rattle.multi_meaning.specs.kept.FillOpen.{AllOpenFit}
 use Rattle.multi_judge.proofs.LimitLemmas.{limited_none, area_told, open_told, groups_fit_before}
 use Rattle.multi_judge.proofs.FilledStateLemmas.{area_with, conflicts_by, doesn't_fit, goes_behind, offends_by, offends_without, present_is, shown, no_clash_filled}
@@ -118,6 +119,11 @@ module _ (sign : SignData) (items : List Meaning) (kept : Pass) (of : IsFilledOf
       (λ j differ. ap (in_group j) area_is ∙ in_group_other j (present_area sign items) nl differ) (group ++ nl ∷ []) own
       (sym (ap split_sum soft)) (sym (ap order_sum hard)) (ap (line_fits w) soft ∙ nothing_fits w)
 
+-- a tag is judged, by whether lines are filled: it doesn't offend and the pass is then that of the items with it, or it offends by this error
+abbrev pub IsTagJudged : Bool → SignData → List Meaning → Meaning → Result (Unit {0}) SyntaxError → Pass → Type 0
+IsTagJudged words sign items item (Ok done) pass = (offence sign.line_fill sign items item ≡ None) × IsPassOf words sign pass (items ++ item ∷ [])
+IsTagJudged words sign items item (Err error) pass = offence sign.line_fill sign items item ≡ Some (code_of error)
+
 -- what is kept behind a tag that is judged behind the items as they are laid out
 module _ (sign : SignData) (items : List Meaning) (kept : Pass) (of : IsFilledOf sign items kept) where
   abbrev laid : List Meaning
@@ -130,7 +136,7 @@ module _ (sign : SignData) (items : List Meaning) (kept : Pass) (of : IsFilledOf
   as_laid words tag = ap (λ (setting : LineFill). offence setting sign items (Does tag)) words ∙ offends_as_laid sign items tag
 
   pub judged-stays : sign.line_fill ≡ Words → (tag : Tag) (result : Result (Unit {0}) SyntaxError) (state : State) → begins_line tag ≡ false → IsLimited state → IsJudged sign laid (Does tag) result state
-      → IsItemJudged true sign items (Does tag) result (record { state = state; split = kept.split; order = kept.order })
+      → IsTagJudged true sign items (Does tag) result (record { state = state; split = kept.split; order = kept.order })
   judged-stays words tag (Err error) state e limited j = as_laid words tag ∙ j
   judged-stays words tag (Ok done) state e limited j = (as_laid words tag ∙ j.0, record { words = words; of = stays sign items kept of tag state j.1 limited j.0 (area_stays sign items tag e) (width_stays tag e) })
 
@@ -146,9 +152,16 @@ module _ (sign : SignData) (items : List Meaning) (kept : Pass) (of : IsFilledOf
   begins_of tag state e limited fine st = cc
 
   pub judged-begins : sign.line_fill ≡ Words → (tag : Tag) (result : Result (Unit {0}) SyntaxError) (state : State) → begins_line tag ≡ true → IsLimited state → IsJudged sign laid (Does tag) result state
-      → IsItemJudged true sign items (Does tag) result (record { state = state; split = None; order = order_sum [] })
+      → IsTagJudged true sign items (Does tag) result (record { state = state; split = None; order = order_sum [] })
   judged-begins words tag (Err error) state e limited j = as_laid words tag ∙ j
   judged-begins words tag (Ok done) state e limited j = (as_laid words tag ∙ j.0, record { words = words; of = begins_of tag state e limited j.0 j.1 })
+
+-- a character joins the group of an area with this page justification, where lines are filled to this width, as `FillsGroup` says it of the group
+abbrev pub FillsArea : ℕ → ℕ → Area → Option Split → Character → Bool → Area → Option Split → Option Line → Type 0
+FillsArea just width area split character space area' split' ended =
+    (old new group : List Spot) (s : Spot) → All IsPlacing old → All IsPlacing group → area ≡ area_sum old → area.present ≤ just → IsFilledOn just width group s old new → IsCharacter s character → is_space s ≡ space
+    → line_fits width (after_last is_break (filled (Some width) group)) ≡ true → list_any (clashes s) (after_last is_break (filled (Some width) group)) ≡ false → (area.present ≡ just → split ≡ split_sum (after_last is_break (filled (Some width) group)))
+    → (area' ≡ area_sum new) × (split' ≡ split_sum (after_last is_break (filled (Some width) (group ++ s ∷ [])))) × EndsLine (filled (Some width) group) (filled (Some width) (group ++ s ∷ [])) ended × FitsBefore width area'.group.line
 
 size_by : (fits big : Bool) → fits ≡ not big → first_code ((false, 11) ∷ (big, 5) ∷ []) ≡ cond fits None (Some 5)
 size_by true true e = cc

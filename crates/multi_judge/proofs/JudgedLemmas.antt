@@ -23,7 +23,7 @@ lined_below k group line b l = record { ended = omega (arith, b.ended); closed =
 
 -- what is below a bound is below a larger one
 pub below_more : (k m : ℕ) (area : Area) → k ≤ m → IsBelow k area → IsBelow m area
-below_more k m area h b = record { top = omega (arith, h, b.top); middle = omega (arith, h, b.middle); group = group_more k m area.group h b.group; known = b.known; some = b.some; bare = b.bare; empty = b.empty }
+below_more k m area h b = record { top = omega (arith, h, b.top); middle = omega (arith, h, b.middle); group = group_more k m area.group h b.group; known = b.known; some = b.some; empty = b.empty }
 
 -- and so are the parts of a line
 pub split_more : (k m : ℕ) (o : Option Split) → k ≤ m → IsSplitBelow k o → IsSplitBelow m o

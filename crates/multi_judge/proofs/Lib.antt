@@ -7,6 +7,7 @@ pub mod JudgedLemmas
 pub mod Lemmas
 pub mod LimitLemmas
 pub mod LineSumLemmas
+pub mod PassedLemmas
 pub mod PlaceLemmas
 pub mod PlacingLemmas
 pub mod ReadLemmas

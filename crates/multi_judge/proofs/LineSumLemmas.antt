@@ -1,5 +1,5 @@
 -- The sums of a line after one more character.
-use Rattle.multi_judge.proofs.Common.{length-append, append-nil, ◌≡◌, ℕ, ◌+◌, ◌<◌, ◌≤◌, max, Bool, true, false, cond, ◌&&◌, ◌||◌, ◌==◌, List, [], ◌∷◌, ◌++◌, Option, Some, None, refl, sym, ap, ◌∙◌, arith, rules, length, subst, nat_lt, list_any, AllPass, last_or, after_last, cons_option, All, unwrap_or, option_map, option_map_or, and_right, cases_eq, cases_lt, eq-eqb, false≢true, le-ltb, lt-ltb, ne_eqb, or_parts, All-weaker, All-head, All-tail, All-cons, list_any-append, line_number, page_number, largest, Spot, is_glyph, segment, Break, is_break, in_group, lines_of, average, char_gap, width_of, height_of, clashes, largest_most, largest_push, last_or_push, filter_none, Cut, cut, after_last_is, ended_is, cut_behind_is, each_just, filter_yes, open_glyphs, own_group, placing_group, IsPlacing, FontInfo, cut_with, Character, Segment, Line, kept_width, segment_sum, width_before, line_sum, IsCharacter, group_sum, IsBreak, Group, filter_map, filter-append, filter_map-append, All-append, bearers, line_height, line_spacing, line_gap, given_gap, gap_before, any_largest, extent_push, cut_push, cut_if, part, any_glyph, bearers_glyphs, bearers_ended, bearers_empty, glyph_put, width_push, ended_sum}
+use Rattle.multi_judge.proofs.Common.{length-append, append-nil, ◌≡◌, ℕ, ◌+◌, ◌<◌, ◌≤◌, max, Bool, true, false, cond, ◌&&◌, ◌||◌, ◌==◌, List, [], ◌∷◌, ◌++◌, Option, Some, None, refl, sym, ap, ◌∙◌, arith, rules, length, subst, nat_lt, list_any, AllPass, last_or, after_last, cons_option, All, unwrap_or, option_map, option_map_or, and_right, cases_eq, cases_lt, eq-eqb, false≢true, le-ltb, lt-ltb, ne_eqb, or_parts, All-weaker, All-head, All-tail, All-cons, list_any-append, line_number, page_number, largest, Spot, is_glyph, segment, Break, is_break, in_group, lines_of, average, char_gap, width_of, height_of, clashes, largest_most, largest_push, last_or_push, filter_none, Cut, cut, after_last_is, ended_is, cut_behind_is, each_just, filter_yes, open_glyphs, own_group, placing_group, IsPlacing, FontInfo, cut_with, Character, Segment, Line, kept_width, segment_sum, width_before, line_sum, IsCharacter, group_sum, IsBreak, Group, filter_map, filter-append, filter_map-append, All-append, bearers, line_height, line_spacing, line_gap, given_gap, gap_before, any_largest, extent_push, cut_push, cut_if, part, any_glyph, bearers_glyphs, bearers_ended, bearers_empty, glyph_put, width_push, ended_sum, push_ind, line_number_known}
 use Rattle.multi_judge.specs.declared.area.Ended.{Ended}
 
 -- the gap before one more character, from the spacing of the last one's font
@@ -49,6 +49,10 @@ segment_behind just line less = search (rules, All-weaker, and_right, filter_non
 pub whole_before : (size : ℕ → ℕ) (present just : ℕ) → (present ≤ just → size just ≡ 0) → cond (nat_lt just present) (size just) 0 ≡ size just
 whole_before size present just none = search (rules, cases_lt, le-ltb, lt-ltb)
 
+-- all line justifications are known
+justs_known : (line : List Spot) → largest (λ (t : Spot). line_number t.at.line_just) line ≤ 5
+justs_known = push_ind (λ line. largest (λ (t : Spot). line_number t.at.line_just) line ≤ 5) (omega arith) (λ line s known. omega (arith, known, (line_number_known s.at.line_just).1, largest_push (λ (t : Spot). line_number t.at.line_just) line s))
+
 -- the widths of the segments, by what is kept of the line
 module _ (line : List Spot) (l : Line) (e : l ≡ line_sum line) where
   most_is : l.present ≡ largest (λ (t : Spot). line_number t.at.line_just) line
@@ -74,6 +78,9 @@ module _ (line : List Spot) (l : Line) (e : l ≡ line_sum line) where
 
   right_is : kept_width 4 l ≡ width_of (segment 4 line)
   right_is = kept_is 4 l.right (ap (λ (l : Line). l.right) e)
+
+  pub present_known : l.present ≤ 5
+  present_known = omega (arith, most_is, justs_known line)
 
   pub kept_width_is : l.present ≤ 5 → (just : ℕ) → 2 ≤ just → just ≤ 5 → kept_width just l ≡ width_of (segment just line)
   kept_width_is known = first_of (search (rules, centre_is, each_just, kept_is, le-ltb, left_is, most_is, right_is), grind (arith, centre_is, each_just, kept_is, le-ltb, left_is, most_is, right_is))

@@ -69,10 +69,6 @@ lines_open g h = search (rules, after_last_is, any_cut, cut, cut_behind_is, ende
 pub lines_closed : (g : List Spot) → All IsPlacing g → list_any is_glyph (after_last is_break g) ≡ false → lines_of g ≡ ended_lines g
 lines_closed g placing h = search (rules, any_cut, append-nil, cut, cut_behind_is, ended_is, open_glyphs, part_none)
 
--- the open line gives the last entry
-pub table_open : (g : List Spot) → list_any is_glyph (after_last is_break g) ≡ true → table_of (lines_of g) ≡ table_of (ended_lines g) ++ open_entry g (height_of (lines_of g)) ∷ []
-table_open g h = search (rules, lines_open, table_push)
-
 -- THE LINE OF AN ITEM
 
 -- the line of an item is one of the lines of its group

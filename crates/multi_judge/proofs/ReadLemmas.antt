@@ -1,5 +1,5 @@
 -- What is kept behind one more character, where lines are filled.
-use Rattle.multi_judge.proofs.Common.{◌≡◌, ℕ, ◌+◌, ◌*◌, ◌≤◌, Bool, true, false, ◌==◌, inl, inr, List, [], ◌∷◌, ◌++◌, length, Option, Some, None, refl, sym, ap, subst, ◌∙◌, arith, append-nil, rules, ◌^◌, ◌<◌, drop, map, slice_get, append_assoc, Result, Ok, Err, not, after_last, list_any, All, and_parts, cases_eq, eq-eqb, eqb-true, false≢true, cases_lt, ne_eqb, length-append, length-drop, All-push, All-nil, sum_by-append, page_number, LineFill, Words, Off, SizedCell, SignData, CellData, cell_in, cell_numbered, Spot, Standing, group_of, in_group, is_break, spots, standing, filled, area_fits, line_fits, laid_item, laid_items, Meaning, Shows, meaning, clashes, conflicts, first_code, offence, unsized_offence, present_area, in_group_other, own_group, are_laid, standing_push, present_area-placing, each_after_length, none_more, Token, IsTokenOf, cycle, ended_times, pages_of, SyntaxError, some_after, Area, Attributes, Split, Pass, Character, Order, Limits, Line, IsFilledPut, IsFilledFor, IsFilledOf, IsFilledReady, EndsLine, IsSplitBelow, order_sum, split_sum, is_within, IsLimited, IsReady, IsStateOf, IsUnfilledOf, attributes_of, IsJudged, IsBelow, IsCharacter, area_sum, State, ReadSoFar, IsItemJudged, IsPassOf, drop_all, map-append, slice_get-get_or, spaces_is, Item, IsItem, spelling, spell, HasNoItem, IsReading, item_of, Accepted, IsCycle, IsVerdict, Refused, broken, of_first, verdict, item_refused, length-meanings, offences_push, one_verdict, IsPassReady, fill_of}
+use Rattle.multi_judge.proofs.Common.{◌≡◌, ℕ, ◌+◌, ◌*◌, ◌≤◌, Bool, true, false, ◌==◌, inl, inr, List, [], ◌∷◌, ◌++◌, length, Option, Some, None, refl, sym, ap, subst, ◌∙◌, arith, append-nil, rules, ◌^◌, ◌<◌, drop, map, slice_get, append_assoc, Result, Ok, Err, not, after_last, list_any, All, and_parts, cases_eq, eq-eqb, eqb-true, false≢true, cases_lt, ne_eqb, length-append, length-drop, All-push, All-nil, sum_by-append, page_number, LineFill, Words, Off, SizedCell, SignData, CellData, cell_in, cell_numbered, Spot, Standing, group_of, in_group, is_break, spots, standing, filled, area_fits, line_fits, laid_item, laid_items, Meaning, Shows, meaning, clashes, conflicts, first_code, offence, unsized_offence, present_area, in_group_other, own_group, are_laid, standing_push, present_area-placing, each_after_length, none_more, Token, IsTokenOf, cycle, ended_times, pages_of, SyntaxError, some_after, Area, Attributes, Split, Pass, Character, Order, Limits, Line, IsFilledFor, IsFilledOf, IsFilledReady, EndsLine, IsSplitBelow, order_sum, split_sum, IsLimited, IsReady, IsStateOf, IsUnfilledOf, attributes_of, IsJudged, IsBelow, IsCharacter, area_sum, State, ReadSoFar, IsCellPut, IsPassOf, drop_all, map-append, slice_get-get_or, spaces_is, Item, IsItem, spelling, spell, HasNoItem, IsReading, item_of, Accepted, IsCycle, IsVerdict, Refused, broken, of_first, verdict, item_refused, length-meanings, offences_push, one_verdict, IsPassReady, fill_of}
 use Rattle.multi_judge.proofs.Sums.{both_fit, group_behind, no_back, no_clash, present_push, shown_free, ready, split_more, judged-undefined}
 use Rattle.std.proofs.lemmas.List.Concat.{flat_map-append}
 use Rattle.multi_token.proofs.ReadingLemmas.{none_found, spelling_some}
@@ -7,7 +7,7 @@ use Rattle.multi_meaning.specs.Times.{page_times}
 use Rattle.multi_meaning.specs.Verdict.{verdict_on}
 use Rattle.multi_meaning.specs.Codes.{code_of}
 use Rattle.multi_judge.proofs.FilledStateLemmas.{area_with, doesn't_fit, goes_behind, offends_by, offends_without, present_is, shown, filled_state, pages_at, same_times}
-use Rattle.multi_judge.proofs.FilledJudgedLemmas.{Fills, attributes_here, filled_grown, filled_size, found_here, shown_character, filled_of, filled_undefined}
+use Rattle.multi_judge.proofs.FilledJudgedLemmas.{Fills, IsTagJudged, attributes_here, filled_grown, filled_size, found_here, shown_character, filled_of, filled_undefined}
 
 none_of_both : (a b : Bool) → first_code ((a, 11) ∷ (b, 5) ∷ []) ≡ None → (a ≡ false) × (b ≡ false)
 none_of_both true b e = cc
@@ -101,7 +101,7 @@ module _ (sign : SignData) (items : List Meaning) (kept : Pass) (is : IsFilledFo
     (order' : Order) (sum : (line : List Spot) (s : Spot) → s.at.line_just ≡ character.just → list_any (clashes s) line ≡ false
     → (goes_on ≡ true → kept.order ≡ order_sum line) → (goes_on ≡ false → line ≡ []) → order' ≡ order_sum (line ++ s ∷ []))
     (below : IsBelow (1024 * length items + 1024) area') (split_below : IsSplitBelow (1024 * length items + 1024) split') where
-  pub filled_put : IsFilledPut sign items number kept (record { state = record kept.state { area = area'; limits = limits' }; split = split'; order = order' }) (is_within (record kept.state { area = area'; limits = limits' })) ended
+  pub filled_put : IsCellPut true sign items number kept (Ok ended) (record { state = record kept.state { area = area'; limits = limits' }; split = split'; order = order' })
   filled_put =
       let of = is.of in
       let (cell, found, width) = found_here sign items kept of number c some in
@@ -116,10 +116,9 @@ module _ (sign : SignData) (items : List Meaning) (kept : Pass) (is : IsFilledFo
       let (area, split, line_ended, before) = filled_grown sign items kept of number c some cell found apart character is' (number == 32) space area' split' ended (fills cell found) in
       let on = goes_behind sign items number cell found apart in
       let new = area_with sign items number cell found in
-      let (told, size) = filled_size sign items kept of number c some cell found apart character is' (number == 32) space area' split' ended (fills cell found) limits' (1024 * length items + 1024) below limited in
-      record {
-        size = ap (λ (setting : LineFill). offence setting sign items (Shows number)) is.words ∙ size;
-        passed = λ both.
+      let (told, size) = filled_size sign items kept of number c some cell found apart character is' (number == 32) space area' split' ended (fills cell found) limits' (1024 * length items + 1024) below limited in (
+        ap (λ (setting : LineFill). offence setting sign items (Shows number)) is.words ∙ size,
+        λ both.
             let (wide_fits, high_fits) = and_parts (line_fits w (after_last is_break (in_group (page_number s.at.page_just) new))) (area_fits s.at.rectangle.height new)
             (both_fit (line_fits w (after_last is_break (in_group (page_number s.at.page_just) new))) (area_fits s.at.rectangle.height new) ∙ sym told ∙ both) in
             let line_fits' = ap (λ l. line_fits w (after_last is_break l)) (sym on.after) ∙ wide_fits in
@@ -131,8 +130,8 @@ module _ (sign : SignData) (items : List Meaning) (kept : Pass) (is : IsFilledFo
               others = λ j other. on.others j (λ e. other (e ∙ sym page));
               own = subst (λ j. EndsLine (in_group j (present_area sign (laid_items Words sign items items))) (in_group j new) ended) (sym page)
                   (subst (λ l. EndsLine l (in_group (page_number s.at.page_just) new) ended) (sym on.before) (subst (λ l. EndsLine (filled (Some w) group) l ended) (sym on.after) line_ended));
-            };
-      }
+            },
+      )
 
 -- where no octet stands is the end
 pub at_end : (octets : List ℕ) (at : ℕ) → at ≤ length octets → slice_get octets at ≡ None → length octets ≡ at
@@ -237,7 +236,7 @@ is_false n none = ap not (eq-eqb n 0 none)
 -- an item that is judged where lines aren't filled
 pub judged_unfilled : (sign : SignData) (items : List Meaning) (item : Meaning) (result : Result (Unit {0}) SyntaxError) (pass : Pass) → sign.line_fill ≡ Off → some_after (offence Off sign) items ≡ [] → IsLimited pass.state
     → IsJudged sign items item result pass.state
-    → IsItemJudged false sign items item result pass
+    → IsTagJudged false sign items item result pass
 judged_unfilled sign items item (Ok done) pass off none limited (fine, st) =
     (subst (λ (setting : LineFill). offence setting sign items item ≡ None) (sym off) fine, record { off = off; fine = none_more (offence Off sign) items item none fine; state_is = st; limited = limited })
 judged_unfilled sign items item (Err error) pass off none limited offends = subst (λ (setting : LineFill). offence setting sign items item ≡ Some (code_of error)) (sym off) offends

@@ -1,5 +1,5 @@
 -- One more octet of a run, in the string that is read.
-use Rattle.multi_judge.proofs.Common.{◌≡◌, ℕ, suc, ◌+◌, ◌^◌, ◌<◌, ◌≤◌, List, [], ◌∷◌, ◌++◌, length, map, drop, take, slice_get, Option, Some, None, refl, sym, ◌∙◌, arith, true, false, ◌&&◌, ◌||◌, ◌==◌, ap, ◌-◌, ◌*◌, Bool, cond, subst, rules, nat_le, nat_lt, All, after_last, AllPass, list_any, and_from, and_right, le-leb, le-ltb, eq-eqb, false≢true, option_map, unwrap_or, length-drop, All-head, All-tail, sum_by-append, line_number, page_number, Off, IsPlain, Token, IsTokenOf, SizedCell, SignData, cell_in, IsWithin, HasWidth, width_in, Spot, area_of, is_break, is_glyph, in_group, Meaning, Shows, meaning, conflicts, offence, clashes, some_after, none_mapped, filled, is_space, line_number_known, Area, Line, State, ReadSoFar, IsRun, is_within, kept_height, lengthened, line_in_force, lengthened_area, lengthened_line, IsStateOf, IsUnfilledOf, area_sum, line_sum, IsBelow, IsCharacter, IsLineBelow, area_sum_in, group_sum, AddsCharacter, character_of, order_sum, FillsArea, IsSplitBelow, split_sum, Attributes, Split, Pass, IsFilledRun, even_line, longer_line, with_run, with_run_behind, IsFilledFor, sum_by, length-take-le, take-append-drop, IsBehindOne, GoesOnBehind}
+use Rattle.multi_judge.proofs.Common.{◌≡◌, ℕ, suc, ◌+◌, ◌^◌, ◌<◌, ◌≤◌, List, [], ◌∷◌, ◌++◌, length, map, drop, take, slice_get, Option, Some, None, refl, sym, ◌∙◌, arith, true, false, ◌&&◌, ◌||◌, ◌==◌, ap, ◌-◌, ◌*◌, Bool, cond, subst, rules, nat_le, nat_lt, All, after_last, AllPass, list_any, and_from, and_right, le-leb, le-ltb, eq-eqb, false≢true, option_map, unwrap_or, length-drop, All-head, All-tail, sum_by-append, line_number, page_number, Off, IsPlain, Token, IsTokenOf, SizedCell, SignData, cell_in, IsWithin, HasWidth, width_in, Spot, area_of, is_break, is_glyph, in_group, Meaning, Shows, meaning, conflicts, offence, clashes, some_after, none_mapped, filled, is_space, line_number_known, Area, Line, State, ReadSoFar, IsRun, is_within, kept_height, lengthened, line_in_force, lengthened_area, lengthened_line, IsStateOf, IsUnfilledOf, area_sum, line_sum, IsBelow, IsCharacter, IsLineBelow, area_sum_in, group_sum, AddsCharacter, character_of, order_sum, IsSplitBelow, split_sum, Attributes, Split, Pass, IsFilledRun, even_line, longer_line, with_run, with_run_behind, IsFilledFor, sum_by, length-take-le, take-append-drop, IsBehindOne, GoesOnBehind}
 use Rattle.multi_judge.proofs.Sums.{conflicts_kept, own_line, area_filled, group_of_own, some_mapped, part_below, no_character}
 use Rattle.multi_token.proofs.PlaceLemmas.{drop_read, read_drop, single_token}
 use Rattle.multi_judge.proofs.LimitLemmas.{character_judged}
@@ -7,7 +7,7 @@ use Rattle.multi_judge.proofs.ReadLemmas.{unfilled_more, filled_put, laid_count,
 use Rattle.multi_judge.proofs.RunLemmas.{area_beside, behind_stays, longer_below, run_stays, line_lengthened}
 use Rattle.multi_judge.proofs.FilledStateLemmas.{order_apart, order_stays}
 use Rattle.multi_judge.proofs.FillGroupLemmas.{Joins, present_glyphs, present_line, stands_there, split_none, split_space, split_word}
-use Rattle.multi_judge.proofs.FilledJudgedLemmas.{filled_free}
+use Rattle.multi_judge.proofs.FilledJudgedLemmas.{FillsArea, filled_free}
 use Rattle.multi_token.specs.declared.token.Kind.TheVariants as kinds
 use Rattle.multi_judge.proofs.JudgedLemmas as bounds
 
@@ -272,4 +272,4 @@ module _ (sign : SignData) (octets : List ℕ) (at : ℕ) (kept : Pass) (r : Rea
       let fits' = and_from (nat_le one_longer.part.width kept.state.limits.width) (nat_le (kept_height area.group) kept.state.limits.height) (still_fits kept run gap runs wide fits (octet == 32)) runs.height in
       let token : Token = record { at = at; len = 1; kind = kinds.Char octet } in
       read_more sign octets at (IsFilledFor sign kept) r token refl (single_token octets at octet short here plain) (IsFilledFor sign (with_one gap wide (octet == 32) kept))
-      (put.size ∙ ap {B = Option ℕ} (λ b. cond b None (Some 5)) fits') (put.passed fits').of
+      (put.0 ∙ ap {B = Option ℕ} (λ b. cond b None (Some 5)) fits') (put.1 fits').of

@@ -12,7 +12,7 @@ use Rattle.multi_judge.specs.declared.line.Line.{Line}
 use Rattle.multi_judge.specs.declared.state.State.{State}
 use Rattle.multi_judge.specs.Run.{IsBehindOne}
 use Rattle.multi_judge.specs.State.{IsLimited, group_room}
-use Rattle.multi_judge.specs.Sums.{IsBare, IsBelow, IsBreak, IsCharacter, IsGroupBelow, area_sum, area_sum_in, line_sum}
+use Rattle.multi_judge.specs.Sums.{IsBelow, IsBreak, IsCharacter, IsGroupBelow, area_sum, area_sum_in, line_sum}
 
 -- a line has the present segment of another, and the same segments before it (own)
 pub record IsSameBefore (old new : Line) : Type 0 where
@@ -30,7 +30,7 @@ pub record PutsCharacter (old : Line) (character : Character) (new : Line) : Typ
 -- character, no number grows by more than 1,024, and a line without a character stays bare (own)
 pub record GoesOnTo (page_just : ℕ) (old new : Area) : Type 0 where
   pub sum : (area : List Spot) → All IsPlacing area → old ≡ area_sum area → new ≡ area_sum_in page_just area
-  pub grows : (k : ℕ) → IsBelow k old → (new.top ≤ k + 1024) × (new.middle ≤ k + 1024) × IsGroupBelow k new.group × IsBare new.group.line
+  pub grows : (k : ℕ) → IsBelow k old → (new.top ≤ k + 1024) × (new.middle ≤ k + 1024) × IsGroupBelow k new.group
   pub present : new.present ≡ page_just
   pub stays : page_just ≡ old.present → new ≡ old
   pub begins : old.present < page_just → new.group.line.any ≡ false

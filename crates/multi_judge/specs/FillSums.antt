@@ -1,5 +1,5 @@
 -- What is kept of an open line where lines are filled: the sums around its last space.
-use Rattle.std.specs.Prelude.{◌≡◌, ℕ, ◌≤◌, Bool, true, false, nat_lt, List, [], ◌∷◌, ◌++◌, Option, None, Some}
+use Rattle.std.specs.Prelude.{◌≡◌, ℕ, Bool, true, false, nat_lt, List, [], ◌∷◌, ◌++◌, Option, None, Some}
 use Rattle.std.specs.List.{All, after_last, list_any}
 use Rattle.std.specs.Option.{IfSome, option_map}
 use Rattle.multi_tag.specs.Just.{line_number}
@@ -9,15 +9,14 @@ use Rattle.multi_meaning.specs.Filling.{CutAt, cut_at_last, filled, is_space}
 use Rattle.multi_meaning.specs.Fit.{line_fits}
 use Rattle.multi_meaning.specs.Offence.{clashes}
 use Rattle.multi_meaning.specs.Words.{largest}
-use Rattle.multi_meaning.specs.kept.Present.{IsPlacing, ended_lines, IsFilledOn}
-use Rattle.multi_judge.specs.declared.area.Area.{Area}
+use Rattle.multi_meaning.specs.kept.Present.{IsPlacing, ended_lines}
 use Rattle.multi_judge.specs.declared.area.Group.{Group}
 use Rattle.multi_judge.specs.declared.fill.Split.{Split}
 use Rattle.multi_judge.specs.declared.pass.Order.{Order}
 use Rattle.multi_judge.specs.declared.line.Character.{Character}
 use Rattle.multi_judge.specs.declared.line.Line.{Line}
 use Rattle.multi_judge.specs.Run.{FitsBefore}
-use Rattle.multi_judge.specs.Sums.{IsCharacter, IsLineBelow, area_sum, group_sum, line_sum}
+use Rattle.multi_judge.specs.Sums.{IsCharacter, IsLineBelow, group_sum, line_sum}
 
 -- the sums around a space of a line: of the characters before it, its font, and of those behind it (own)
 abbrev pub parts_sum : CutAt Spot → Split
@@ -58,16 +57,3 @@ FillsGroup width old split character space new split' ended =
     → (new ≡ group_sum (filled (Some width) (group ++ s ∷ [])))
     × (split' ≡ split_sum (after_last is_break (filled (Some width) (group ++ s ∷ []))))
     × EndsLine (filled (Some width) group) (filled (Some width) (group ++ s ∷ [])) ended × FitsBefore width new.line
-
--- a character joins the group of an area with this page justification, where lines are filled to this width: if the open line fits
--- and the character clashes with none of it, then area and split are those with it, the line is ended that is, and the segments before
--- the present one fit (own)
-abbrev pub FillsArea : ℕ → ℕ → Area → Option Split → Character → Bool → Area → Option Split → Option Line → Type 0
-FillsArea just width area split character space area' split' ended =
-    (old new group : List Spot) (s : Spot) → All IsPlacing old → All IsPlacing group → area ≡ area_sum old → area.present ≤ just
-    → IsFilledOn just width group s old new → IsCharacter s character → is_space s ≡ space
-    → line_fits width (after_last is_break (filled (Some width) group)) ≡ true
-    → list_any (clashes s) (after_last is_break (filled (Some width) group)) ≡ false
-    → (area.present ≡ just → split ≡ split_sum (after_last is_break (filled (Some width) group)))
-    → (area' ≡ area_sum new) × (split' ≡ split_sum (after_last is_break (filled (Some width) (group ++ s ∷ []))))
-    × EndsLine (filled (Some width) group) (filled (Some width) (group ++ s ∷ [])) ended × FitsBefore width area'.group.line

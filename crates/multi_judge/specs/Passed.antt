@@ -1,22 +1,29 @@
 -- What one more item of an accepted string makes of what is kept (own).
-use Rattle.std.specs.Prelude.{◌≡◌, ℕ, ◌≤◌, Bool, true, false, if◌then◌else◌, List, [], ◌∷◌, ◌++◌, Option, Some, None}
+use Rattle.std.specs.Prelude.{◌≡◌, ℕ, ◌≤◌, Bool, true, false, if◌then◌else◌, List, [], ◌∷◌, ◌++◌, Option, Some, None, Result, Ok, Err}
 use Rattle.multi_tag.specs.Just.{page_number}
 use Rattle.sign_font.specs.Sign.{SignData}
 use Rattle.sign_font.specs.Text.{width_in}
 use Rattle.multi_meaning.specs.Address.{Spot, in_group}
 use Rattle.multi_meaning.specs.LaidItems.{laid_items}
-use Rattle.multi_meaning.specs.Meaning.{Meaning, Shows}
+use Rattle.multi_meaning.specs.declared.fault.SyntaxError.{SyntaxError}
+use Rattle.multi_meaning.specs.Codes.{code_of}
+use Rattle.multi_meaning.specs.Meaning.{Meaning, Shows, begins_area, has_place}
 use Rattle.multi_meaning.specs.kept.Present.{present_area}
-use Rattle.multi_meaning.specs.Offence.{offence, unsized_offence}
+use Rattle.multi_meaning.specs.Offence.{offence}
 use Rattle.multi_judge.specs.declared.pass.Pass.{Pass}
 use Rattle.multi_judge.specs.declared.line.Line.{Line}
+use Rattle.multi_judge.specs.declared.state.State.{State}
 use Rattle.multi_judge.specs.FillSums.{EndsLine}
 use Rattle.multi_judge.specs.PassState.{IsPassOf, fill_of}
-use Rattle.multi_judge.specs.Run.{IsBehindCharacter, is_within}
+use Rattle.multi_judge.specs.Run.{is_within}
 
 -- the placing items of the present area behind these items, as they are laid out among them (own)
 abbrev pub laid_area : Bool → SignData → List Meaning → List Spot
 laid_area words sign items = present_area sign (laid_items (fill_of words) sign items items)
+
+-- the page justification of the group to which the next item belongs, if it has a place, or else that of the present group (own)
+abbrev pub next_group : State → Meaning → ℕ
+next_group state item = if has_place item then page_number state.attributes.page_just else state.area.present
 
 -- one more item of the group with this page justification is passed that doesn't offend: this is then what is kept of the items with it,
 -- its group is the present one, the other groups stay as they are laid out, and its own has the lines that it had, or one more (own)
@@ -29,25 +36,35 @@ pub record IsItemPassed (words : Bool) (sign : SignData) (items : List Meaning) 
       → in_group just (laid_area words sign (items ++ item ∷ [])) ≡ in_group just (laid_area words sign items)
   pub own : EndsLine (in_group page (laid_area words sign items)) (in_group page (laid_area words sign (items ++ item ∷ []))) ended
 
--- one more character, whose cell has this width, makes this of what is kept of items with which it doesn't offend; where lines aren't
--- filled it stands behind that character (own)
-abbrev pub PassesCharacter : Bool → ℕ → ℕ → Pass → Pass → Option Line → Type 0
-PassesCharacter words number width old new ended =
-    (sign : SignData) (items : List Meaning) → IsPassOf words sign old items
-    → width_in sign old.state.attributes.font.number number ≡ Some width → offence sign.line_fill sign items (Shows number) ≡ None
-    → IsItemPassed words sign items (Shows number) (page_number old.state.attributes.page_just) old new ended
-    × (words ≡ false → IsBehindCharacter new.state)
+-- one more item is judged: it doesn't offend, the pass is then that of the items with it, and it ends this line of its group, if it ends
+-- one, which needs a place, or it offends by this error (own)
+abbrev pub IsItemJudged : Bool → SignData → List Meaning → Meaning → Pass → Result (Option Line) SyntaxError → Pass → Type 0
+IsItemJudged words sign items item old (Ok ended) new =
+    (offence sign.line_fill sign items item ≡ None) × IsPassOf words sign new (items ++ item ∷ []) × (has_place item ≡ false → ended ≡ None)
+    × (begins_area item ≡ false → IsItemPassed words sign items item (next_group old.state item) old new ended)
+IsItemJudged words sign items item old (Err error) new = offence sign.line_fill sign items item ≡ Some (code_of error)
 
--- one more character is put where lines are filled, which doesn't offend by more than its size: it doesn't offend if it fits, and is passed
--- then (own)
-pub record IsFilledPut (sign : SignData) (items : List Meaning) (number : ℕ) (old new : Pass) (fits : Bool) (ended : Option Line) : Type 0
-  where
-    pub size : offence sign.line_fill sign items (Shows number) ≡ (if fits then None else Some 5)
-    pub passed : fits ≡ true → IsItemPassed true sign items (Shows number) (page_number old.state.attributes.page_just) old new ended
+-- whatever the items before are, if the old pass is theirs, the item is judged behind them, and the new pass is the one then (own)
+abbrev pub JudgesItem : Bool → SignData → Pass → Meaning → Result (Option Line) SyntaxError → Pass → Type 0
+JudgesItem words sign old item result new =
+    (items : List Meaning) → IsPassOf words sign old items → IsItemJudged words sign items item old result new
 
--- so it is of one whose cell has this width, whatever the items before are of which the old is kept: it fits by its limits (own)
-abbrev pub PutsFilled : ℕ → ℕ → Pass → Pass → Option Line → Type 0
-PutsFilled number width old new ended =
-    (sign : SignData) (items : List Meaning) → IsPassOf true sign old items
-    → width_in sign old.state.attributes.font.number number ≡ Some width → unsized_offence sign items (Shows number) ≡ None
-    → IsFilledPut sign items number old new (is_within new.state) ended
+-- the same of a character whose cell has this width in pixels (own)
+abbrev pub JudgesCell : Bool → Pass → ℕ → ℕ → Result (Option Line) SyntaxError → Pass → Type 0
+JudgesCell words old number width result new =
+    (sign : SignData) → width_in sign old.state.attributes.font.number number ≡ Some width
+    → JudgesItem words sign old (Shows number) result new
+
+-- one more character is put: it doesn't offend if it is within the limits, and is passed then, or it offends by its size; or it isn't put,
+-- and offends by this error (own)
+abbrev pub IsCellPut : Bool → SignData → List Meaning → ℕ → Pass → Result (Option Line) SyntaxError → Pass → Type 0
+IsCellPut words sign items number old (Ok ended) new =
+    (offence sign.line_fill sign items (Shows number) ≡ (if is_within new.state then None else Some 5))
+    × (is_within new.state ≡ true → IsItemPassed words sign items (Shows number) (page_number old.state.attributes.page_just) old new ended)
+IsCellPut words sign items number old (Err error) new = offence sign.line_fill sign items (Shows number) ≡ Some (code_of error)
+
+-- so it is of one whose cell has this width in pixels, whatever the items before are, if the old pass is theirs (own)
+abbrev pub PutsCell : Bool → Pass → ℕ → ℕ → Result (Option Line) SyntaxError → Pass → Type 0
+PutsCell words old number width result new =
+    (sign : SignData) → width_in sign old.state.attributes.font.number number ≡ Some width
+    → (items : List Meaning) → IsPassOf words sign old items → IsCellPut words sign items number old result new

@@ -1,6 +1,6 @@
 -- The words of this crate's contracts that aren't std's, each from where it is defined.
 pub use Rattle.std.specs.List.{All, AllPass, list_any}
-pub use Rattle.std.specs.Option.{option_map_or, unwrap_or}
+pub use Rattle.std.specs.Option.{unwrap_or}
 pub use Rattle.multi_token.specs.Counted.{charged, RisesBetween}
 pub use Rattle.multi_token.specs.Spelling.{IsPlain}
 pub use Rattle.multi_tag.specs.Just.{page_number, line_number}
@@ -12,7 +12,6 @@ pub use Rattle.sign_font.specs.declared.parts.LineFill.TheVariants.{Words}
 pub use Rattle.multi_meaning.specs.Address.{Spot, in_group, lines_of, Standing, is_glyph, area_of}
 pub use Rattle.multi_meaning.specs.Attributes.{whole_sign, default_line_just, default_page_just}
 pub use Rattle.multi_meaning.specs.Codes.{code_of}
-pub use Rattle.multi_meaning.specs.Filling.{is_space}
 pub use Rattle.multi_meaning.specs.Fit.{room_for}
 pub use Rattle.multi_meaning.specs.LaidItems.{laid_items}
 pub use Rattle.multi_meaning.specs.Line.{average, height_of}
@@ -21,17 +20,17 @@ pub use Rattle.multi_meaning.specs.Offence.{clashes, conflicts}
 pub use Rattle.multi_meaning.specs.Place.{start, spread}
 pub use Rattle.multi_meaning.specs.kept.Present.{IsPlacing, standing_behind, present_area, IsNarrow}
 pub use Rattle.multi_judge.specs.Adding.{ReachesGroup, character_of, IsSameBefore, PutsCharacter, AddsBreak, AddsCharacter}
-pub use Rattle.multi_judge.specs.FillSums.{FillsArea, FillsGroup, IsSplitBelow, split_sum}
+pub use Rattle.multi_judge.specs.FillSums.{FillsGroup, IsSplitBelow}
 pub use Rattle.multi_judge.specs.FilledRun.{IsFilledRun, with_word}
-pub use Rattle.multi_judge.specs.FilledState.{IsFilledFor, IsFilledReady, IsFilledOf}
+pub use Rattle.multi_judge.specs.FilledState.{IsFilledReady, IsFilledOf}
 pub use Rattle.multi_judge.specs.Judging.{IsAt, IsBehind}
 pub use Rattle.multi_judge.specs.KnownItem.{IsOctet, is_setting, meant_by}
-pub use Rattle.multi_judge.specs.PassState.{IsPassBehind, IsPassReady, JudgesCell, JudgesItem, IsPassOf}
-pub use Rattle.multi_judge.specs.Passed.{PassesCharacter, PutsFilled}
+pub use Rattle.multi_judge.specs.PassState.{IsPassBehind, IsPassReady, IsPassOf}
+pub use Rattle.multi_judge.specs.Passed.{JudgesCell, JudgesItem, PutsCell}
 pub use Rattle.multi_judge.specs.Placing.{PlacesCharacter, TellsEnd}
 pub use Rattle.multi_judge.specs.Run.{kept_height, IsBehindOne, is_within, IsOpen, kept_width, IsBehindCharacter, IsRun, IsRunPassed, lengthened, line_in_force}
 pub use Rattle.multi_judge.specs.State.{IsSimple, attributes_of, IsLimited, IsMost, JudgesTag, IsReady, Judges, IsStateOf, whole_times}
-pub use Rattle.multi_judge.specs.Sums.{IsBare, group_sum, area_sum, IsBreak, IsGroupBelow, IsBelow, IsCharacter, IsLineBelow, line_sum}
+pub use Rattle.multi_judge.specs.Sums.{group_sum, area_sum, IsBreak, IsGroupBelow, IsBelow, IsCharacter, IsLineBelow, line_sum}
 pub use Rattle.multi_judge.specs.Table.{group_lines, line_count, line_entry, TableLines, IsOrdered, split_lines}
 pub use Rattle.multi_judge.specs.Text.{TakesSpace}
 pub use Rattle.multi_judge.specs.declared.table.CountedLine.{CountedLine}

@@ -1,5 +1,5 @@
 -- The running sums of an area: what is kept of its items, in place of the items.
-use Rattle.std.specs.Prelude.{◌≡◌, ℕ, ◌≤◌, true, false, nat_lt, List, length, Option, None, if◌then◌else◌}
+use Rattle.std.specs.Prelude.{◌≡◌, ℕ, ◌≤◌, true, nat_lt, List, length, Option, None, if◌then◌else◌}
 use Rattle.std.specs.List.{filter_map, last_or, list_any, after_last}
 use Rattle.std.specs.Option.{option_map}
 use Rattle.multi_tag.specs.Just.{line_number, page_number}
@@ -109,10 +109,6 @@ pub record IsGroupBelow (k : ℕ) (group : Group) : Type 0 where
   pub closed : group.closed ≤ k
   pub line : IsLineBelow k group.line
 
--- a line without a character has no segment before the present one (own)
-abbrev pub IsBare : Line → Type 0
-IsBare line = line.any ≡ false → (line.left ≡ 0) × (line.centre ≡ 0)
-
 -- an area without an item has no height, nor has it an ended line (own)
 pub record IsEmptied (area : Area) : Type 0 where
   pub top : area.top ≡ 0
@@ -129,5 +125,4 @@ pub record IsBelow (k : ℕ) (area : Area) : Type 0 where
   pub group : IsGroupBelow k area.group
   pub known : area.present ≤ 4
   pub some : area.group.line.any ≡ true → 2 ≤ area.present
-  pub bare : IsBare area.group.line
   pub empty : area.present ≡ 0 → IsEmptied area

@@ -1,7 +1,7 @@
 //! The running sums of an area's groups.
 
 ghost use Rattle.std.specs.Prelude.{◌≡◌, ◌≢◌, ℕ, ◌+◌, ◌^◌, ◌<◌, ◌≤◌, ◌&&◌, true, false, List, [], ◌∷◌, ◌++◌};
-ghost use Rattle.multi_judge.specs.Prelude.{All, option_map_or, unwrap_or, page_number, Spot, in_group, lines_of, average, height_of, IsPlacing, ReachesGroup, kept_height, IsBare, group_sum, area_sum, IsBreak, IsGroupBelow, IsBelow};
+ghost use Rattle.multi_judge.specs.Prelude.{All, page_number, Spot, in_group, lines_of, height_of, IsPlacing, ReachesGroup, kept_height, group_sum, area_sum, IsBreak, IsGroupBelow, IsBelow};
 
 use crate::line::{Line, gap_or_average, room_for};
 use multi_tag::PageJust;
@@ -51,28 +51,20 @@ impl Group {
             → self.new ≡ group_sum (group ++ s ∷ []) }
         ensures grows { (k : ℕ) → IsGroupBelow k self.old → IsGroupBelow (k + 1024) self.new }
         ensures none { self.new.line.any ≡ false }
-        ensures bare { IsBare self.new.line }
     {
-        let (height, spacing) = if self.line.any {
-            (self.line.height, self.line.spacing)
-        } else {
-            (font.height, font.line_spacing)
-        };
-        self.ended += 1;
-        self.closed += u64::from(self.gap(spacing)) + u64::from(height);
-        self.last = Some(Ended { gap, spacing });
-        self.line = Line::default();
-    }
-
-    /// The pixels between the last ended line and the present one with this spacing, 0 where none is ended.
-    fn gap(&self, spacing: u8) -> u8
-        ensures { result ≡ option_map_or
-            (λ ended. unwrap_or ended.gap (average ended.spacing spacing)) self.now.last 0 }
-    {
-        match self.last {
-            Some(ended) => gap_or_average(ended.gap, ended.spacing, spacing),
-            None => 0,
+        if !self.line.any {
+            // a line without a character is as high as the font in force
+            self.line.height = font.height;
+            self.line.spacing = font.line_spacing;
+            self.line.any = true;
         }
+        self.closed = self.height();
+        self.ended += 1;
+        self.last = Some(Ended {
+            gap,
+            spacing: self.line.spacing,
+        });
+        self.line = Line::default();
     }
 
     /// The height of the group's lines in pixels, with the gaps between them.
@@ -87,7 +79,11 @@ impl Group {
         if !self.line.any {
             return self.closed;
         }
-        self.closed + u64::from(self.gap(self.line.spacing)) + u64::from(self.line.height)
+        let gap = match self.last {
+            Some(ended) => gap_or_average(ended.gap, ended.spacing, self.line.spacing),
+            None => 0,
+        };
+        self.closed + u64::from(gap) + u64::from(self.line.height)
     }
 }
 
@@ -134,6 +130,7 @@ impl Area {
     }
 
     /// The group with this page justification, which isn't before the present one.
+    #[inline(always)]
     pub fn group_for(&self, page_just: PageJust) -> Group
         ensures sum { (area : List Spot) → self.now ≡ area_sum area → self.now.present ≤ page_number page_just
             → result ≡ group_sum (in_group (page_number page_just) area) }

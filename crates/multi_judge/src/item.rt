@@ -46,13 +46,11 @@ impl KnownItem {
     pub fn is_setting(self) -> bool
         ensures { result ≡ is_setting (meant_by self) }
     {
-        match self {
-            KnownItem::Char(_) => false,
-            KnownItem::Tag(tag) => !matches!(
-                tag,
-                Tag::NewPage | Tag::NewLine(_) | Tag::Rect { .. } | Tag::Back(_)
-            ),
-        }
+        !matches!(
+            self,
+            KnownItem::Char(_)
+                | KnownItem::Tag(Tag::NewPage | Tag::NewLine(_) | Tag::Rect { .. } | Tag::Back(_))
+        )
     }
 
     /// Whether the item is a character whose number is that of an octet.
@@ -60,10 +58,7 @@ impl KnownItem {
         ensures octet { result ≡ true → IsOctet self }
         ensures all { IsOctet self → result ≡ true }
     {
-        match self {
-            KnownItem::Char(number) => number <= 255,
-            KnownItem::Tag(_) => false,
-        }
+        matches!(self, KnownItem::Char(number) if number <= 255)
     }
 }
 

@@ -25,7 +25,17 @@ pub fn judge_tag(
     ensures steps { RisesBetween source.old source.new 0 1 }
 {
     match tag {
-        Tag::NewPage => judge_page(sign, state),
+        Tag::NewPage => {
+            if state.pages >= sign.bare.max_pages() {
+                return Err(SyntaxError::TooManyPages);
+            }
+            state.pages += 1;
+            state.cycle += u32::from(state.attributes.on) + u32::from(state.attributes.off);
+            // a new page has the whole sign
+            state.attributes.rectangle = whole_sign(sign);
+            state.area = Area::default();
+            Ok(())
+        }
         Tag::NewLine(gap) => {
             if !state.put_break(gap) {
                 return Err(SyntaxError::TagConflict);
@@ -43,22 +53,6 @@ pub fn judge_tag(
             Ok(())
         }
     }
-}
-
-/// Judges a new page, which has the whole sign.
-fn judge_page(sign: &Terms<'_>, state: &mut State) -> Result<(), SyntaxError>
-    requires { IsReady state.old }
-    ensures judged { Judges sign.now state.old (Does Tag.NewPage) result state.new }
-    ensures limited { IsLimited state.old → IsLimited state.new }
-{
-    if state.pages >= sign.bare.max_pages() {
-        return Err(SyntaxError::TooManyPages);
-    }
-    state.pages += 1;
-    state.cycle += u32::from(state.attributes.on) + u32::from(state.attributes.off);
-    state.attributes.rectangle = whole_sign(sign);
-    state.area = Area::default();
-    Ok(())
 }
 
 /// Judges a font that a tag asks for, and the version that it must have; without a number it is the default.

@@ -8,7 +8,6 @@
 mod area;
 mod attributes;
 mod fill;
-mod fill_run;
 mod item;
 mod judge;
 mod line;

@@ -1,7 +1,7 @@
 //! The running sums of a line's characters.
 
 ghost use Rattle.std.specs.Prelude.{◌≡◌, ℕ, ◌+◌, ◌^◌, ◌<◌, ◌≤◌, true, false, not, Some, List, [], ◌∷◌, ◌++◌};
-ghost use Rattle.multi_judge.specs.Prelude.{AllPass, list_any, unwrap_or, line_number, Spot, is_glyph, room_for, average, clashes, IsSameBefore, PutsCharacter, IsBehindOne, IsOpen, kept_width, IsMost, line_sum, IsCharacter, IsBare, IsLineBelow};
+ghost use Rattle.multi_judge.specs.Prelude.{AllPass, list_any, unwrap_or, line_number, Spot, is_glyph, room_for, average, clashes, IsSameBefore, PutsCharacter, IsBehindOne, IsOpen, kept_width, IsMost, line_sum, IsCharacter, IsLineBelow};
 
 use multi_tag::LineJust;
 use sign_font::FontInfo;
@@ -53,24 +53,6 @@ pub struct Line {
 }
 
 impl Line {
-    /// Begins a line that has no character with one.
-    #[inline(always)]
-    fn begin(&mut self, character: &Character)
-        ensures sum { (s : Spot) → IsCharacter s character.now → self.old ≡ line_sum [] → self.new ≡ line_sum (s ∷ []) }
-        ensures grows { (k : ℕ) → IsLineBelow k self.old → IsLineBelow (k + 1024) self.new }
-        ensures behind { IsBehindOne character.now.just character.now.font self.new }
-        ensures before { (self.new.left ≡ self.old.left) × (self.new.centre ≡ self.old.centre) }
-    {
-        self.present = character.just.number();
-        self.part.width = u64::from(character.width);
-        self.part.count = 1;
-        self.part.last = Some(character.font.char_spacing);
-        self.has_parts = character.just.number() < 5;
-        self.height = character.font.height;
-        self.spacing = character.font.line_spacing;
-        self.any = true;
-    }
-
     /// Adds a character, whose line justification isn't before that of an earlier one.
     #[inline(always)]
     pub(crate) fn add(&mut self, character: &Character)
@@ -78,15 +60,24 @@ impl Line {
         ensures sum { (line : List Spot) (s : Spot) → AllPass is_glyph line → IsCharacter s character.now → self.old ≡ line_sum line
             → list_any (clashes s) line ≡ false → self.new ≡ line_sum (line ++ s ∷ []) }
         ensures grows { (k : ℕ) → IsLineBelow k self.old → IsLineBelow (k + 1024) self.new }
-        ensures behind { IsOpen character.now.just self.old → IsBehindOne character.now.just character.now.font self.new }
-        ensures bare { IsBare self.new }
+        ensures behind { (self.old.any ≡ true → IsOpen character.now.just self.old)
+            → IsBehindOne character.now.just character.now.font self.new }
+        ensures before { self.old.any ≡ false → (self.new.left ≡ 0) × (self.new.centre ≡ 0) }
         ensures same { self.old.any ≡ true → line_number character.now.just ≡ self.old.present → IsSameBefore self.old self.new }
     {
+        let just = character.just.number();
+        let spacing = character.font.char_spacing;
         if !self.any {
-            self.begin(character);
+            (self.present, self.left, self.centre) = (just, 0, 0);
+            self.part.width = u64::from(character.width);
+            self.part.count = 1;
+            self.part.last = Some(spacing);
+            self.has_parts = just < 5;
+            self.height = character.font.height;
+            self.spacing = character.font.line_spacing;
+            self.any = true;
             return;
         }
-        let just = character.just.number();
         if just > self.present {
             let (before, width) = (self.present, self.part.width);
             self.part = Segment::default();
@@ -98,7 +89,6 @@ impl Line {
                 _ => {}
             }
         }
-        let spacing = character.font.char_spacing;
         let gap = match self.part.last {
             Some(earlier) => gap_or_average(character.spacing, earlier, spacing),
             None => 0,
@@ -116,16 +106,14 @@ impl Line {
     #[inline(always)]
     pub(crate) fn put(&mut self, character: &Character, width: u16, most: &mut u64) -> bool
         requires below { IsLineBelow (2 ^ 62) self.old }
-        requires bare { IsBare self.old }
         ensures apart { (line : List Spot) (s : Spot) → AllPass is_glyph line → self.old ≡ line_sum line
             → s.at.line_just ≡ character.now.just → not result ≡ list_any (clashes s) line }
         ensures put { result ≡ true → PutsCharacter self.old character.now self.new }
         ensures grows { (k : ℕ) → IsLineBelow k self.old → IsLineBelow (k + 1024) self.new }
-        ensures left { result ≡ false → (self.new ≡ self.old) × (most.new ≡ most.old) }
         ensures most { IsMost width self.old most.old → IsMost width self.new most.new }
     {
         if !self.any {
-            self.begin(character);
+            self.add(character);
             *most = u64::from(width);
             return true;
         }
@@ -168,19 +156,16 @@ pub(crate) fn gap_or_average(given: Option<u8>, earlier: u8, later: u8) -> u8
     }
 }
 
-/// The most that a part may have within a length into which those before it fit: in the middle 3, at the end 4, else at the start or
-/// alone.
+/// The most that a part may have within a length into which those before it fit: in the middle 3, at the end 4, else at the start or alone.
 pub(crate) fn room_for(just: u8, start: u64, middle: u64, length: u16) -> u64
-    requires below { start ≤ 2 ^ 62 + 2048 }
     ensures room { result ≡ room_for just start middle length }
-    ensures most { result ≤ length }
 {
     let length = u64::from(length);
     if (start == 0) & (middle == 0) {
         return length;
     }
     match just {
-        3 => length.saturating_sub(2 * start),
+        3 => length.saturating_sub(start).saturating_sub(start),
         4 if middle == 0 => length.saturating_sub(start),
         4 => {
             let rest = length.saturating_sub(middle);

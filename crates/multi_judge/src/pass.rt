@@ -1,7 +1,7 @@
 //! One pass over a string from the left: what is kept of its items, and how each of them is judged.
 
-ghost use Rattle.std.specs.Prelude.{◌≡◌, ◌+◌, ◌^◌, true, List, [], ◌∷◌, ◌++◌, IfSome, OnOk};
-ghost use Rattle.multi_judge.specs.Prelude.{RisesBetween, charged, Words, SignData, AreWidthsOf, laid_items, Does, Meaning, Shows, present_area, PassesCharacter, PutsFilled, IsFilledOf, IsFilledReady, meant_by, is_within, IsPassBehind, IsPassReady, JudgesCell, JudgesItem, IsStateOf, IsBelow, IsLineBelow};
+ghost use Rattle.std.specs.Prelude.{◌≡◌, ◌+◌, ◌^◌, true, List, [], OnOk};
+ghost use Rattle.multi_judge.specs.Prelude.{RisesBetween, charged, Words, SignData, AreWidthsOf, laid_items, Meaning, Shows, present_area, IsFilledOf, IsFilledReady, IsOctet, meant_by, IsPassBehind, IsPassReady, JudgesCell, JudgesItem, PutsCell, IsStateOf, IsBelow};
 
 use crate::fill::Split;
 use crate::item::KnownItem;
@@ -9,7 +9,7 @@ use crate::judge::judge_tag;
 use crate::line::Line;
 use crate::state::State;
 use crate::terms::Terms;
-use multi_meaning::SyntaxError;
+use multi_meaning::{Rectangle, SyntaxError};
 use multi_tag::Tag;
 use multi_token::Source;
 use sign_font::FontCells;
@@ -50,16 +50,18 @@ impl Pass {
         }
     }
 
-    /// Judges an item.
+    /// Judges an item, and tells the line that it ended, if it did: before a soft break, or by an `nl`.
     #[inline(always)]
     pub fn judge_item<const WORDS: bool>(
         &mut self,
         sign: &Terms<'_>,
         source: &mut Source<'_>,
         item: KnownItem,
-    ) -> Result<(), SyntaxError>
+    ) -> Result<Option<Line>, SyntaxError>
         requires ready { IsPassReady WORDS self.old }
         ensures judged { JudgesItem WORDS sign.now self.old (meant_by item) result self.new }
+        ensures behind { IsOctet item → OnOk result (IsPassBehind WORDS self.new) }
+        ensures octet { IsOctet item → source.new ≡ charged source.old 1 }
         ensures steps { RisesBetween source.old source.new 0 8 }
     {
         match item {
@@ -70,7 +72,21 @@ impl Pass {
                     None => Err(SyntaxError::CharacterNotDefined),
                 }
             }
-            KnownItem::Tag(tag) => self.judge_tag::<WORDS>(sign, source, tag),
+            KnownItem::Tag(tag) => {
+                let ended = match tag {
+                    Tag::NewLine(_) => {
+                        let area = &self.state.area;
+                        Some(area.group_for(self.state.attributes.page_just).line)
+                    }
+                    _ => None,
+                };
+                judge_tag(sign, &mut self.state, source, tag)?;
+                if WORDS && matches!(tag, Tag::NewPage | Tag::NewLine(_) | Tag::Rect { .. }) {
+                    self.split = None;
+                    self.order = Order::default();
+                }
+                Ok(ended)
+            }
         }
     }
 
@@ -81,7 +97,7 @@ impl Pass {
         cells: &FontCells<'_>,
         source: &mut Source<'_>,
         octet: u8,
-    ) -> Result<(), SyntaxError>
+    ) -> Result<Option<Line>, SyntaxError>
         requires ready { IsPassReady WORDS self.old }
         ensures judged { (sign : SignData) → AreWidthsOf sign self.old.state.attributes.font.number cells.now
             → JudgesItem WORDS sign self.old (Shows octet) result self.new }
@@ -97,102 +113,62 @@ impl Pass {
 
     /// Judges a character whose cell has this width in pixels.
     #[inline(always)]
-    fn judge_cell<const WORDS: bool>(&mut self, number: u16, width: u8) -> Result<(), SyntaxError>
+    fn judge_cell<const WORDS: bool>(
+        &mut self,
+        number: u16,
+        width: u8,
+    ) -> Result<Option<Line>, SyntaxError>
         requires ready { IsPassReady WORDS self.old }
         ensures judged { JudgesCell WORDS self.old number width result self.new }
         ensures behind { OnOk result (IsPassBehind WORDS self.new) }
         ensures same { OnOk result (self.new.state.attributes ≡ self.old.state.attributes) }
     {
-        if WORDS {
-            return self.fill_cell(number, width);
-        }
-        if !self.state.put_character(width) {
+        let ended = if WORDS {
+            self.fill_cell(number, width)?
+        } else if self.state.put_character(width) {
+            None
+        } else {
             return Err(SyntaxError::TagConflict);
-        }
-        if self.state.fits() {
-            Ok(())
+        };
+        let State { area, limits, .. } = &self.state;
+        let group = &area.group;
+        // only the present segment and the present group can have grown too large
+        if (group.line.part.width <= limits.width) & (group.height() <= limits.height) {
+            Ok(ended)
         } else {
             Err(SyntaxError::TextTooBig)
         }
     }
 
-    /// Judges what a tag says.
+    /// Puts a character whose cell has this width in pixels, where lines are filled, if it doesn't conflict with the items before it.
     #[inline(always)]
-    pub fn judge_tag<const WORDS: bool>(
-        &mut self,
-        sign: &Terms<'_>,
-        source: &mut Source<'_>,
-        tag: Tag,
-    ) -> Result<(), SyntaxError>
-        requires ready { IsPassReady WORDS self.old }
-        ensures judged { JudgesItem WORDS sign.now self.old (Does tag) result self.new }
-        ensures steps { RisesBetween source.old source.new 0 1 }
-    {
-        let judged = judge_tag(sign, &mut self.state, source, tag);
-        if WORDS && matches!(tag, Tag::NewPage | Tag::NewLine(_) | Tag::Rect { .. }) {
-            self.split = None;
-            self.order = Order::default();
-        }
-        judged
-    }
-
-    /// Judges a character whose cell has this width in pixels, where lines are filled.
-    fn fill_cell(&mut self, number: u16, width: u8) -> Result<(), SyntaxError>
+    fn fill_cell(&mut self, number: u16, cell_width: u8) -> Result<Option<Line>, SyntaxError>
         requires ready { IsFilledReady self.old }
-        ensures judged { JudgesCell true self.old number width result self.new }
-        ensures within { OnOk result (is_within self.new.state ≡ true) }
+        ensures put { PutsCell true self.old number cell_width result self.new }
+        ensures below { OnOk result (IsBelow (2 ^ 62 + 1024) self.new.state.area) }
         ensures same { self.new.state.attributes ≡ self.old.state.attributes }
     {
-        let attributes = &self.state.attributes;
-        let (page_just, present) = (attributes.page_just.number(), self.state.area.present);
-        let just = attributes.line_just.number();
-        let Order { largest, has_parts } = self.order;
+        let Pass { state, split, .. } = self;
+        let here = state.attributes;
+        let (page, present) = (here.page_just.number(), state.area.present);
+        let just = here.line_just.number();
         // as `Line::put` has it, but of the characters before a soft break too
-        let clashes = (just < largest) | ((just == 5) & has_parts);
-        if (page_just < present) | ((page_just == present) & clashes) {
+        let clashes = (just < self.order.largest) | ((just == 5) & self.order.has_parts);
+        if (page < present) | ((page == present) & clashes) {
             return Err(SyntaxError::TagConflict);
         }
-        self.put_filled(number, width);
-        if self.state.fits() {
-            Ok(())
-        } else {
-            Err(SyntaxError::TextTooBig)
-        }
-    }
-
-    /// Puts a character whose cell has this width in pixels, where lines are filled: the line that it ended, if it did.
-    #[inline(always)]
-    fn put_filled(&mut self, number: u16, width: u8) -> Option<Line>
-        requires ready { IsFilledReady self.old }
-        ensures put { PutsFilled number width self.old self.new result }
-        ensures same { self.new.state.attributes ≡ self.old.state.attributes }
-        ensures below { IsBelow (2 ^ 62 + 1024) self.new.state.area }
-        ensures small { IfSome result (IsLineBelow (2 ^ 62)) }
-    {
-        let attributes = &self.state.attributes;
-        let goes_on = attributes.page_just.number() == self.state.area.present;
-        let just = attributes.line_just.number();
         self.order = Order {
             largest: just,
-            has_parts: (just < 5) | (goes_on & self.order.has_parts),
+            has_parts: (just < 5) | ((page == present) & self.order.has_parts),
         };
-        self.state
-            .fill_character(&mut self.split, width, number == 32)
-    }
-
-    /// Goes behind a character of an accepted string, whose cell has this width in pixels. The answer is the line that it ended, if
-    /// it did.
-    pub fn pass_cell<const WORDS: bool>(&mut self, number: u16, width: u8) -> Option<Line>
-        requires ready { IsPassReady WORDS self.old }
-        ensures passed { PassesCharacter WORDS number width self.old self.new result }
-        ensures small { IfSome result (IsLineBelow (2 ^ 62)) }
-    {
-        if WORDS {
-            self.put_filled(number, width)
-        } else {
-            // It doesn't offend.
-            self.state.put_character(width);
-            None
+        if page > present {
+            *split = None;
         }
+        let Rectangle { width, height, .. } = here.rectangle;
+        let character = here.character(cell_width);
+        let limits = &mut state.limits;
+        state.area.reach(here.page_just, height, &mut limits.height);
+        let group = &mut state.area.group;
+        Ok(group.fill_character(split, width, &mut limits.width, &character, number == 32))
     }
 }

@@ -1,7 +1,7 @@
 //! What is kept of the items that were read.
 
 ghost use Rattle.std.specs.Prelude.{◌≡◌, ◌+◌, ◌*◌, ◌^◌, ◌≤◌, [], List, true, false, not};
-ghost use Rattle.multi_judge.specs.Prelude.{IsSound, Spot, area_of, is_glyph, conflicts, AddsBreak, AddsCharacter, is_within, IsBelow, area_sum, IsLimited, IsReady, IsStateOf, whole_times};
+ghost use Rattle.multi_judge.specs.Prelude.{IsSound, Spot, area_of, is_glyph, conflicts, AddsBreak, AddsCharacter, area_sum, IsLimited, IsReady, IsStateOf, whole_times};
 
 use crate::area::Area;
 use crate::attributes::{Attributes, whole_sign};
@@ -22,7 +22,7 @@ pub struct State {
 }
 
 /// The most that the present segment of a line and the present group of an area may have, in pixels.
-#[derive(Clone, Copy)]
+#[derive(Clone, Copy, Default)]
 pub(crate) struct Limits {
     pub(crate) width: u64,
     pub(crate) height: u64,
@@ -53,10 +53,7 @@ impl State {
             },
             area: Area::default(),
             // known where there is a character, and where there is a group
-            limits: Limits {
-                width: 0,
-                height: 0,
-            },
+            limits: Limits::default(),
         }
     }
 
@@ -98,16 +95,6 @@ impl State {
         }
         self.area.group.add_break(gap, &self.attributes.font);
         true
-    }
-
-    /// Whether the present segment and the present group have at most what they may have.
-    #[inline(always)]
-    pub(crate) fn fits(&self) -> bool
-        requires below { IsBelow (2 ^ 62 + 1024) self.now.area }
-        ensures { result ≡ is_within self.now }
-    {
-        let group = &self.area.group;
-        (group.line.part.width <= self.limits.width) & (group.height() <= self.limits.height)
     }
 
     /// The times of all pages of a string that ends here, in tenths of a second.

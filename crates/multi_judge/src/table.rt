@@ -43,7 +43,6 @@ impl Model for LineTable {
 impl CountedLine {
     /// What is kept of a line with this height of its group down to its bottom.
     pub fn of(line: &Line, bottom: u64) -> CountedLine
-        requires known { line.now.present ≤ 5 }
         requires narrow { (spots : List Spot) × (line.now ≡ line_sum spots) × IsNarrow spots }
         requires low { bottom ≤ 1024 }
         ensures entry { (spots : List Spot) → line.now ≡ line_sum spots → result ≡ line_entry spots bottom }
@@ -97,8 +96,7 @@ impl LineTable {
         self.bottom = 0;
     }
 
-    /// Puts a line behind those of the group with this page justification, top 2, middle 3 or bottom 4. No group behind it has
-    /// a line.
+    /// Puts a line behind those of the group with this page justification, top 2, middle 3 or bottom 4. No group behind it has a line.
     pub fn push(&mut self, page_just: u8, line: CountedLine)
         requires known { (2 ≤ page_just) × (page_just ≤ 4) }
         requires room { line_count self.old < 128 }

@@ -1,13 +1,14 @@
 -- The items of a page, drawn one after the other.
-use Rattle.multi_layout.proofs.Common.{◌≡◌, ℕ, ◌+◌, ◌^◌, ◌<◌, ◌≤◌, false, cond, slice_get, List, [], ◌∷◌, ◌++◌, length, map, Option, None, Some, refl, sym, ap, subst, ◌∙◌, arith, append_assoc, rules, Bool, true, Err, Ok, inl, mul-add, mul-le-mul_left, false≢true, length-append, map-append, All-head, All-tail, spelling, Item, spelling_some, BitPlane, SignData, tallest, standing, Spot, Standing, put_at, EndsArea, Meaning, begins_area, is_new_page, Does, has_place, meaning, pages_of, NextItem, State, LineTable, pages_of-push, at_end, Tag, NewPage, NewLine, Font, Rect, Back, Off, Words, SyntaxError, Defaults, too_big, laid_items, offence, offence_by, Pass, ends_line, is_setting, meant_by, IsPassOf, IsStateOf, present_area, Cursor, Layer, AreaLines, plane_octets, BeginsNoArea, HasCounted, IsAreaDrawn, IsDrawnTo, IsDrawnUpTo, IsFilledBy, IsInArea, whole_area, IsPageDrawn, IsNextDrawn, IsReadBehind, octets_read, IsBetween, IsFirst, IsItemRead, IsRead, items_of, meant, LaidItem, spell_of, IsPlaced, IsNextAt, IsMet, Setting}
-use Rattle.multi_meaning.proofs.StandingLemmas.{same_area, present_area-nothing}
+use Rattle.multi_layout.proofs.Common.{Counted, RisesBetween, charged, not, ◌-◌, ◌⊎◌, inr, ◌≡◌, ℕ, ◌+◌, ◌^◌, ◌<◌, ◌≤◌, false, cond, slice_get, List, [], ◌∷◌, ◌++◌, length, map, Option, None, Some, refl, sym, ap, subst, ◌∙◌, arith, append_assoc, rules, Bool, true, Err, Ok, inl, mul-add, mul-le-mul_left, false≢true, length-append, map-append, All-head, All-tail, spelling, Item, spelling_some, BitPlane, SignData, tallest, standing, Spot, Standing, put_at, EndsArea, Meaning, begins_area, is_new_page, Does, has_place, meaning, pages_of, NextItem, State, LineTable, pages_of-push, at_end, Tag, NewPage, NewLine, Font, Rect, Back, Off, Words, SyntaxError, Defaults, too_big, laid_items, offence, offence_by, Pass, ends_line, is_setting, meant_by, IsPassOf, IsStateOf, Cursor, Layer, AreaLines, plane_octets, BeginsNoArea, HasCounted, IsAreaDrawn, IsDrawnTo, IsDrawnUpTo, IsFilledBy, IsInArea, whole_area, IsNextDrawn, IsReadBehind, octets_read, IsBetween, IsFirst, IsItemRead, IsRead, items_of, meant, LaidItem, spell_of, IsPlaced, IsNextAt, IsMet, Setting}
+use Rattle.std.specs.Option.{is_some}
+use Rattle.multi_meaning.proofs.StandingLemmas.{same_area}
 use Rattle.multi_judge.proofs.ReadLemmas.{judged_unfilled}
 use Rattle.multi_judge.specs.FilledState.{begins_line}
 use Rattle.multi_judge.specs.State.{IsJudged}
 use Rattle.multi_judge.proofs.FilledJudgedLemmas.{judged-stays}
 use Rattle.multi_layout.specs.kept.Settings.{PutsSetting}
 use Rattle.multi_layout.proofs.PieceLemmas.{first_begins, first_piece, read_unplaced}
-use Rattle.multi_layout.proofs.WalkLemmas.{map_split, spell_of-append, total, within_between, none_offends, between_more}
+use Rattle.multi_layout.proofs.WalkLemmas.{no_steps, steps_of, steps_within, map_split, spell_of-append, total, within_between, none_offends, between_more}
 use Rattle.multi_layout.proofs.DrawLemmas.{no_page, same_drawn}
 use Rattle.multi_judge.specs.declared.item.KnownItem.TheVariants as known
 
@@ -146,6 +147,14 @@ pub none_read : (octets : List ℕ) (at end : ℕ) (read : Option ℕ) → IsRea
 none_read octets at end None is past = refl
 none_read octets at end (Some octet) is past = absurd (omega (arith, is.1, past))
 
+-- the octet at the cursor is read, if it wasn't
+pub octet_there : {octets : List ℕ} (at end : ℕ) (first : Option ℕ) → IsReadBehind octets at end first → (old : Counted) → old.octets ≡ octets → (none : Bool) → is_some first ≡ not none → {new : Counted} {first' : Option ℕ}
+    → ((none ≡ true) × (first' ≡ slice_get old.octets at) × (new ≡ charged old 1)) ⊎ ((none ≡ false) × (first' ≡ first) × (new ≡ old)) → (first' ≡ slice_get octets at) × RisesBetween old new 0 (1 - octets_read first)
+octet_there at end None i old same none some (inl (is, found, steps)) = (found ∙ ap (λ o. slice_get o at) same, steps_within old (steps_of old steps) (omega arith) (omega arith))
+octet_there at end (Some octet) i old same none some (inl (is, found, steps)) = let wrong : true ≡ false = some ∙ ap not is in absurd cc
+octet_there at end None i old same none some (inr (is, found, steps)) = let wrong : false ≡ true = some ∙ ap not is in absurd cc
+octet_there at end (Some octet) i old same none some (inr (is, found, steps)) = (found ∙ sym i.0, subst (λ s. RisesBetween old s 0 0) (sym steps) (no_steps old))
+
 -- the steps over the plane add up
 pub filled_then : (sign : SignData) (a b c : BitPlane) (m n : ℕ) → IsFilledBy sign a b m → IsFilledBy sign b c n → IsFilledBy sign a c (m + n)
 filled_then sign a b c m n x y = record {
@@ -204,7 +213,7 @@ setting_passed false sign items kept state tag of puts =
     (judged_unfilled sign items (Does tag) (Ok tt) (record kept { state = state }) of.off of.fine (puts.limited of.limited) (puts.judged items of.state_is)).1
 
 -- a setting was met at the cursor, and the page is drawn as far as the new one behind it
-record SettingDrawn (sign : SignData) (octets : List ℕ) (layer : Layer) (page : ℕ) (before behind : List LaidItem) (cursor new : Cursor) (plane : BitPlane) : Type 0 where
+pub record SettingDrawn (sign : SignData) (octets : List ℕ) (layer : Layer) (page : ℕ) (before behind : List LaidItem) (cursor new : Cursor) (plane : BitPlane) : Type 0 where
   pub item : LaidItem
   pub rest : List LaidItem
   pub split : behind ≡ item ∷ rest
@@ -218,8 +227,8 @@ abbrev behind : Cursor → ℕ → State → Cursor
 behind cursor len state = record { at = cursor.at + len; state = state }
 
 module _ {sign : SignData} {octets : List ℕ} {layer : Layer} {page : ℕ} {cursor : Cursor} {plane : BitPlane} (len : ℕ) (state : State) (met : IsMet sign octets cursor.at cursor.state (Setting len) state) where
-  drawn : {before items : List LaidItem} → IsDrawnUpTo sign octets layer page before items cursor plane → SettingDrawn sign octets layer page before items cursor (behind cursor len state) plane
-  drawn {before} {items} u =
+  pub setting_drawn : {before items : List LaidItem} → IsDrawnUpTo sign octets layer page before items cursor plane → SettingDrawn sign octets layer page before items cursor (behind cursor len state) plane
+  setting_drawn {before} {items} u =
       let (tag, puts, is) = met in
       let new = behind cursor len state in
       let next : NextItem = record { item = known.Tag tag; len = len } in
@@ -244,23 +253,10 @@ module _ {sign : SignData} {octets : List ℕ} {layer : Layer} {page : ℕ} {cur
   -- among the items of an area
   pub area_set : {read : AreaLines} → IsAreaDrawn sign octets layer page read cursor plane → IsAreaDrawn sign octets layer page read (behind cursor len state) plane
   area_set {read} d =
-      let s = drawn d.up_to in
+      let s = setting_drawn d.up_to in
       record {
         before = d.before ++ s.item ∷ [];
         behind = s.rest;
         up_to = s.up_to;
         left = left_more (subst (λ l. IsInArea sign read d.before l cursor) s.split d.left) (ap begins_area s.means ∙ (setting_is s.tag s.setting).0) (behind cursor len state) s.to;
-      }
-
-  -- where an area begins
-  pub page_set : IsPageDrawn sign octets layer page cursor plane → IsPageDrawn sign octets layer page (behind cursor len state) plane
-  page_set d =
-      let s = drawn d.up_to in
-      record {
-        before = d.before ++ s.item ∷ [];
-        behind = s.rest;
-        up_to = s.up_to;
-        begins = ap (present_area sign) (map_split d.before [] s.item (Does s.tag) s.means)
-            ∙ present_area-nothing sign (map meant d.before) (Does s.tag) (setting_is s.tag s.setting).0 ((setting_is s.tag s.setting).4 sign.defaults (standing sign (map meant d.before)))
-            ∙ d.begins;
       }

@@ -1,27 +1,23 @@
 -- The first reading of an area: the table of its lines, item by item.
-use Rattle.multi_layout.proofs.Common.{◌≡◌, ℕ, Bool, true, ◌+◌, ◌-◌, ◌*◌, ◌<◌, ◌≤◌, false, cond, inl, inr, slice_get, None, length, map, List, [], ◌∷◌, ◌++◌, Some, Option, refl, sym, ap, subst, ◌∙◌, arith, append_assoc, append-nil, rules, suc, ◌^◌, drop, map-append, length-drop, length-take-le, take-append-drop, All-head, All-tail, IfSome, if◌then◌else◌, All, unwrap_or, sum_by-append, Counted, RisesBetween, charged, Item, IsPlain, spelling_some, page_number, LineFill, Words, SignData, cell_in, IsSound, Standing, in_area, spots, standing, laid_items, Does, EndsArea, Meaning, begins_area, meaning, Shows, present_area, fault_at, offences, are_laid, laid_plain, area_ends, standing_push, left_nil, some_after-append, Area, NextItem, Pass, State, LineTable, laid_area, IsFilledOf, meant_by, IsPassOf, fill_of, IsPassReady, IsStateOf, IsReady, group_lines, table_of, area_sum, at_end, drop_read, read_drop, width_in, unsized_if, IsBehindCharacter, lengthened, line_in_force, behind_stays, state_beside, behind_first, cell_of_width, Cursor, Setting, AreaLines, IsNextRead, IsReadOf, GoesOn, BeginsNoArea, HasCounted, HasKnown, IsInArea, next_group, whole_area, IsBetween, IsFirst, IsItemRead, IsPlaced, items_of, laid_meanings, meant, LaidItem, spell_of, IsMet, IsNextAt, item_steps}
+use Rattle.multi_layout.proofs.Common.{◌≡◌, ℕ, Bool, true, ◌+◌, ◌-◌, ◌<◌, ◌≤◌, false, cond, ◌⊎◌, inl, inr, slice_get, None, length, map, List, [], ◌∷◌, ◌++◌, Some, Option, refl, sym, ap, subst, ◌∙◌, arith, append_assoc, append-nil, rules, suc, ◌^◌, drop, map-append, length-drop, length-take-le, take-append-drop, All-head, All-tail, All, unwrap_or, sum_by-append, Item, IsPlain, spelling_some, page_number, LineFill, Words, SignData, cell_in, IsSound, Standing, in_area, spots, standing, laid_items, Does, EndsArea, Meaning, begins_area, meaning, Shows, present_area, fault_at, offences, are_laid, laid_plain, area_ends, standing_push, left_nil, some_after-append, Area, NextItem, Pass, State, LineTable, laid_area, IsFilledOf, meant_by, IsPassOf, fill_of, IsPassReady, IsStateOf, IsReady, group_lines, table_of, area_sum, at_end, drop_read, read_drop, width_in, unsized_if, IsBehindCharacter, lengthened, line_in_force, behind_stays, state_beside, behind_first, cell_of_width, Cursor, Setting, AreaLines, IsNextRead, IsReadOf, BeginsNoArea, HasCounted, HasKnown, IsInArea, next_group, whole_area, IsBetween, IsFirst, IsItemRead, IsPlaced, items_of, laid_meanings, meant, LaidItem, spell_of, IsMet, IsNextAt, Layer, BitPlane, IsPageDrawn, IsAreaDrawn, spelling}
 use Rattle.std.proofs.Common.{length-append}
 use Rattle.std.proofs.lemmas.List.Elements.{All-nil, All-push}
 use Rattle.std.specs.Prelude.{slice_range}
 use Rattle.std.specs.List.{sum_by}
 use Rattle.sign_font.specs.Sound.{IsWithin}
 use Rattle.multi_judge.proofs.LimitLemmas.{limited_none}
+use Rattle.multi_meaning.proofs.StandingLemmas.{present_area-nothing, same_area}
 use Rattle.multi_judge.specs.Run.{IsRunPassed}
 use Rattle.multi_judge.proofs.PlacingLemmas.{plain_passed}
-use Rattle.multi_layout.specs.kept.AreaReading.{EndsGroup}
-use Rattle.multi_layout.proofs.AreaReadLemmas.{next_fine, present_placing, read_state, step_stays, tag_stays}
+use Rattle.multi_layout.specs.kept.AreaReading.{EndsGroup, ReadsOn}
+use Rattle.multi_layout.proofs.AreaReadLemmas.{next_fine, present_placing, read_state, step_stays}
+use Rattle.multi_judge.proofs.PassedLemmas.{tag_stays}
 use Rattle.multi_layout.proofs.FilledLemmas.{area_empty, laid_empty, state_begins, counted_whole}
 use Rattle.multi_layout.proofs.KnownLinesLemmas.{counted_at_end, known_none}
 use Rattle.multi_layout.proofs.PieceLemmas.{ends_laid, first_piece, laid_front, plain_laid}
-use Rattle.multi_layout.proofs.AreaDrawLemmas.{setting_is, setting_passed}
-use Rattle.multi_layout.proofs.WalkLemmas.{few_placed, fine_items, none_at_end, placed_more, spell_of-append, steps_of, steps_then, steps_within, within, octet_next}
+use Rattle.multi_layout.proofs.AreaDrawLemmas.{setting_drawn, setting_is, setting_passed}
+use Rattle.multi_layout.proofs.WalkLemmas.{map_split, few_placed, fine_items, none_at_end, placed_more, spell_of-append, within, octet_next}
 use Rattle.multi_judge.specs.declared.item.KnownItem.TheVariants as known
-
--- the steps of an item that was met, and of what goes on behind it, the octet there too
-pub steps_gone : (b : Counted) {d e : Counted} (at to : ℕ) (octet : Bool) → RisesBetween b d 0 8 → (octet ≡ true → d ≡ charged b 1) → RisesBetween d e 1 (if octet then 2 * (to - at) + 3 else 1)
-    → RisesBetween b e 0 (9 * (to - at) + 9)
-steps_gone b at to true passing one further = steps_within b (steps_then b (steps_of b (one refl)) further) (omega arith) (omega arith)
-steps_gone b at to false passing one further = steps_within b (steps_then b passing further) (omega arith) (omega arith)
 
 abbrev item_at : LaidItem → Item
 item_at piece = piece.item
@@ -194,11 +190,6 @@ module _ {words : Bool} {sign : SignData} {octets : List ℕ} {before behind : L
   area_ended next (item, rest, is, read) begins =
       subst (λ (l : List Item). EndsArea (map meaning l)) (sym is) (inr (meaning item, map meaning rest, ap begins_area read.meant ∙ begins, refl))
 
-  -- at the end no item was read
-  pub none_known : items_of so.left ≡ [] → (item : Option NextItem) → IfSome item (IsNextAt sign octets at) → item_steps item ≡ 0
-  none_known none None is = refl
-  none_known none (Some next) is = let (item, rest, first, read) = is (items_of done) (items_of so.left) so.placed in let wrong : [] ≡ item ∷ rest = sym none ∙ first in absurd (cc)
-
   -- the table has all lines behind the last one
   pub all_counted : IsSound sign → (lines' : LineTable) → EndsGroup kept.state.area lines lines' → HasCounted (laid_area words sign (map meaning (items_of done))) lines'
   all_counted sound lines' known =
@@ -240,6 +231,121 @@ pub so_met : {words : Bool} {sign : SignData} {octets : List ℕ} {before behind
     → {octets' : List ℕ} → octets' ≡ octets → (next : NextItem) (state : State) → (state ≡ kept.state) × IsNextAt sign octets' at next
     → (so' : SoFar words sign octets before behind at (record kept { state = state }) lines) × NextSo so' next
 so_met so same next state met = (met_stays so state met.0, so_read (met_stays so state met.0) same next met.1)
+
+-- pieces that are spelled as the first of them are that one
+one_piece : (pieces left rest : List LaidItem) (item : LaidItem) → pieces ++ left ≡ item ∷ rest → length (spell_of pieces) ≡ length (spelling item.item) → (pieces ≡ item ∷ []) × (left ≡ rest)
+one_piece [] left rest item split long = absurd (omega (arith, long, spelling_some item.item))
+one_piece (p ∷ []) left rest item split long = (cc, cc)
+one_piece (p ∷ q ∷ pieces) left rest item split long =
+    let first : p ≡ item = cc in
+    absurd (omega (arith, long, ap (λ (x : LaidItem). length (spelling x.item)) first, spelling_some q.item, length-append (spelling p.item) (spell_of (q ∷ pieces)), length-append (spelling q.item) (spell_of pieces)))
+
+-- the area that begins at a cursor is read so far, of a page that is drawn as far as there
+pub record IsReadFrom (words : Bool) (sign : SignData) (octets : List ℕ) (layer : Layer) (page : ℕ) (plane : BitPlane) (cursor : Cursor) (at : ℕ) (kept : Pass) (lines : LineTable) : Type 0 where
+  pub drawn : IsPageDrawn sign octets layer page cursor plane
+  pub so : SoFar words sign octets drawn.before drawn.behind at kept lines
+
+-- with a setting at an offset a cursor goes behind it, if it stands there (own)
+abbrev pub GoesBehind : Cursor → ℕ → ℕ → State → Cursor → Type 0
+GoesBehind cursor at len state cursor' =
+    ((cursor.at ≡ at) × (cursor' ≡ record { at = cursor.at + len; state = state })) ⊎ ((cursor.at ≡ at → ⊥) × (cursor' ≡ cursor))
+
+-- a setting is passed, and the cursor stays, or goes behind it if nothing else was read
+module _ {words : Bool} {sign : SignData} {octets : List ℕ} {layer : Layer} {page : ℕ} {plane : BitPlane} {cursor : Cursor} {at : ℕ} {kept : Pass} {lines : LineTable} (r : IsReadFrom words sign octets layer page plane cursor at kept lines)
+    (sound : IsSound sign) {octets' : List ℕ} (same : octets' ≡ octets) (len : ℕ) (state : State) (met : IsMet sign octets' at kept.state (Setting len) state) where
+  pub set_behind : IsReadFrom words sign octets layer page plane cursor (at + len) (record kept { state = state }) lines
+  set_behind = record { drawn = r.drawn; so = setting_read r.so sound same len state met }
+
+  pub set_before : cursor.at ≡ at → kept.state ≡ cursor.state → IsReadFrom words sign octets layer page plane (record { at = cursor.at + len; state = state }) (at + len) (record kept { state = state }) lines
+  set_before here stays =
+      let met' = subst (λ (x : List ℕ × ℕ × State). IsMet sign x.0 x.1 x.2 (Setting len) state) (λ i. (same i, sym here i, stays i)) met in
+      let s = setting_drawn len state met' r.drawn.up_to in
+      let so = setting_read r.so sound same len state met in
+      let area = ap begins_area s.means ∙ (setting_is s.tag s.setting).0 in
+      let front = r.drawn.before ++ s.item ∷ [] in
+      let page = r.drawn.up_to.between in
+      let long : length (spell_of so.pieces) ≡ length (spelling s.item.item) = omega (arith, so.placed.place, here, page.placed.place, ap length (spell_of-append r.drawn.before so.pieces), length-append (spell_of r.drawn.before) (spell_of so.pieces)) in
+      let (one, left) = one_piece so.pieces so.left s.rest s.item (sym so.split ∙ s.split) long in
+      let all : r.drawn.before ++ so.pieces ≡ front ++ [] = ap (λ l. r.drawn.before ++ l) one ∙ sym (append-nil front) in
+      record {
+        drawn = record {
+          before = front;
+          behind = s.rest;
+          up_to = s.up_to;
+          begins = ap (present_area sign) (map_split r.drawn.before [] s.item (Does s.tag) s.means)
+              ∙ present_area-nothing sign (map meant r.drawn.before) (Does s.tag) (setting_is s.tag s.setting).0 ((setting_is s.tag s.setting).4 sign.defaults (standing sign (map meant r.drawn.before)))
+              ∙ r.drawn.begins;
+        };
+        so = record {
+          pieces = [];
+          left = s.rest;
+          split = refl;
+          plain = All-nil (λ item. begins_area (meant item) ≡ false);
+          same_area = ap (λ l. (standing sign (map meaning (items_of l))).area) (sym all) ∙ so.same_area
+              ∙ sym (ap (λ l. (standing sign l).area) (map-append meant r.drawn.before (s.item ∷ [])) ∙ same_area sign (map meant r.drawn.before) (meant s.item) area);
+          laid = subst (λ (x : List LaidItem × List LaidItem). map meant (x.0 ++ x.1) ≡ laid_meanings sign (items_of (x.0 ++ x.1))) (λ i. (all i, left i)) so.laid;
+          placed = subst (λ (x : List LaidItem × List LaidItem). IsPlaced sign octets (items_of x.0) (items_of x.1) (at + len)) (λ i. (all i, left i)) so.placed;
+          read = subst (λ l. IsReadOf words sign (items_of l) state.area.present (record kept { state = state }) lines) all so.read;
+        };
+      }
+
+  -- whichever it does
+  pub set_passed : (cursor' : Cursor) → (cursor.at ≡ at → kept.state ≡ cursor.state) → GoesBehind cursor at len state cursor' → IsReadFrom words sign octets layer page plane cursor' (at + len) (record kept { state = state }) lines
+  set_passed cursor' stays (inl (here, is)) = subst (λ c. IsReadFrom words sign octets layer page plane c (at + len) (record kept { state = state }) lines) (sym is) (set_before here (stays here))
+  set_passed cursor' stays (inr (further, is)) = subst (λ c. IsReadFrom words sign octets layer page plane c (at + len) (record kept { state = state }) lines) (sym is) set_behind
+
+-- the cursor isn't behind what was read
+pub moved_on : (cursor cursor' : Cursor) (at len : ℕ) (state : State) → GoesBehind cursor at len state cursor' → cursor.at ≤ at → 1 ≤ len
+    → (cursor'.at ≡ at + len → state ≡ cursor'.state) × (cursor.at ≤ cursor'.at) × (cursor'.at ≤ at + len)
+moved_on cursor cursor' at len state (inl (here, is)) on some =
+    let to = ap (λ (c : Cursor). c.at) is in
+    (λ same. sym (ap (λ (c : Cursor). c.state) is), omega (arith, to), omega (arith, to, here))
+moved_on cursor cursor' at len state (inr (further, is)) on some =
+    let to = ap (λ (c : Cursor). c.at) is in
+    (λ same. absurd (omega (arith, to, same, on, some)), omega (arith, to), omega (arith, to, on))
+
+-- what was read is not past the end
+pub read_within : {words : Bool} {sign : SignData} {octets : List ℕ} {layer : Layer} {page : ℕ} {plane : BitPlane} {cursor : Cursor} {at : ℕ} {kept : Pass} {lines : LineTable} → IsReadFrom words sign octets layer page plane cursor at kept lines
+    → (at ≤ length octets) × (length octets < 2 ^ 32)
+read_within {sign = sign} {octets} {at = at} r = (within sign octets _ _ at r.so.placed, r.so.placed.accepted.short)
+
+-- an item is passed that begins no area
+pub item_read : {words : Bool} {sign : SignData} {octets : List ℕ} {layer : Layer} {page : ℕ} {plane : BitPlane} {cursor : Cursor} {at : ℕ} {kept : Pass} {lines : LineTable} → IsReadFrom words sign octets layer page plane cursor at kept lines
+    → {octets' : List ℕ} → octets' ≡ octets → (next : NextItem) (state : State) → (state ≡ kept.state) × IsNextAt sign octets' at next → begins_area (meant_by next.item) ≡ false → (kept' : Pass) (lines' : LineTable)
+    → ReadsOn words sign state.area.present next.item (record kept { state = state }) lines kept' lines' → IsReadFrom words sign octets layer page plane cursor (at + next.len) kept' lines'
+item_read {at = at} r same next state met plain kept' lines' reads =
+    let (so, n) = so_met r.so same next state met in
+    record { drawn = r.drawn; so = read_on so n (at + next.len) refl plain kept' lines' (reads (items_of (r.drawn.before ++ so.pieces)) n.piece.item so.read (so_next so n)) }
+
+-- the reading of an area is over, and this was read of the item that ends it
+pub record IsReadTo (words : Bool) (sign : SignData) (octets : List ℕ) (layer : Layer) (page : ℕ) (plane : BitPlane) (cursor : Cursor) (at : ℕ) (kept : Pass) (lines : LineTable) (next : Option NextItem) : Type 0 where
+  pub from : IsReadFrom words sign octets layer page plane cursor at kept lines
+  pub first : IsFirst (items_of from.so.left) next
+  pub ends : EndsArea (map meaning (items_of from.so.left))
+
+module _ {words : Bool} {sign : SignData} {octets : List ℕ} {layer : Layer} {page : ℕ} {plane : BitPlane} {cursor : Cursor} {at : ℕ} {kept : Pass} {lines : LineTable} (r : IsReadFrom words sign octets layer page plane cursor at kept lines) where
+  pub ends_string : slice_get octets at ≡ None → IsReadTo words sign octets layer page plane cursor at kept lines None
+  ends_string none = let left = no_more r.so none in record { from = r; first = left; ends = none_ends r.so left }
+
+  pub ends_at : {octets' : List ℕ} → octets' ≡ octets → (next : NextItem) (state : State) → (state ≡ kept.state) × IsNextAt sign octets' at next → begins_area (meant_by next.item) ≡ true
+      → IsReadTo words sign octets layer page plane cursor at (record kept { state = state }) lines (Some next)
+  ends_at same next state met begins =
+      let so = met_stays r.so state met.0 in
+      let first = met.1 (items_of (r.drawn.before ++ so.pieces)) (items_of so.left) (placed_in so same) in
+      record { from = record { drawn = r.drawn; so = so }; first = first; ends = area_ended so next first begins }
+
+-- and its items are drawn on from there
+pub area_begins : {words : Bool} {sign : SignData} {octets : List ℕ} {layer : Layer} {page : ℕ} {plane : BitPlane} {cursor : Cursor} {at : ℕ} {kept : Pass} {lines : LineTable} (read : AreaLines)
+    → IsReadTo words sign octets layer page plane cursor at kept lines read.next → IsSound sign → sign.line_fill ≡ fill_of words → EndsGroup kept.state.area lines read.lines → read.end ≡ at → IsAreaDrawn sign octets layer page read cursor plane
+area_begins {cursor = cursor} read r sound kind known end =
+    let d = r.from.drawn in
+    let so = r.from.so in
+    record {
+      before = d.before;
+      behind = d.behind;
+      up_to = d.up_to;
+      left = area_read so kind cursor read d.up_to.between.placed.place r.ends (all_counted so sound read.lines known) end r.first;
+    }
 
 -- what is kept with another state
 abbrev pub in_state : Pass → State → Pass
@@ -307,18 +413,11 @@ run_read {sign} sound {octets} short {before} {behind} at at' kept state' lines 
     let state : lengthened (line.part.width + sum_by (λ w. p.gap + w) p.width.widths) (line.part.count + length text) kept.state ≡ state' = (λ i. lengthened (wide i) (line.part.count + size i) kept.state) ∙ sym p.is in
     subst (λ (x : ℕ × State). SoFar false sign octets before behind x.0 (in_state kept x.1) lines) (λ i. (to i, state i)) all
 
--- whether characters followed or not, the reading is as far as they go
-pub went_on : {words : Bool} {sign : SignData} → IsSound sign → {octets : List ℕ} → length octets < 2 ^ 63 → {before behind : List LaidItem} (at at' : ℕ) (kept kept' : Pass) (lines : LineTable)
-    → SoFar words sign octets before behind at kept lines → GoesOn words sign octets at kept at' kept' → SoFar words sign octets before behind at' kept' lines
-went_on {words} {sign} sound {octets} short {before} {behind} at at' kept kept' lines so (inl (to, same)) =
-    subst (λ (x : ℕ × Pass). SoFar words sign octets before behind x.0 x.1 lines) (λ i. (sym to i, sym same i)) so
-went_on {words} {sign} sound {octets} short {before} {behind} at at' kept kept' lines so (inr (off, b, state, is, run)) =
-    let so' = subst (λ w. SoFar w sign octets before behind at kept lines) off so in
-    subst (λ w. SoFar w sign octets before behind at' kept' lines) (sym off) (subst (λ k. SoFar false sign octets before behind at' k lines) (sym is) (run_read sound short at at' kept state lines b so' run))
-
-pub gone_forward : {words : Bool} {sign : SignData} {octets : List ℕ} (at at' : ℕ) (kept kept' : Pass) → GoesOn words sign octets at kept at' kept' → at ≤ at'
-gone_forward at at' kept kept' (inl (to, same)) = omega (arith, to)
-gone_forward at at' kept kept' (inr (off, b, found, is, run)) = run.forward
+-- lines aren't filled then
+pub run_gone : {words : Bool} {sign : SignData} → words ≡ false → IsSound sign → {octets : List ℕ} → length octets < 2 ^ 63 → {before behind : List LaidItem} (at at' : ℕ) (kept : Pass) (state' : State) (lines : LineTable)
+    → IsBehindCharacter kept.state → SoFar words sign octets before behind at kept lines → IsRunPassed sign octets at kept.state at' state' → SoFar words sign octets before behind at' (in_state kept state') lines
+run_gone {words} {sign} off sound {octets} short {before} {behind} at at' kept state' lines b so run =
+    subst (λ w. SoFar w sign octets before behind at' (in_state kept state') lines) (sym off) (run_read sound short at at' kept state' lines b (subst (λ w. SoFar w sign octets before behind at kept lines) off so) run)
 
 -- what is ready for either kind of lines has a state that is
 pub ready_state : (words : Bool) (kept : Pass) → IsPassReady words kept → IsReady kept.state

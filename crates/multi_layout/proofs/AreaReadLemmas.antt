@@ -1,11 +1,13 @@
 -- The first reading of an area, at one more item.
-use Rattle.multi_layout.proofs.Common.{◌≡◌, ℕ, Bool, ◌*◌, ◌^◌, ◌≤◌, true, false, List, [], ◌∷◌, ◌++◌, length, map, None, refl, sym, ap, subst, ◌∙◌, arith, ◌<◌, cond, Option, Some, rules, All, map-append, Item, Tag, page_number, Off, Words, SignData, IsSound, Break, Spot, in_group, spots, standing, laid_item, laid_items, Does, Meaning, Shows, has_place, meaning, begins_area, offence, unsized_offence, present_area, IsPlacing, IsNarrowArea, ended_lines, offences, placing_group, offends_as_laid, laid_plain, laid_tag, unsized_if, length-meanings, last_fine, each_after_length, Area, Group, Pass, KnownItem, Char, LineTable, laid_area, IsNextRead, IsReadOf, meant_by, ends_line, HasKnown, HasRoom, next_group, IsPassOf, IsPassReady, fill_of, IsStateOf, IsBelow, area_sum, group_sum, group_of_own, below_more, ready, height_of, page_number_known, CountedLine, group_lines, line_count, line_entry}
+use Rattle.multi_layout.proofs.Common.{nat_tests, ◌&&◌, ◌⊎◌, inl, inr, nat_lt, ◌≡◌, ℕ, Bool, ◌*◌, ◌^◌, ◌≤◌, true, false, List, [], ◌∷◌, ◌++◌, length, map, None, refl, sym, ap, subst, ◌∙◌, arith, ◌<◌, cond, Option, Some, rules, All, map-append, Item, page_number, SignData, IsSound, Break, Spot, in_group, spots, standing, laid_item, laid_items, Does, Meaning, Shows, has_place, meaning, offence, present_area, IsPlacing, IsNarrowArea, ended_lines, offences, placing_group, laid_plain, unsized_if, length-meanings, last_fine, each_after_length, Area, Group, Pass, KnownItem, Char, LineTable, laid_area, IsNextRead, IsReadOf, meant_by, HasKnown, HasRoom, next_group, IsPassOf, IsPassReady, fill_of, IsStateOf, IsBelow, area_sum, group_of_own, below_more, ready, height_of, page_number_known, CountedLine, group_lines, line_count, line_entry}
 use Rattle.multi_meaning.specs.kept.Present.{IsNarrow}
 use Rattle.multi_meaning.proofs.GroupLemmas.{area_placing}
 use Rattle.multi_meaning.proofs.RoomLemmas.{narrow_area, narrow_front, room}
 use Rattle.multi_judge.specs.declared.item.KnownItem.TheVariants as known
 use Rattle.multi_judge.specs.Passed.{IsItemPassed}
-use Rattle.multi_layout.specs.kept.AreaReading.{KnowsArea, KnowsOn}
+use Rattle.multi_judge.proofs.PassedLemmas.{state_of, tag_unsized}
+use Rattle.multi_judge.specs.declared.state.State.{State}
+use Rattle.multi_layout.specs.kept.AreaReading.{EndsGroup, KnowsArea, KnowsOn}
 use Rattle.multi_judge.specs.Run.{kept_height}
 use Rattle.multi_judge.specs.Sums.{line_sum}
 use Rattle.multi_judge.proofs.ReadLemmas.{goes_on, filled_ready}
@@ -33,11 +35,6 @@ closed_below spots area is placing narrow just low high own =
     let tall = (narrow just low high).1 in
     let most : area.group.closed ≤ kept_height area.group = closed_most area.group in
     omega (arith, most, kept_height_is (in_group just spots) area.group (placing_group just spots placing) sum, tall)
-
--- the state is that of the items as they are laid out
-pub state_of : (words : Bool) (sign : SignData) (kept : Pass) (items : List Meaning) → IsPassOf words sign kept items → IsStateOf sign (laid_items (fill_of words) sign items items) kept.state
-state_of true sign kept items of = of.of.state_is
-state_of false sign kept items of = subst (λ l. IsStateOf sign l kept.state) (sym (laid_plain sign items)) of.state_is
 
 ready_of : (words : Bool) (sign : SignData) (kept : Pass) (items : List Meaning) → IsPassOf words sign kept items → length items ≤ 2 ^ 32 → IsPassReady words kept
 ready_of true sign kept items of few = filled_ready sign items kept of.of few
@@ -69,15 +66,23 @@ module _ {words : Bool} {sign : SignData} (sound : IsSound sign) {items : List I
   pub read_ready : IsPassReady words kept
   read_ready = ready_of words sign kept ms r.of (omega (arith, length-meanings items, r.fine.few))
 
-  pub read_below : IsBelow (2 ^ 42) kept.state.area
+  read_below : IsBelow (2 ^ 42) kept.state.area
   read_below = below_more (1024 * length laid) (2 ^ 42) kept.state.area (omega (arith, each_after_length (laid_item (fill_of words) sign ms) ms, length-meanings items, r.fine.few)) read_state.below
 
   -- the lines are few and narrow
   pub read_lines : KnowsArea present kept.state.area lines
-  read_lines = (present_area sign laid, present_placing sign laid, read_state.area, r.known, room_of sign sound items r.fine.none words kept r.of, narrow_of sign sound items r.fine.none words kept r.of)
+  read_lines = record {
+    below = read_below;
+    spots = present_area sign laid;
+    placing = present_placing sign laid;
+    sum = read_state.area;
+    known = r.known;
+    room = room_of sign sound items r.fine.none words kept r.of;
+    narrow = narrow_of sign sound items r.fine.none words kept r.of;
+  }
 
 -- the group before the item is left, if the item belongs to a later one
-pub group_left : {words : Bool} {sign : SignData} {items : List Item} {kept : Pass} {lines : LineTable} → IsReadOf words sign items kept.state.area.present kept lines → (x : Meaning) (lines' : LineTable)
+group_left : {words : Bool} {sign : SignData} {items : List Item} {kept : Pass} {lines : LineTable} → IsReadOf words sign items kept.state.area.present kept lines → (x : Meaning) (lines' : LineTable)
     → KnowsOn kept.state.area (next_group kept.state x) lines lines'
     → IsReadOf words sign items (next_group kept.state x) kept lines'
 group_left {words} {sign} {items} {kept} {lines} r x lines' known =
@@ -99,38 +104,55 @@ module _ {sign : SignData} {items : List Item} {item : Item} {read : KnownItem} 
   pub items_with : map meaning (items ++ item ∷ []) ≡ map meaning items ++ meant_by read ∷ []
   items_with = map-append meaning items (item ∷ []) ∙ ap (λ m. map meaning items ++ m ∷ []) next.meant
 
--- the item is this one, and the group before it was left
-pub item_left : {words : Bool} {sign : SignData} {items : List Item} {kept : Pass} {lines : LineTable} → IsReadOf words sign items kept.state.area.present kept lines → {item : Item} {read read' : KnownItem}
-    → IsNextRead sign items item read → (lines' : LineTable) → KnowsOn kept.state.area (next_group kept.state (meant_by read)) lines lines' → read ≡ read'
-    → IsReadOf words sign items (next_group kept.state (meant_by read')) kept lines' × IsNextRead sign items item read'
-item_left {words} {sign} {items} {kept} r {item} {read} next lines' known is =
-    (subst (λ (k : KnownItem). IsReadOf words sign items (next_group kept.state (meant_by k)) kept lines') is (group_left r (meant_by read) lines' known), subst (IsNextRead sign items item) is next)
-
--- a tag doesn't offend among the items as they are laid out
-pub tag_unsized : (words : Bool) (sign : SignData) (kept : Pass) (ms : List Meaning) → IsPassOf words sign kept ms → (tag : Tag) → offence sign.line_fill sign ms (Does tag) ≡ None
-    → unsized_offence sign (laid_items (fill_of words) sign ms ms) (Does tag) ≡ None
-tag_unsized true sign kept ms of tag fine =
-    let fine' = subst (λ setting. offence setting sign ms (Does tag) ≡ None) of.words fine in
-    unsized_if Off sign (laid_items Words sign ms ms) (Does tag) (sym (offends_as_laid sign ms tag) ∙ fine') (has_place (Does tag)) refl
-tag_unsized false sign kept ms of tag fine =
-    subst (λ l. unsized_offence sign l (Does tag) ≡ None) (sym (laid_plain sign ms)) (unsized_if sign.line_fill sign ms (Does tag) fine (has_place (Does tag)) refl)
-
 -- what has a place isn't before the present group
 character_order : (words : Bool) (sign : SignData) (kept : Pass) (ms : List Meaning) → IsPassOf words sign kept ms → (number : ℕ) → offence sign.line_fill sign ms (Shows number) ≡ None
     → kept.state.area.present ≤ page_number kept.state.attributes.page_just
 character_order true sign kept ms of number fine = goes_on sign ms kept of.of number (subst (λ setting. offence setting sign ms (Shows number) ≡ None) of.words fine)
 character_order false sign kept ms of number fine = steps.order sign ms kept.state of.state_is (Shows number) (unsized_if sign.line_fill sign ms (Shows number) fine true refl) refl
 
-pub next_order : (words : Bool) (sign : SignData) (items : List Item) (kept : Pass) → IsPassOf words sign kept (map meaning items) → (item : Item) (read : KnownItem) → IsNextRead sign items item read
+next_order : (words : Bool) (sign : SignData) (items : List Item) (kept : Pass) → IsPassOf words sign kept (map meaning items) → (item : Item) (read : KnownItem) → IsNextRead sign items item read
     → has_place (meant_by read) ≡ true → kept.state.area.present ≤ page_number kept.state.attributes.page_just
 next_order words sign items kept of item (Char number) next place = character_order words sign kept (map meaning items) of number (next_fine next)
 next_order words sign items kept of item (known.Tag tag) next place =
     let ms = map meaning items in
     steps.order sign (laid_items (fill_of words) sign ms ms) kept.state (state_of words sign kept ms of) (Does tag) (tag_unsized words sign kept ms of tag (next_fine next)) place
 
--- BEHIND ONE MORE ITEM
+-- the group before the item is left, if the item belongs to a later one
+pub left_if : {words : Bool} {sign : SignData} {items : List Item} {kept : Pass} {lines : LineTable} → IsReadOf words sign items kept.state.area.present kept lines → {item : Item} {read : KnownItem} → IsNextRead sign items item read → (lines' : LineTable)
+    → (place : Bool) → place ≡ has_place (meant_by read) → (number : ℕ) → number ≡ page_number kept.state.attributes.page_just
+    → (((place && nat_lt kept.state.area.present number) ≡ true) × EndsGroup kept.state.area lines lines') ⊎ (((place && nat_lt kept.state.area.present number) ≡ false) × (lines' ≡ lines))
+    → IsReadOf words sign items (next_group kept.state (meant_by read)) kept lines'
+left_if {words} {sign} {items} {kept} {lines} r {item} {read} next lines' place place_is number number_is how = of place place_is how
+  where
+    here : (p : Bool) → p ≡ has_place (meant_by read) → next_group kept.state (meant_by read) ≡ cond p (page_number kept.state.attributes.page_just) kept.state.area.present
+    here p is = ap (λ b. cond b (page_number kept.state.attributes.page_just) kept.state.area.present) (sym is)
 
--- ONE MORE ITEM
+    stays : next_group kept.state (meant_by read) ≡ kept.state.area.present → lines' ≡ lines → IsReadOf words sign items (next_group kept.state (meant_by read)) kept lines'
+    stays group same = subst (λ (x : ℕ × LineTable). IsReadOf words sign items x.0 kept x.1) (λ i. (sym group i, sym same i)) r
+
+    less : nat_lt kept.state.area.present number ≡ true → kept.state.area.present < page_number kept.state.attributes.page_just
+    less later = grind (arith, nat_tests)
+
+    least : nat_lt kept.state.area.present number ≡ false → next_group kept.state (meant_by read) ≡ page_number kept.state.attributes.page_just → kept.state.area.present ≤ page_number kept.state.attributes.page_just
+        → next_group kept.state (meant_by read) ≡ kept.state.area.present
+    least not group order = grind (arith, nat_tests)
+
+    of : (p : Bool) → p ≡ has_place (meant_by read) → (((p && nat_lt kept.state.area.present number) ≡ true) × EndsGroup kept.state.area lines lines') ⊎ (((p && nat_lt kept.state.area.present number) ≡ false) × (lines' ≡ lines))
+        → IsReadOf words sign items (next_group kept.state (meant_by read)) kept lines'
+    of true is (inl (later, ends)) = group_left r (meant_by read) lines' (subst (λ p. KnowsOn kept.state.area p lines lines') (sym (here true is)) (ends (page_number kept.state.attributes.page_just) (less later)))
+    of true is (inr (not, same)) = stays (least not (here true is) (next_order words sign items kept r.of item read next (sym is))) same
+    of false is (inl (later, ends)) = absurd (cc)
+    of false is (inr (not, same)) = stays (here false is) same
+
+-- only what has a place ends a line
+pub own_group : (x : Meaning) (state : State) {ended : Option Line} {line : Line} → (has_place x ≡ false → ended ≡ None) → ended ≡ Some line → next_group state x ≡ page_number state.attributes.page_just
+own_group x state {ended} {line} apart is = of (has_place x) refl
+  where
+    of : (place : Bool) → has_place x ≡ place → next_group state x ≡ page_number state.attributes.page_just
+    of true place = ap (λ b. cond b (page_number state.attributes.page_just) state.area.present) place
+    of false none = let wrong : ◌≡◌ {A = Option Line} None (Some line) = sym (apart none) ∙ is in absurd cc
+
+-- BEHIND ONE MORE ITEM
 
 module _ {words : Bool} {sign : SignData} (sound : IsSound sign) {items : List Item} {page : ℕ} {old new : Pass} {lines : LineTable} (r : IsReadOf words sign items page old lines)
     {item : Item} {read : KnownItem} (next : IsNextRead sign items item read) {ended : Option Line} (b : IsItemPassed words sign (map meaning items) (meant_by read) page old new ended) where
@@ -206,53 +228,3 @@ module _ {words : Bool} {sign : SignData} (sound : IsSound sign) {items : List I
         (known_pushed page area area_more b.others (characters ++ own_line.1 ∷ []) lines low_page high_page own_line.5 r.known entry lines'
         (made characters own_line.2 ∙ ap (line_entry characters) height ∙ sym (entry_ended characters own_line.1 (height_of (ended_lines (in_group page area_more))) own_line.4))
         (subst (λ n. Pushed n entry lines lines') b.present pushed))
-
--- A TAG
-
-module _ (words : Bool) (sign : SignData) (items : List Meaning) (old new : Pass) (tag : Tag) (of : IsPassOf words sign old items) (fine : offence sign.line_fill sign items (Does tag) ≡ None)
-    (of' : IsPassOf words sign new (items ++ Does tag ∷ [])) where
-  abbrev as_laid : List Meaning
-  as_laid = laid_items (fill_of words) sign items items
-
-  with_tag : laid_items (fill_of words) sign (items ++ Does tag ∷ []) (items ++ Does tag ∷ []) ≡ as_laid ++ Does tag ∷ []
-  with_tag = laid_tag (fill_of words) sign items tag
-
-  before : IsStateOf sign as_laid old.state
-  before = state_of words sign old items of
-
-  behind : IsStateOf sign (as_laid ++ Does tag ∷ []) new.state
-  behind = subst (λ l. IsStateOf sign l new.state) with_tag (state_of words sign new (items ++ Does tag ∷ []) of')
-
-  -- it ends no line
-  pub tag_stays : begins_area (Does tag) ≡ false → ends_line (Does tag) ≡ false → IsItemPassed words sign items (Does tag) (next_group old.state (Does tag)) old new None
-  tag_stays plain open' =
-      let (none, same) = steps.area_stays sign as_laid old.state before tag plain open' in
-      let stays : next_group old.state (Does tag) ≡ old.state.area.present = ap (λ b. cond b (page_number old.state.attributes.page_just) old.state.area.present) none in
-      let area = ap (present_area sign) with_tag ∙ same in
-      record {
-        of = of';
-        present = ap (λ (a : Area). a.present) (behind.area ∙ ap area_sum same ∙ sym before.area) ∙ sym stays;
-        order = omega (arith, stays);
-        others = λ just other. ap (in_group just) area;
-        own = ap (λ l. ended_lines (in_group (next_group old.state (Does tag)) l)) area;
-      }
-
-  -- it ends the open one
-  pub tag_group : ends_line (Does tag) ≡ true → next_group old.state (Does tag) ≡ page_number old.state.attributes.page_just
-  tag_group ends = ap (λ b. cond b (page_number old.state.attributes.page_just) old.state.area.present) (steps.ends_placed (Does tag) ends)
-
-  pub tag_ends : ends_line (Does tag) ≡ true → (group : Group) → ((area : List Spot) → old.state.area ≡ area_sum area → old.state.area.present ≤ page_number old.state.attributes.page_just → group ≡ group_sum (in_group (page_number old.state.attributes.page_just) area))
-      → IsItemPassed words sign items (Does tag) (next_group old.state (Does tag)) old new (Some group.line)
-  tag_ends ends group sum =
-      let page = page_number old.state.attributes.page_just in
-      let unsized = tag_unsized words sign old items of tag fine in
-      let line = ap (λ (g : Group). g.line) (sum (present_area sign as_laid) before.area (steps.order sign as_laid old.state before (Does tag) unsized (steps.ends_placed (Does tag) ends))) in
-      let (present, order, others, own) = steps.break_joins sign as_laid old.state before (Does tag) ends unsized new.state behind group.line line in
-      let area = sym (ap (present_area sign) with_tag) in
-      subst (λ n. IsItemPassed words sign items (Does tag) n old new (Some group.line)) (sym (tag_group ends)) (record {
-        of = of';
-        present = present;
-        order = order;
-        others = subst (λ l. (just : ℕ) → (just ≡ page → ⊥) → in_group just l ≡ in_group just (present_area sign as_laid)) area others;
-        own = subst (λ l. EndsLine (in_group page (present_area sign as_laid)) (in_group page l) (Some group.line)) area own;
-      })

@@ -21,7 +21,7 @@ pub use Rattle.multi_judge.specs.FilledState.{IsFilledOf}
 pub use Rattle.multi_judge.specs.Judging.{IsAt}
 pub use Rattle.multi_judge.specs.KnownItem.{ends_line, is_setting, meant_by}
 pub use Rattle.multi_judge.specs.PassState.{IsPassOf, fill_of, IsPassReady}
-pub use Rattle.multi_judge.specs.Passed.{laid_area}
+pub use Rattle.multi_judge.specs.Passed.{laid_area, next_group}
 pub use Rattle.multi_judge.specs.Placing.{PlacesCharacter, TellsEnd}
 pub use Rattle.multi_judge.specs.Run.{IsBehindCharacter, lengthened, line_in_force}
 pub use Rattle.multi_judge.specs.State.{IsStateOf, IsReady, attributes_of}
@@ -92,8 +92,8 @@ pub use Rattle.multi_layout.specs.declared.cursor.Cursor.{Cursor}
 pub use Rattle.multi_layout.specs.declared.cursor.Met.TheVariants.{Setting}
 pub use Rattle.multi_layout.specs.declared.paint.Layer.{Layer}
 pub use Rattle.multi_layout.specs.declared.read.AreaLines.{AreaLines}
-pub use Rattle.multi_layout.specs.kept.AreaDrawing.{BeginsNoArea, HasCounted, IsAreaDrawn, IsDrawnTo, IsDrawnUpTo, IsFilledBy, IsInArea, whole_area, IsPageDrawn, HasKnown, next_group, HasRoom}
-pub use Rattle.multi_layout.specs.kept.AreaReading.{IsNextRead, IsReadOf, GoesOn}
+pub use Rattle.multi_layout.specs.kept.AreaDrawing.{BeginsNoArea, HasCounted, IsAreaDrawn, IsDrawnTo, IsDrawnUpTo, IsFilledBy, IsInArea, whole_area, IsPageDrawn, HasKnown, HasRoom}
+pub use Rattle.multi_layout.specs.kept.AreaReading.{IsNextRead, IsReadOf}
 pub use Rattle.multi_layout.specs.kept.Cursors.{IsBetween, IsFirst, IsItemRead, IsRead, items_of, meant, LaidItem, spell_of, IsPlaced, laid_meanings}
 pub use Rattle.multi_layout.specs.kept.PageDrawing.{IsFilledFew, IsPagePassed, IsPageStart, IsStartOf}
 pub use Rattle.multi_layout.specs.kept.Passing.{IsAtPage, IsOnTheWay, IsPageSkipped, IsPassing, unplaced}

@@ -1,6 +1,8 @@
 -- What a character of an accepted string is laid out as: itself, or the end of its line, by the table of its area's lines.
-use Rattle.multi_layout.proofs.Common.{◌≡◌, ℕ, ◌≤◌, Bool, true, false, cond, ◌&&◌, ◌||◌, ◌==◌, inl, inr, ◌⊎◌, List, [], ◌∷◌, ◌++◌, map, Option, Some, None, refl, sym, ap, subst, ◌∙◌, not, append-nil, rules, arith, ◌+◌, length, append_assoc, All, after_last, option_map, eq-eqb, map-append, length-append, filter-append, NewLine, page_number, LineFill, SignData, CellData, cell_numbered, IsSound, Break, Glyph, Put, Spot, in_area, in_group, is_break, is_glyph, lines_of, put_at, spots, standing, Standing, laid_spot, too_big, laid_item, laid_of, laid_items, glyph_width, Does, Meaning, begins_area, Shows, has_place, meaning, Faulty, EndsArea, unsized_offence, first_code, offence, present_area, IsPlacing, IsNarrowArea, offends_as_laid, are_laid, laid_tag, present_area-placing, offence-faulty, standing_push, last_fine, area_ends, push_ind, each_after_length, each_after_push, page_number_known, Attributes, LineTable, TellsEnd, group_lines, table_of, Item, Tag, Words, offences, Pass, IsFilledOf, pages_at, same_times, State, IsStateOf, Cursor, HasCounted, whole_area, HasRoom, IsBetween, LaidItem, items_of, meant}
+use Rattle.multi_layout.proofs.Common.{NextItem, Tag, Char, IsItemRead, IsRead, Off, meant_by, Cursor, ◌≡◌, ℕ, ◌≤◌, Bool, true, false, cond, ◌&&◌, ◌||◌, ◌==◌, inl, inr, ◌⊎◌, List, [], ◌∷◌, ◌++◌, map, Option, Some, None, refl, sym, ap, subst, ◌∙◌, not, append-nil, rules, arith, ◌+◌, length, append_assoc, All, after_last, option_map, eq-eqb, map-append, length-append, filter-append, NewLine, page_number, LineFill, SignData, CellData, cell_numbered, IsSound, Break, Glyph, Put, Spot, in_area, in_group, is_break, is_glyph, lines_of, put_at, spots, standing, Standing, laid_spot, too_big, laid_item, laid_of, laid_items, glyph_width, Does, Meaning, begins_area, Shows, has_place, meaning, Faulty, EndsArea, unsized_offence, first_code, offence, present_area, IsPlacing, IsNarrowArea, offends_as_laid, are_laid, laid_tag, present_area-placing, offence-faulty, standing_push, last_fine, area_ends, push_ind, each_after_length, each_after_push, page_number_known, Attributes, LineTable, TellsEnd, group_lines, table_of, Item, Tag, Words, offences, Pass, IsFilledOf, pages_at, same_times, State, IsStateOf, Cursor, HasCounted, whole_area, HasRoom, IsBetween, LaidItem, items_of, meant}
 use Rattle.std.proofs.lemmas.List.Elements.{All-weaker}
+use Rattle.multi_layout.proofs.PieceLemmas.{read_tag, read_unfilled}
+use Rattle.multi_judge.specs.declared.item.KnownItem.TheVariants as known
 use Rattle.multi_meaning.specs.Laid.{laid}
 use Rattle.multi_meaning.specs.Offence.{never_big, conflicts}
 use Rattle.multi_meaning.proofs.LaidItemLemmas.{laid_as, HasWidth, groups_laid, one_more, same_at, in_areas}
@@ -95,6 +97,31 @@ module _ {sign : SignData} {octets : List ℕ} {before rest : List LaidItem} {pi
         of : (meant piece ≡ Shows number) ⊎ (meant piece ≡ Does (NewLine None)) → meant piece ≡ Shows number
         of (inl is) = is
         of (inr is) = let wrong : false ≡ true = sym e ∙ full_put sound lines counted r full (Does (NewLine None)) is (Break None) refl refl refl refl (inr refl) in absurd cc
+
+-- whether the next item is a character that is dropped, since its line is full (own)
+abbrev pub TellsDropped : SignData → Cursor → LineTable → NextItem → Bool → Type 0
+TellsDropped sign cursor lines raw full =
+    ((number : ℕ) × (raw.item ≡ Char number) × TellsEnd cursor.state.attributes cursor.state.area (group_lines (page_number cursor.state.attributes.page_just) lines) full)
+    ⊎ ((full ≡ false) × ((sign.line_fill ≡ Off) ⊎ ((tag : Tag) × (raw.item ≡ known.Tag tag))))
+
+-- then it is the end of its line
+abbrev pub laid_as_end : Bool → NextItem → NextItem
+laid_as_end full raw = record { item = cond full (known.Tag (NewLine None)) raw.item; len = raw.len }
+
+-- so the next item, of which this is read, is laid out as that (own)
+abbrev pub LaysNext : SignData → Cursor → LineTable → NextItem → NextItem → Type 0
+LaysNext sign cursor lines raw next =
+    (octets : List ℕ) (before rest : List LaidItem) (item : LaidItem) → IsBetween sign octets before (item ∷ rest) cursor → HasCounted (whole_area sign before (item ∷ rest)) lines → IsItemRead item.item raw → IsRead item next
+
+pub lays_next : {sign : SignData} → IsSound sign → {cursor : Cursor} (lines : LineTable) {raw next : NextItem} (full : Bool) → TellsDropped sign cursor lines raw full → next ≡ laid_as_end full raw → LaysNext sign cursor lines raw next
+lays_next {sign} sound {cursor} lines {raw} full tells is = subst (LaysNext sign cursor lines raw) (sym is) (of full tells)
+  where
+    of : (k : Bool) → TellsDropped sign cursor lines raw k → LaysNext sign cursor lines raw (laid_as_end k raw)
+    of true (inl (number, is, tells)) octets before rest item b counted read = record { meant = laid_end b sound lines counted true tells number (read.meant ∙ ap meant_by is) refl; len = read.len }
+    of false (inl (number, is, tells)) octets before rest item b counted read = record { meant = laid_stays b sound lines counted false tells number (read.meant ∙ ap meant_by is) refl ∙ sym (ap meant_by is); len = read.len }
+    of true (inr (none, other)) octets before rest item b counted read = absurd (cc)
+    of false (inr (none, inl off)) octets before rest item b counted read = read_unfilled b off read
+    of false (inr (none, inr (tag, is))) octets before rest item b counted read = read_tag b (λ number char. let wrong : known.Tag tag ≡ Char number = sym is ∙ char in absurd cc) read
 
 -- THE WHOLE AREA
 

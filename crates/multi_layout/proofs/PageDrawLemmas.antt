@@ -1,5 +1,5 @@
 -- The areas of a page, drawn one after the other.
-use Rattle.multi_layout.proofs.Common.{◌≡◌, ℕ, ◌+◌, ◌-◌, ◌*◌, ◌<◌, Option, Counted, RisesBetween, item_steps, ◌≤◌, Bool, true, false, cond, ◌==◌, inl, inr, List, [], ◌∷◌, ◌++◌, map, None, Some, refl, sym, ap, subst, ◌∙◌, arith, append-nil, rules, count_by, mul-add, mul-le-mul_left, eq-eqb, map-append, sum_by-append, reading, Item, spell, NewPage, Rect, BitPlane, is_lit, Defaults, SignData, tallest, Standing, put_at, spots, standing, has_colour, laid_out, BeginsPage, Does, EndsArea, Faulty, Meaning, Shows, begins_area, is_new_page, meaning, meanings, picture, shown_colour, IsAccepted, present_area, pages_of, covered_same, same_page_behind, present_area-new, Attributes, NextItem, pages_of-push, Cursor, Layer, AreaLines, plane_octets, IsFilledFew, IsPagePassed, IsPageStart, IsAreaDrawn, IsDrawnUpTo, IsFilledBy, IsPageDrawn, IsBetween, IsFirst, IsRead, items_of, meant, LaidItem}
+use Rattle.multi_layout.proofs.Common.{◌≡◌, ℕ, ◌+◌, ◌-◌, ◌*◌, ◌<◌, Counted, RisesBetween, item_steps, ◌≤◌, Bool, true, false, cond, ◌==◌, inl, inr, List, [], ◌∷◌, ◌++◌, map, None, Some, refl, sym, ap, subst, ◌∙◌, arith, append-nil, rules, count_by, mul-add, mul-le-mul_left, eq-eqb, map-append, sum_by-append, reading, Item, spell, NewPage, Rect, BitPlane, is_lit, Defaults, SignData, tallest, Standing, put_at, spots, standing, has_colour, laid_out, BeginsPage, Does, EndsArea, Faulty, Meaning, Shows, begins_area, is_new_page, meaning, meanings, picture, shown_colour, IsAccepted, present_area, pages_of, covered_same, same_page_behind, present_area-new, Attributes, NextItem, pages_of-push, Cursor, Layer, AreaLines, plane_octets, IsFilledFew, IsPagePassed, IsPageStart, IsAreaDrawn, IsDrawnUpTo, IsFilledBy, IsPageDrawn, IsBetween, IsFirst, IsRead, items_of, meant, LaidItem}
 use Rattle.multi_token.specs.Spelling.{IsReading}
 use Rattle.multi_token.proofs.ReadingLemmas.{each_string_has_a_reading, none_found}
 use Rattle.multi_token.proofs.SpellingLemmas.{one_reading}
@@ -7,11 +7,9 @@ use Rattle.multi_meaning.specs.Drawn as drawn
 use Rattle.multi_meaning.specs.Meaning.{EndsPage}
 use Rattle.multi_meaning.specs.Picture.{in_plane}
 use Rattle.multi_meaning.proofs.DrawnLemmas.{covered_begins, covered_ends}
-use Rattle.multi_layout.specs.kept.AreaDrawing.{DrawsOn, ReadsArea}
-use Rattle.multi_layout.specs.kept.Settings.{PassesSettings}
-use Rattle.multi_layout.proofs.AreaDrawLemmas.{area_in, area_over, drawn_more, filled_longer}
+use Rattle.multi_layout.proofs.AreaDrawLemmas.{area_in, area_over, drawn_more}
 use Rattle.multi_layout.proofs.PieceLemmas.{first_begins, first_ended, laid_pages, no_piece}
-use Rattle.multi_layout.proofs.WalkLemmas.{map_split, same_octets, steps_then, steps_within, within_between}
+use Rattle.multi_layout.proofs.WalkLemmas.{map_split, same_octets, within_between}
 
 -- THE ITEMS OF A STRING
 
@@ -75,13 +73,6 @@ pub page_in : {sign : SignData} {octets octets' : List ℕ} {layer : Layer} {pag
     → IsPageDrawn sign octets layer page cursor plane → IsPageDrawn sign octets' layer page cursor plane
 page_in {sign} {octets} {octets'} {layer} {page} {cursor} {plane} same d = subst (λ o. IsPageDrawn sign o layer page cursor plane) (sym same) d
 
--- where an area was read, its items are drawn on from its first
-pub area_begins : {sign : SignData} {octets octets' octets'' : List ℕ} {layer : Layer} {page : ℕ} {read : AreaLines} {cursor : Cursor} {plane : BitPlane} → octets' ≡ octets → octets'' ≡ octets'
-    → IsPageDrawn sign octets layer page cursor plane → ReadsArea sign octets' cursor read → IsAreaDrawn sign octets'' layer page read cursor plane
-area_begins same same' d reads =
-    let now = page_in same d in
-    area_in same' (record { before = now.before; behind = now.behind; up_to = now.up_to; left = reads now.before now.behind now.up_to.between now.begins })
-
 -- an area of a page is passed, read and drawn, from these steps over the string and this plane on
 pub record IsAreaPassed (sign : SignData) (octets : List ℕ) (layer : Layer) (page : ℕ) (read : AreaLines) (old new : Cursor) (source source' : Counted) (plane plane' : BitPlane) : Type 0 where
   pub drawn : IsAreaDrawn sign octets layer page read new plane'
@@ -91,26 +82,17 @@ pub record IsAreaPassed (sign : SignData) (octets : List ℕ) (layer : Layer) (p
   pub steps : RisesBetween source source' 0 (18 * (new.at - old.at) + 1 + item_steps read.next)
   pub fills : IsFilledBy sign plane plane' (new.at - old.at)
 
--- its settings are passed, then it is read, and then it is drawn
-pub area_passed : {sign : SignData} {octets : List ℕ} {layer : Layer} {page : ℕ} {read : AreaLines} (old set : Cursor) {new : Cursor} (source : Counted) {source' source'' last : Counted} (begun : Option NextItem) {plane plane' : BitPlane}
-    → IsPageDrawn sign octets layer page old plane → source.octets ≡ octets
-    → PassesSettings sign source.octets old set → old.at ≤ set.at → RisesBetween source source' 0 (9 * (set.at - old.at) + 1 + item_steps begun)
-    → ReadsArea sign source'.octets set read → item_steps begun ≤ 9 * (read.end - set.at) + item_steps read.next
-    → RisesBetween source' source'' 0 (9 * (read.end - set.at) + item_steps read.next - item_steps begun)
-    → DrawsOn sign source''.octets layer read set new plane plane' → new.at ≡ read.end → RisesBetween source'' last 0 (9 * (read.end - set.at)) → IsFilledBy sign plane plane' (read.end - set.at)
-    → IsAreaPassed sign octets layer page read old new source last plane plane'
-area_passed {sign} {octets} {layer} {page} {read} old set {new} source begun {plane} {plane'} d here passes further set_steps reads known read_steps draws at draw_steps fills =
-    let first = area_begins (same_octets set_steps.3) (same_octets read_steps.3) (passes layer page plane (page_in here d)) reads in
-    let same = same_octets read_steps.3 ∙ same_octets set_steps.3 ∙ here in
-    let on : set.at ≤ new.at = omega (arith, at, first.left.end) in
-    record {
-      drawn = area_in (sym same) (draws page first);
-      on = omega (arith, further, on);
-      reached = omega (arith, at);
-      same = same_octets draw_steps.3 ∙ same ∙ sym here;
-      steps = steps_within source (steps_then source (steps_then source set_steps read_steps) draw_steps) (omega arith) (omega (arith, further, on, at, known));
-      fills = filled_longer sign plane plane' _ _ (omega (arith, further, on, at)) fills;
-    }
+pub area_passed : {sign : SignData} {octets : List ℕ} {layer : Layer} {page : ℕ} {read : AreaLines} {old new : Cursor} {source source' : Counted} {plane plane' : BitPlane} → source.octets ≡ octets → IsPageDrawn sign octets layer page old plane
+    → (IsPageDrawn sign source.octets layer page old plane → IsAreaDrawn sign source.octets layer page read new plane') → (new.at ≡ read.end) × (old.at ≤ new.at)
+    → RisesBetween source source' 0 (18 * (new.at - old.at) + 1 + item_steps read.next) → IsFilledBy sign plane plane' (new.at - old.at) → IsAreaPassed sign octets layer page read old new source source' plane plane'
+area_passed here d draws at steps fills = record {
+  drawn = area_in (sym here) (draws (page_in here d));
+  on = at.1;
+  reached = omega (arith, at.0);
+  same = same_octets steps.3;
+  steps = steps;
+  fills = fills;
+}
 
 -- an area is passed, and begins with this item: the one behind it
 pub record IsNextArea (sign : SignData) (octets : List ℕ) (layer : Layer) (page : ℕ) (next : NextItem) (cursor : Cursor) (plane : BitPlane) : Type 0 where

@@ -1,5 +1,5 @@
 -- What is shown at a time of the cycle, from page to page.
-use Rattle.multi_layout.proofs.Common.{◌≡◌, ℕ, has_place, unsized_offence, ◌+◌, ◌-◌, ◌<◌, ◌≤◌, true, false, cond, List, [], ◌∷◌, ◌++◌, length, map, slice_get, Some, None, refl, sym, ap, subst, ◌∙◌, inl, inr, arith, append-nil, rules, ◌*◌, ◌/◌, ◌^◌, Bool, map-append, All, ne_eqb, cases_eq, eq-eqb, All-head, All-tail, nat_tests, mul-add, Item, spelling_some, NewPage, SignData, FontData, largest, tallest, standing, laid_out, Meaning, Does, is_new_page, meaning, meanings, cycle, ended_times, times_at, pages_of, IsAccepted, IsOrderly, accepted_is, reading, standing_push, Attributes, NextItem, State, meant_by, attributes_of, pages_of-push, at_end, Counted, RisesBetween, charged, BitPlane, IsSound, Cursor, Setting, IsFirst, IsPageStart, IsFilledFew, IsPagePassed, IsAtPage, IsOnTheWay, IsPageSkipped, IsPassing, unplaced, IsMet, IsNextAt, plane_octets, reading_limit, IsSized, page_count}
+use Rattle.multi_layout.proofs.Common.{◌≡◌, ℕ, has_place, unsized_offence, ◌+◌, ◌-◌, ◌<◌, ◌≤◌, true, false, cond, List, [], ◌∷◌, ◌++◌, length, map, slice_get, Some, None, refl, sym, ap, subst, ◌∙◌, inl, inr, arith, append-nil, rules, ◌*◌, ◌/◌, ◌^◌, Bool, map-append, All, ne_eqb, cases_eq, eq-eqb, All-head, All-tail, nat_tests, mul-add, Item, spelling_some, NewPage, SignData, FontData, largest, tallest, standing, laid_out, Meaning, Does, is_new_page, meaning, meanings, cycle, ended_times, times_at, pages_of, IsAccepted, IsOrderly, accepted_is, reading, standing_push, Attributes, NextItem, State, meant_by, attributes_of, pages_of-push, at_end, Counted, RisesBetween, charged, BitPlane, IsSound, Cursor, Setting, IsFirst, IsPageStart, IsFilledFew, IsPagePassed, IsAtPage, IsPageSkipped, IsPassing, unplaced, IsMet, IsNextAt, plane_octets, reading_limit, IsSized, page_count}
 use Rattle.std.specs.Prelude.{◌==◌}
 use Rattle.std.proofs.lemmas.Nat.{mul-le}
 use Rattle.multi_meaning.specs.declared.times.Shown.TheVariants.{Page, Off}
@@ -100,16 +100,7 @@ module _ {sign : SignData} {octets : List ℕ} {old cursor : Cursor} (s : IsInPa
   abbrev passed : List Meaning
   passed = map meaning s.before
 
-  -- behind text, or an item that was met and is no setting
-  pub in_page_text : (new : Cursor) → new.state ≡ cursor.state → IsOnTheWay sign octets new → IsInPage sign octets old new
-  in_page_text new same (before, behind, p) = record {
-    before = before;
-    behind = behind;
-    between = p;
-    same = ap (λ (x : State). x.pages) same ∙ s.same;
-    began = ap (λ (x : State). x.cycle) same ∙ s.began;
-  }
-
+  -- where an item was met that is no setting
   pub met_in : (state : State) → state ≡ cursor.state → IsInPage sign octets old (record { at = cursor.at; state = state })
   met_in state same = subst (λ (t : State). IsInPage sign octets old (record { at = cursor.at; state = t })) (sym same) s
 

@@ -1,7 +1,8 @@
 -- The next item of an accepted string.
 use Rattle.multi_layout.specs.kept.Cursors.{PassesTag}
-use Rattle.multi_layout.proofs.Common.{◌≡◌, ℕ, IsRead, true, false, ◌+◌, ◌^◌, ◌<◌, ◌≤◌, inl, inr, List, [], ◌∷◌, ◌++◌, length, drop, take, map, slice_get, Some, None, refl, sym, ap, subst, ◌∙◌, arith, append_assoc, append-nil, rules, Bool, cond, not, suc, All, count_by, length-append, map-append, All-head, All-tail, filter-append, nat_lt, Counted, RisesBetween, charged, Token, IsPlain, Item, spelling, spell, item_of, single_token, drop_read, read_drop, spelling_some, rises_then, Off, SignData, each_after, laid_item, Faulty, Meaning, meaning, BeginsPage, Does, Shows, has_place, is_new_page, offence, unsized_offence, first_code, offence_by, fault_at, offences, pages_of, IsFaultAt, IsItemAt, IsOrderly, offence-faulty, standing_push, present_area-new, length-meanings, each_after-append, each_after_length, left_nil, push_ind, some_after-append, NextItem, IsReady, IsStateOf, meant_by, ready, below_more, pages_of-push, NewPage, NewLine, Font, LineFill, Standing, spots, standing, present_area, ended_times, times_at, State, behind_first, IsNextAt, Cursor, IsBetween, IsFirst, IsPlaced, LaidItem, items_of, laid_meanings, meant, spell_of, IsItemRead, IsOnTheWay, IsPassing, unplaced}
+use Rattle.multi_layout.proofs.Common.{◌≡◌, ℕ, IsRead, true, false, ◌+◌, ◌^◌, ◌<◌, ◌≤◌, inl, inr, List, [], ◌∷◌, ◌++◌, length, drop, take, map, slice_get, Some, None, refl, sym, ap, subst, ◌∙◌, arith, append_assoc, append-nil, rules, Bool, cond, not, suc, All, count_by, length-append, map-append, All-head, All-tail, filter-append, nat_lt, Counted, RisesBetween, charged, Token, IsPlain, Item, spelling, spell, item_of, single_token, spelling_some, rises_then, Off, SignData, each_after, laid_item, Faulty, Meaning, meaning, BeginsPage, Does, Shows, has_place, is_new_page, offence, unsized_offence, first_code, offence_by, fault_at, offences, pages_of, IsFaultAt, IsItemAt, IsOrderly, offence-faulty, standing_push, present_area-new, length-meanings, each_after-append, each_after_length, left_nil, push_ind, some_after-append, NextItem, IsReady, IsStateOf, meant_by, ready, below_more, pages_of-push, NewPage, NewLine, Font, LineFill, Standing, spots, standing, present_area, ended_times, times_at, State, IsNextAt, Cursor, IsBetween, IsFirst, IsPlaced, LaidItem, items_of, laid_meanings, meant, spell_of, IsItemRead, IsPassing, unplaced}
 use Rattle.std.specs.List.{cons_option}
+use Rattle.sign_font.specs.Sign.{font_numbered}
 use Rattle.std.proofs.Math.Seq.{drop-append_seam, take-append_seam}
 use Rattle.std.proofs.lemmas.List.Concat.{flat_map-append}
 use Rattle.multi_token.specs.Spelling.{is_bracket, IsItem, HasNoItem}
@@ -107,6 +108,10 @@ steps_of a {b} {k} is = (k, omega arith, omega arith, is)
 
 pub no_steps : (a : Counted) {most : ℕ} → RisesBetween a a 0 most
 no_steps a = (0, omega arith, omega arith, sym (charged-zero a))
+
+-- the font in force is one of the sign's
+pub font_known : {sign : SignData} {items : List Meaning} {state : State} → IsStateOf sign items state → font_numbered sign state.attributes.font.number ≡ None → ⊥
+font_known {sign} st none = search (rules, st)
 
 -- the next item of an accepted string
 module _ (sign : SignData) (octets : List ℕ) (before rest : List Item) (item : Item) (at : ℕ) (p : IsPlaced sign octets before (item ∷ rest) at) where
@@ -345,23 +350,3 @@ module _ {sign : SignData} {octets : List ℕ} {before rest : List Item} {item :
       passing_with new at
       (subst (λ ms. IsStateOf sign ms new.state)
       (ap (λ m. unplaced (map meaning before) ++ m ∷ []) (sym read.meant) ∙ sym (unplaced_grows (map meaning before) (meaning item) (ap has_place read.meant ∙ e))) st)
-
--- TEXT
-
--- the cursor with another offset
-abbrev pub moved : Cursor → ℕ → Cursor
-moved cursor at = record { at = at; state = cursor.state }
-
-pub text_skipped : (sign : SignData) (octets : List ℕ) → length octets < 2 ^ 63 → (text more : List ℕ) (cursor : Cursor) → IsOnTheWay sign octets cursor
-    → drop cursor.at octets ≡ text ++ more → All IsPlain text → IsOnTheWay sign octets (moved cursor (cursor.at + length text))
-text_skipped sign octets short [] more cursor way e plain =
-    let to : cursor.at ≡ cursor.at + 0 = omega arith in
-    subst (λ n. IsOnTheWay sign octets (moved cursor n)) to way
-text_skipped sign octets short (octet ∷ text) more cursor (before, behind, p) e plain =
-    let here : slice_get octets cursor.at ≡ Some octet = read_drop octets cursor.at octet (text ++ more) e in
-    let (item, rest, is, read) = octet_next sign octets cursor.at octet short here (All-head IsPlain octet text plain) before behind p.placed in
-    let one = passing_placed (subst (λ l. IsPassing sign octets before l cursor) is p) read (moved cursor (cursor.at + 1)) refl refl refl in
-    let on = behind_first (sym (drop_read octets cursor.at octet here) ∙ e) in
-    let to : cursor.at + 1 + length text ≡ cursor.at + suc (length text) = omega arith in
-    subst (λ n. IsOnTheWay sign octets (moved cursor n)) to
-    (text_skipped sign octets short text more (moved cursor (cursor.at + 1)) (before ++ item ∷ [], rest, one) on (All-tail IsPlain octet text plain))

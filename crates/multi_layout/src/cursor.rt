@@ -1,10 +1,10 @@
 //! The way through an accepted string, from item to item.
 
-ghost use Rattle.std.specs.Prelude.{◌≡◌, false, None, ℕ, ◌+◌, ◌-◌, ◌*◌, ◌<◌, ◌≤◌, ◌==◌, if◌then◌else◌, ◌⊎◌, ◌^◌, List, Some, IfSome};
-ghost use Rattle.multi_layout.specs.Prelude.{RisesBetween, IsSound, Meaning, unsized_offence, meant_by, IsReady, IsStateOf, BitPlane, Layer, IsPageDrawn, PassesTag, IsAtStart, IsOnTheWay, IsPageSkipped, IsBegun, IsMet, IsNextAt, MayMeet, PassesSettings, item_steps, met_octets, met_steps};
+ghost use Rattle.std.specs.Prelude.{◌≡◌, None, ℕ, ◌+◌, ◌-◌, ◌*◌, ◌<◌, ◌≤◌, ◌==◌, if◌then◌else◌, ◌⊎◌, ◌^◌, List};
+ghost use Rattle.multi_layout.specs.Prelude.{RisesBetween, IsSound, Meaning, unsized_offence, meant_by, IsReady, IsStateOf, PassesTag, IsAtStart, IsOnTheWay, IsPageSkipped, IsMet, MayMeet, met_octets, met_steps};
 
 use crate::bracket::{is_bracket, read_spelled};
-use multi_judge::{KnownItem, NextItem, Run, State, Terms, judge_tag};
+use multi_judge::{KnownItem, NextItem, State, Terms, judge_tag};
 use multi_tag::Tag;
 use multi_token::Source;
 
@@ -27,32 +27,6 @@ impl Cursor {
         }
     }
 
-    /// Goes behind the settings from here on, and puts them into force. It gives the octet there, none at the end of the string, and the
-    /// item that begins there, if all of it was read.
-    pub(crate) fn pass_settings(
-        &mut self,
-        sign: &Terms<'_>,
-        source: &mut Source<'_>,
-    ) -> (Option<u8>, Option<NextItem>)
-        requires { (layer : Layer) × (page : ℕ) × (plane : BitPlane) × IsPageDrawn sign.now source.old.octets layer page self.old plane }
-        ensures passed { PassesSettings sign.now source.old.octets self.old self.new }
-        ensures begun { IsBegun sign.now source.old.octets self.new.at result }
-        ensures on { self.old.at ≤ self.new.at }
-        ensures steps { RisesBetween source.old source.new 0 (9 * (self.new.at - self.old.at) + 1 + item_steps result.1) }
-    {
-        let mut first = source.read(self.at);
-        while let Some(octet) = first {
-            match meet(sign, &mut self.state, source, self.at, octet, None) {
-                Met::Setting(len) => {
-                    self.at += len;
-                    first = source.read(self.at);
-                }
-                Met::Item(next) => return (first, Some(next)),
-            }
-        }
-        (first, None)
-    }
-
     /// Goes behind the page that begins here, and lays nothing out: behind the `np` that ends it, or to the end of the string.
     pub(crate) fn pass_page(&mut self, sign: &Terms<'_>, source: &mut Source<'_>)
         requires { IsOnTheWay sign.now source.old.octets self.old }
@@ -62,20 +36,13 @@ impl Cursor {
             (9 * (self.new.at - self.old.at) + (if self.new.state.pages == self.old.state.pages then 1 else 0)) }
     {
         while let Some(first) = source.read(self.at) {
-            match meet(sign, &mut self.state, source, self.at, first, None) {
+            if !is_bracket(first) {
+                self.at += 1;
+                continue;
+            }
+            match meet_bracket(sign, &mut self.state, source, self.at, first) {
                 Met::Setting(len) => self.at += len,
-                Met::Item(next) if next.item.has_place() => {
-                    self.at += next.len;
-                    // Octets that stand for themselves are passed in one reading.
-                    let font = self.state.attributes.font.number;
-                    if let Some(cells) = sign.bare.cells(source, font) {
-                        let all = Run {
-                            gap: 0,
-                            left: u64::MAX,
-                        };
-                        self.at += all.read(&cells, source, self.at, false).len;
-                    }
-                }
+                Met::Item(next) if next.item.has_place() => self.at += next.len,
                 Met::Item(next) => {
                     self.pass_tag(sign, source, next);
                     if next.item.ends_page() {
@@ -102,16 +69,15 @@ impl Cursor {
         let KnownItem::Tag(tag) = next.item else {
             unreachable!();
         };
+        self.at += next.len;
         if let Tag::NewLine(gap) = tag {
             self.state.put_break(gap);
-            self.at += next.len;
             return;
         }
         let Ok(()) = judge_tag(sign, &mut self.state, source, tag) else {
             // No item of an accepted string offends.
             unreachable!();
         };
-        self.at += next.len;
     }
 }
 
@@ -124,8 +90,7 @@ pub(crate) enum Met {
     Item(NextItem),
 }
 
-/// Meets the item at an offset, which begins with this octet and is this one if it was read: else reads the rest of it, and puts it into
-/// force if it is a setting.
+/// Meets the item at an offset, which begins with this octet: reads the rest of it, and puts it into force if it is a setting.
 #[inline(always)]
 pub(crate) fn meet(
     sign: &Terms<'_>,
@@ -133,18 +98,12 @@ pub(crate) fn meet(
     source: &mut Source<'_>,
     at: usize,
     first: u8,
-    item: Option<NextItem>,
 ) -> Met
     requires begins { MayMeet sign.now source.old.octets at first state.old }
-    requires item { IfSome item (IsNextAt sign.now source.old.octets at) }
     ensures met { IsMet sign.now source.old.octets at state.old result state.new }
     ensures some { 1 ≤ met_octets result }
-    ensures steps { RisesBetween source.old source.new 0 (met_steps result - item_steps item) }
-    ensures known { item_steps item ≤ met_steps result }
+    ensures steps { RisesBetween source.old source.new 0 (met_steps result) }
 {
-    if let Some(next) = item {
-        return Met::Item(next);
-    }
     if !is_bracket(first) {
         let item = KnownItem::Char(u16::from(first));
         return Met::Item(NextItem { item, len: 1 });
@@ -171,12 +130,9 @@ fn meet_bracket(
         // An accepted string has no broken bracket and no tag with an error.
         unreachable!();
     };
-    let KnownItem::Tag(tag) = next.item else {
+    let (KnownItem::Tag(tag), true) = (next.item, next.item.is_setting()) else {
         return Met::Item(next);
     };
-    if !next.item.is_setting() {
-        return Met::Item(next);
-    }
     let Ok(()) = judge_tag(sign, state, source, tag) else {
         // No item of an accepted string offends.
         unreachable!();

@@ -1,13 +1,13 @@
 //! The drawing of a page into one plane: each area is read for the table of its lines, and then to put its cells.
 
-ghost use Rattle.std.specs.Prelude.{IfSome, slice_get, ◌^◌, ◌≡◌, ◌≢◌, ℕ, ◌+◌, ◌-◌, ◌*◌, ◌≤◌, ◌∷◌, List, Option, Some};
-ghost use Rattle.multi_layout.specs.Prelude.{charged, RisesBetween, Full, Lights, picture, IsSized, IsFilledFew, IsPagePassed, IsPageStart, IsReadTwice, DrawsOn, HasCounted, IsAreaDrawn, IsFilledBy, whole_area, IsBehindCharacter, DrawsNext, DrawsRun, IsNextDrawn, IsReadBehind, IsRunDrawn, octets_read, IsBetween, IsItemRead, IsRead, LaidItem};
+ghost use Rattle.std.specs.Prelude.{◌^◌, ◌≡◌, ◌≢◌, ℕ, ◌+◌, ◌-◌, ◌*◌, ◌≤◌, Option};
+ghost use Rattle.multi_layout.specs.Prelude.{RisesBetween, Full, Lights, picture, IsSized, IsFilledFew, IsPagePassed, IsPageStart, IsReadTwice, IsAreaDrawn, IsPageDrawn, item_steps, IsFilledBy, IsBehindCharacter, DrawsNext, DrawsRun, IsNextDrawn, IsReadBehind, IsRunDrawn, octets_read};
 
 use crate::bracket::is_bracket;
 use crate::cursor::{Cursor, Met, meet};
 use crate::paint::{Layer, put_character};
-use crate::read::{AreaLines, read_area};
-use multi_judge::{KnownItem, LineTable, NextItem, Terms, is_full, place_at};
+use crate::read::{AreaLines, read_lines};
+use multi_judge::{KnownItem, NextItem, Terms, is_full, place_at};
 use multi_meaning::Place;
 use multi_tag::{LineJust, Tag};
 use multi_token::Source;
@@ -34,9 +34,7 @@ pub(crate) fn draw_page(
 {
     plane.fill(layer.has(sign, cursor.state.attributes.back));
     loop {
-        let begun = cursor.pass_settings(sign, source);
-        read_area(sign, source, cursor, begun, read);
-        draw_area(sign, source, cursor, read, layer, plane);
+        draw_area(sign, source, cursor, layer, read, plane);
         let Some(next) = read.next else {
             return;
         };
@@ -47,75 +45,58 @@ pub(crate) fn draw_page(
     }
 }
 
-/// Draws the items of an area from its start on, and goes behind them.
+/// Draws the area that begins at a cursor, and goes behind its last item: it is read for its lines, and then once more to put its cells.
 fn draw_area(
     sign: &Terms<'_>,
     source: &mut Source<'_>,
     cursor: &mut Cursor,
-    read: &AreaLines,
     layer: Layer,
+    read: &mut AreaLines,
     plane: &mut Plane,
 )
-    requires known { (page : ℕ) × IsAreaDrawn sign.now source.old.octets layer page read.now cursor.old plane.old }
+    requires begins { (page : ℕ) × IsPageDrawn sign.now source.old.octets layer page cursor.old plane.old }
     requires size { IsSized plane.old sign.now }
-    ensures drawn { DrawsOn sign.now source.old.octets layer read.now cursor.old cursor.new plane.old plane.new }
-    ensures at { cursor.new.at ≡ read.now.end }
-    ensures steps { RisesBetween source.old source.new 0 (9 * (read.now.end - cursor.old.at)) }
-    ensures fills { IsFilledBy sign.now plane.old plane.new (read.now.end - cursor.old.at) }
+    ensures drawn { (page : ℕ) → IsPageDrawn sign.now source.old.octets layer page cursor.old plane.old
+        → IsAreaDrawn sign.now source.old.octets layer page read.new cursor.new plane.new }
+    ensures at { (cursor.new.at ≡ read.new.end) × (cursor.old.at ≤ cursor.new.at) }
+    ensures steps { RisesBetween source.old source.new 0 (18 * (cursor.new.at - cursor.old.at) + 1 + item_steps read.new.next) }
+    ensures fills { IsFilledBy sign.now plane.old plane.new (cursor.new.at - cursor.old.at) }
 {
+    let fill = sign.bare.line_fill();
+    match fill {
+        LineFill::Off => read_lines::<false>(sign, source, cursor, read),
+        LineFill::Words => read_lines::<true>(sign, source, cursor, read),
+    }
     let mut first = None;
     while cursor.at < read.end {
-        let Some(octet) = octet_at(source, cursor.at, first) else {
+        if first.is_none() {
+            first = source.read(cursor.at);
+        }
+        let Some(octet) = first else {
             // The area goes on.
             unreachable!();
         };
-        match meet(sign, &mut cursor.state, source, cursor.at, octet, None) {
+        match meet(sign, &mut cursor.state, source, cursor.at, octet) {
             Met::Setting(len) => {
                 cursor.at += len;
                 first = None;
             }
-            Met::Item(next) => {
-                let next = lay(sign, cursor, &read.lines, next);
+            Met::Item(mut next) => {
+                let state = &cursor.state;
+                let full = match (fill, next.item) {
+                    (LineFill::Words, KnownItem::Char(_)) => {
+                        let lines = read.lines.group(state.attributes.page_just);
+                        is_full(&state.attributes, &state.area, lines)
+                    }
+                    _ => false,
+                };
+                if full {
+                    // A space that is dropped is the end of its line.
+                    next.item = KnownItem::Tag(Tag::NewLine(None));
+                }
                 first = draw_item(sign, source, cursor, next, read, layer, plane);
             }
         }
-    }
-}
-
-/// The next item as it is laid out: a space that is dropped is the end of its line.
-fn lay(sign: &Terms<'_>, cursor: &Cursor, lines: &LineTable, next: NextItem) -> NextItem
-    requires stands { (octets : List ℕ) × (before behind : List LaidItem) × IsBetween sign.now octets before behind cursor.now }
-    ensures read { (octets : List ℕ) (before rest : List LaidItem) (item : LaidItem)
-        → IsBetween sign.now octets before (item ∷ rest) cursor.now
-        → HasCounted (whole_area sign.now before (item ∷ rest)) lines.now → IsItemRead item.item next → IsRead item result }
-    ensures len { result.len ≡ next.len }
-{
-    if let LineFill::Off = sign.bare.line_fill() {
-        return next;
-    }
-    let KnownItem::Char(_) = next.item else {
-        return next;
-    };
-    let attributes = &cursor.state.attributes;
-    let lines = lines.group(attributes.page_just);
-    if !is_full(attributes, &cursor.state.area, lines) {
-        return next;
-    }
-    NextItem {
-        item: KnownItem::Tag(Tag::NewLine(None)),
-        len: next.len,
-    }
-}
-
-/// The octet at an offset, if it isn't this one, which was read there.
-fn octet_at(source: &mut Source<'_>, at: usize, read: Option<u8>) -> Option<u8>
-    requires { IfSome read (λ octet. slice_get source.old.octets at ≡ Some octet) }
-    ensures octet { result ≡ slice_get source.old.octets at }
-    ensures step { source.new ≡ charged source.old (1 - octets_read read) }
-{
-    match read {
-        Some(_) => read,
-        None => source.read(at),
     }
 }
 

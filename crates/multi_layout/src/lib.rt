@@ -1,9 +1,8 @@
 //! The verdict of a sign on a MULTI string, and the pages of a string that it accepts.
 //!
-//! [`check`] reads a string once, from the left. It keeps running sums of the present area, and judges each item by them.
-//! The first item that offends gives the error and its offset. If none does, the string is a [`Checked`]: it tells which
-//! page is shown at a clock, and draws pages into a plane that the caller lends. To draw an area it is read twice, first
-//! for its lines and then for its cells.
+//! [`check`] reads a string once, from the left. It keeps running sums of the present area, and judges each item by them. The first item
+//! that offends gives the error and its offset. If none does, the string is a [`Checked`]: it tells which page is shown at a clock, and
+//! draws pages into a plane that the caller lends. To draw an area it is read twice, first for its lines and then for its cells.
 #![tactic(auto)]
 
 mod bracket;

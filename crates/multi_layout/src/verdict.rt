@@ -52,9 +52,8 @@ pub fn check<'a>(sign: &'a Sign, source: Source<'a>) -> Result<Checked<'a>, Faul
 ///
 /// An absent value means these defaults, here and in every call of the [`Checked`].
 ///
-/// The source must have no steps yet and at most 4,294,967,295 octets. Both answers give it back. For n octets its count is
-/// then at most 9n + 1. It is at least n + 1 if the string is accepted, and at least one more than the offset of the error
-/// if it is refused.
+/// The source must have no steps yet and at most 4,294,967,295 octets. Both answers give it back. For n octets its count is then at most
+/// 9n + 1. It is at least n + 1 if the string is accepted, and at least one more than the offset of the error if it is refused.
 #[inline(always)]
 pub fn check_with<'a>(
     sign: &'a Sign,

@@ -1,25 +1,19 @@
 -- The two readings of an area: one for the table of its lines, one to put its cells.
 use Rattle.std.specs.Prelude.{◌≡◌, ℕ, ◌+◌, ◌*◌, ◌≤◌, false, nat_lt, List, [], ◌∷◌, ◌++◌, map, length, if◌then◌else◌}
 use Rattle.std.specs.List.{All}
-use Rattle.multi_tag.specs.Just.{page_number}
 use Rattle.page_plane.specs.Plane.{BitPlane}
 use Rattle.sign_font.specs.Sign.{SignData, tallest}
 use Rattle.multi_meaning.specs.Address.{Spot, spots, standing, in_group, lines_of, in_area}
 use Rattle.multi_meaning.specs.Drawn.{Lights, has_colour}
-use Rattle.multi_meaning.specs.Meaning.{Meaning, Shows, EndsArea, begins_area, has_place}
+use Rattle.multi_meaning.specs.Meaning.{Meaning, Shows, EndsArea, begins_area}
 use Rattle.multi_meaning.specs.kept.Present.{ended_lines, present_area}
 use Rattle.multi_layout.specs.declared.cursor.Cursor.{Cursor}
 use Rattle.multi_layout.specs.declared.paint.Layer.{Layer}
 use Rattle.multi_layout.specs.declared.read.AreaLines.{AreaLines}
-use Rattle.multi_judge.specs.declared.state.State.{State}
 use Rattle.multi_judge.specs.declared.table.LineTable.{LineTable}
 use Rattle.multi_layout.specs.Limits.{plane_octets}
 use Rattle.multi_layout.specs.kept.Cursors.{IsBetween, IsFirst, items_of, meant, LaidItem, spell_of}
 use Rattle.multi_judge.specs.Table.{group_lines, table_of}
-
--- the page justification of the group to which the next item belongs, if it has a place, or else that of the present group (own)
-abbrev pub next_group : State → Meaning → ℕ
-next_group state item = if has_place item then page_number state.attributes.page_just else state.area.present
 
 -- the lines of a group that are known when items go on in this group: all counted lines of the groups before it, and the ended
 -- lines of the others (own)
@@ -57,17 +51,6 @@ pub record IsInArea (sign : SignData) (read : AreaLines) (before behind : List L
   pub next : IsFirst (items_of rest) read.next
   pub counted : HasCounted (whole_area sign before behind) read.lines
 
--- an area begins at the cursor (own)
-abbrev pub BeginsArea : SignData → List ℕ → Cursor → Type 0
-BeginsArea sign octets cursor =
-    (before behind : List LaidItem) × IsBetween sign octets before behind cursor × (present_area sign (map meant before) ≡ [])
-
--- it was read, wherever the cursor stands where it begins (own)
-abbrev pub ReadsArea : SignData → List ℕ → Cursor → AreaLines → Type 0
-ReadsArea sign octets cursor read =
-    (before behind : List LaidItem) → IsBetween sign octets before behind cursor → present_area sign (map meant before) ≡ []
-    → IsInArea sign read before behind cursor
-
 -- the plane shows what these items put on their page, of all the items of the string (own)
 abbrev pub IsDrawnTo : SignData → Layer → List Meaning → List Meaning → BitPlane → Type 0
 IsDrawnTo sign layer items before plane =
@@ -100,6 +83,13 @@ pub record IsAreaDrawn (sign : SignData) (octets : List ℕ) (layer : Layer) (pa
   pub behind : List LaidItem
   pub up_to : IsDrawnUpTo sign octets layer page before behind cursor plane
   pub left : IsInArea sign read before behind cursor
+
+-- the area that begins at the old cursor was read, and the new one stands behind its first settings: a page that is drawn as far as the
+-- old cursor is drawn as far as the new (own)
+abbrev pub ReadsArea : SignData → List ℕ → Cursor → Cursor → AreaLines → Type 0
+ReadsArea sign octets old new read =
+    (layer : Layer) (page : ℕ) (plane : BitPlane) → IsPageDrawn sign octets layer page old plane
+    → IsAreaDrawn sign octets layer page read new plane
 
 -- from cursor to cursor the area is drawn on, whichever page it stands in (own)
 abbrev pub DrawsOn : SignData → List ℕ → Layer → AreaLines → Cursor → Cursor → BitPlane → BitPlane → Type 0

@@ -1,5 +1,5 @@
 -- The first reading of an area, for the table of its lines (own).
-use Rattle.std.specs.Prelude.{◌≡◌, ℕ, ◌^◌, ◌<◌, ◌≤◌, Bool, false, ◌⊎◌, List, [], ◌∷◌, ◌++◌, map, length}
+use Rattle.std.specs.Prelude.{◌≡◌, ℕ, ◌^◌, ◌<◌, ◌≤◌, Bool, List, [], ◌∷◌, ◌++◌, map, length}
 use Rattle.std.specs.List.{All}
 use Rattle.multi_token.specs.Spelling.{Item}
 use Rattle.sign_font.specs.Sign.{SignData}
@@ -10,14 +10,12 @@ use Rattle.multi_meaning.specs.Verdict.{offences}
 use Rattle.multi_judge.specs.declared.area.Area.{Area}
 use Rattle.multi_judge.specs.declared.pass.Pass.{Pass}
 use Rattle.multi_judge.specs.declared.item.KnownItem.{KnownItem}
-use Rattle.multi_judge.specs.declared.state.State.{State}
 use Rattle.multi_judge.specs.declared.table.LineTable.{LineTable}
 use Rattle.multi_judge.specs.KnownItem.{meant_by}
 use Rattle.multi_judge.specs.Passed.{laid_area}
 use Rattle.multi_layout.specs.kept.AreaDrawing.{HasKnown, HasRoom}
 use Rattle.multi_judge.specs.PassState.{IsPassOf}
-use Rattle.multi_judge.specs.Run.{IsBehindCharacter, IsRunPassed}
-use Rattle.multi_judge.specs.Sums.{area_sum}
+use Rattle.multi_judge.specs.Sums.{IsBelow, area_sum}
 
 -- some items of which none offends, and which a string can have (own)
 pub record AreFine (sign : SignData) (items : List Item) : Type 0 where
@@ -32,9 +30,14 @@ pub record IsReadOf (words : Bool) (sign : SignData) (items : List Item) (presen
   pub known : HasKnown present (laid_area words sign (map meaning items)) lines
 
 -- the sums are those of placing items that fit, and the table has their lines that are known when items go on in this group (own)
-abbrev pub KnowsArea : ℕ → Area → LineTable → Type 0
-KnowsArea present area lines =
-    (spots : List Spot) × All IsPlacing spots × (area ≡ area_sum spots) × HasKnown present spots lines × HasRoom spots × IsNarrowArea spots
+pub record KnowsArea (present : ℕ) (area : Area) (lines : LineTable) : Type 0 where
+  pub below : IsBelow (2 ^ 42) area
+  pub spots : List Spot
+  pub placing : All IsPlacing spots
+  pub sum : area ≡ area_sum spots
+  pub known : HasKnown present spots lines
+  pub room : HasRoom spots
+  pub narrow : IsNarrowArea spots
 
 -- where the old table had the lines that are known in the present group, the new one has those that are known in this group (own)
 abbrev pub KnowsOn : Area → ℕ → LineTable → LineTable → Type 0
@@ -55,11 +58,3 @@ abbrev pub ReadsOn : Bool → SignData → ℕ → KnownItem → Pass → LineTa
 ReadsOn words sign present item kept lines kept' lines' =
     (before : List Item) (next : Item) → IsReadOf words sign before present kept lines → IsNextRead sign before next item
     → IsReadOf words sign (before ++ next ∷ []) kept'.state.area.present kept' lines'
-
--- the new is the old one at the same offset, or, where lines aren't filled, with the characters up to a later offset, which lengthen the
--- line of the one before them (own)
-abbrev pub GoesOn : Bool → SignData → List ℕ → ℕ → Pass → ℕ → Pass → Type 0
-GoesOn words sign octets at old at' new =
-    ((at' ≡ at) × (new ≡ old))
-    ⊎ ((words ≡ false) × IsBehindCharacter old.state × (state : State) × (new ≡ record old { state = state })
-    × IsRunPassed sign octets at old.state at' state)

@@ -1,10 +1,9 @@
 -- Settings: tags that only set values that are in force behind them, met on the way through an accepted string (own).
-use Rattle.std.specs.Prelude.{◌≡◌, ℕ, ◌-◌, ◌*◌, ◌^◌, ◌<◌, true, List, Option, Some, None, Ok, IfSome, length, slice_get}
+use Rattle.std.specs.Prelude.{◌≡◌, ℕ, ◌-◌, ◌*◌, ◌^◌, ◌<◌, true, List, Option, Some, None, Ok, length, slice_get}
 use Rattle.multi_token.specs.Spelling.{Item}
 use Rattle.multi_tag.specs.declared.tag.Tag.{Tag}
 use Rattle.sign_font.specs.Sign.{SignData}
 use Rattle.multi_meaning.specs.Meaning.{Does, Meaning}
-use Rattle.multi_layout.specs.declared.cursor.Cursor.{Cursor}
 use Rattle.multi_layout.specs.declared.cursor.Met.{Met}
 use Rattle.multi_layout.specs.declared.cursor.Met.TheVariants as met
 use Rattle.multi_layout.specs.declared.cursor.Met.TheVariants.{Setting}
@@ -12,10 +11,7 @@ use Rattle.multi_judge.specs.declared.item.KnownItem.TheVariants as known
 use Rattle.multi_judge.specs.declared.item.NextItem.{NextItem}
 use Rattle.multi_judge.specs.declared.state.State.{State}
 use Rattle.multi_judge.specs.KnownItem.{is_setting}
-use Rattle.multi_layout.specs.kept.AreaDrawing.{IsPageDrawn}
 use Rattle.multi_layout.specs.kept.Cursors.{IsFirst, IsPlaced, IsWithin}
-use Rattle.multi_layout.specs.declared.paint.Layer.{Layer}
-use Rattle.page_plane.specs.Plane.{BitPlane}
 use Rattle.multi_judge.specs.State.{IsLimited, IsReady, IsStateOf, Judges}
 
 -- what this setting says is put into force: it doesn't offend behind any items, and the new state is that of the items with it (own)
@@ -52,18 +48,7 @@ abbrev pub met_steps : Met → ℕ
 met_steps (Setting len) = 9 * len - 8
 met_steps (met.Item next) = 9 * next.len - 9
 
--- this is read of what stands at an offset of an accepted string (own)
-pub record IsBegun (sign : SignData) (octets : List ℕ) (at : ℕ) (begun : Option ℕ × Option NextItem) : Type 0 where
-  pub first : begun.0 ≡ slice_get octets at
-  pub item : IfSome begun.1 (IsNextAt sign octets at)
-
 -- the steps that an item took at most, if it was read, behind its first octet (own)
 abbrev pub item_steps : Option NextItem → ℕ
 item_steps None = 0
 item_steps (Some next) = 9 * next.len - 9
-
--- the settings from a cursor on are passed: what is drawn of a page as far as the old one is drawn as far as the new (own)
-abbrev pub PassesSettings : SignData → List ℕ → Cursor → Cursor → Type 0
-PassesSettings sign octets old new =
-    (layer : Layer) (page : ℕ) (plane : BitPlane) → IsPageDrawn sign octets layer page old plane
-    → IsPageDrawn sign octets layer page new plane

@@ -1,4 +1,4 @@
-use Rattle.multi_judge.proofs.Lemmas.{None, Option, Some, cond, ℕ, not, ap, refl, sym, ◌∙◌, le-leb, lt-leb, spots, standing, judged-simple, simple_of, break_judged, line_end, page_here, placed_conflict, spot_of}
+use Rattle.multi_judge.proofs.Lemmas.{◌+◌, ◌<◌, ◌≤◌, arith, rules, lt-ltb, le-ltb, SignData, judged-page, state-page, None, Option, Some, cond, ℕ, not, ap, refl, sym, ◌∙◌, le-leb, lt-leb, spots, standing, judged-simple, simple_of, break_judged, line_end, page_here, placed_conflict, spot_of}
 use Rattle.multi_judge.proofs.judge.judge_tag.Goals as goal
 
 pub returns-then-not-put_break-clause-judged : goal.returns-then-not-put_break-clause-judged
@@ -30,3 +30,16 @@ returns-in_default-clause-judged c = λ items st held.
     let simple = simple_of c.args.tag c.in_default.not-NewPage c.in_default.not-NewLine c.in_default.not-Font c.in_default.not-Rect in
     let after = c.set.ensures.set (standing sign items) st.attributes simple in
     judged-simple sign items c.args.state.now st c.set.new.self c.args.tag simple after
+
+pub returns-then-state-max_pages-clause-judged : goal.returns-then-state-max_pages-clause-judged
+returns-then-state-max_pages-clause-judged c = λ items st held.
+    let full : c.args.sign.now.max_pages < c.args.state.now.pages + 1 = omega (arith, c.max_pages.ensures.max_pages, ap (λ (s : SignData). s.max_pages) c.sign.view_is) in
+    rw c.in-NewPage.is (judged-page c.args.sign.now items c.args.state.now st ∙ ap (λ b. cond {A = Option ℕ} b (Some 12) None) (lt-ltb c.args.sign.now.max_pages (c.args.state.now.pages + 1) full))
+
+pub returns-else-state-max_pages-clause-judged : goal.returns-else-state-max_pages-clause-judged
+returns-else-state-max_pages-clause-judged c = λ items st held.
+    let room : c.args.state.now.pages + 1 ≤ c.args.sign.now.max_pages = omega (arith, c.max_pages.ensures.max_pages, ap (λ (s : SignData). s.max_pages) c.sign.view_is) in
+    rw c.in-NewPage.is (
+      judged-page c.args.sign.now items c.args.state.now st ∙ ap (λ b. cond {A = Option ℕ} b (Some 12) None) (le-ltb c.args.sign.now.max_pages (c.args.state.now.pages + 1) room),
+      state-page c.args.sign.now items c.args.state.now st _ refl (omega (arith, c.from.ensures, c.from-in-NewPage.ensures)) (rw c.whole_sign-state.ensures refl) (search rules) (omega arith) (omega arith),
+    )

@@ -1,4 +1,4 @@
-use Rattle.multi_layout.proofs.Common.{◌≡◌, true, refl, ap, sym, ◌∙◌, arith, false≢true, slice_get_within, spelling_some, code_of, Does, is_setting, meant_by}
+use Rattle.multi_layout.proofs.Common.{rules, ◌≡◌, true, refl, ap, sym, ◌∙◌, arith, false≢true, slice_get_within, spelling_some, code_of, Does, is_setting, meant_by}
 use Rattle.multi_layout.proofs.AreaDrawLemmas.{never_refused, setting_fine, setting_is}
 use Rattle.multi_layout.proofs.WalkLemmas.{item_is, next_at, no_fault, steps_then, steps_within}
 use Rattle.multi_layout.proofs.cursor.meet_bracket.Goals as goal
@@ -9,11 +9,11 @@ unreachable-requires c =
     let octets = c.args.source.now.octets in
     no_fault c.args.sign.now octets before behind c.args.at (code_of c.in_default.field-0) p (slice_get_within octets c.args.at c.args.bracket c.requires.begins.stands) c.in_default.ensures.fault
 
-pub returns-in_default-item-clause-met : goal.returns-in_default-item-clause-met
-returns-in_default-item-clause-met c = (refl, next_at c.args.sign.now c.args.source.now.octets c.args.at c.in-Ok.next c.in-Ok.ensures.item)
+pub returns-in_default-2-clause-met : goal.returns-in_default-2-clause-met
+returns-in_default-2-clause-met c = (refl, next_at c.args.sign.now c.args.source.now.octets c.args.at c.in-Ok.next c.in-Ok.ensures.item)
 
-pub returns-then-not-is_setting-clause-met : goal.returns-then-not-is_setting-clause-met
-returns-then-not-is_setting-clause-met c = (refl, next_at c.args.sign.now c.args.source.now.octets c.args.at c.in-Ok.next c.in-Ok.ensures.item)
+pub returns-in_default-2-2-clause-met : goal.returns-in_default-2-2-clause-met
+returns-in_default-2-2-clause-met c = (refl, next_at c.args.sign.now c.args.source.now.octets c.args.at c.in-Ok.next c.in-Ok.ensures.item)
 
 pub unreachable-requires-in_default-judge_tag : goal.unreachable-requires-in_default-judge_tag
 unreachable-requires-in_default-judge_tag c =
@@ -21,18 +21,18 @@ unreachable-requires-in_default-judge_tag c =
     let octets = c.args.source.now.octets in
     let (before, behind, p) = c.requires.begins.within in
     let (items, st) = c.requires.begins.behind in
-    let means = ap meant_by c.in-Tag.is in
-    let setting : is_setting (Does c.in-Tag.tag) ≡ true = ap is_setting (sym means) ∙ sym c.is_setting.ensures ∙ c.if-not-is_setting.false in
+    let means = ap meant_by c.in-Tag-true.is-0 in
+    let setting : is_setting (Does c.in-Tag-true.tag) ≡ true = ap is_setting (sym means) ∙ sym c.is_setting.ensures ∙ search rules in
     let first = item_is sign octets before behind c.args.at p c.in-Ok.next c.in-Ok.ensures.item in
-    never_refused sign c.in-Tag.tag c.judge_tag.new.state (setting_fine sign octets before behind c.args.at p c.in-Ok.next first c.in-Tag.tag means setting) c.in_default-judge_tag.field-0 items
-    (c.in_default-judge_tag.ensures.judged items st (λ placed. absurd (false≢true (sym (setting_is c.in-Tag.tag setting).2 ∙ placed))))
+    never_refused sign c.in-Tag-true.tag c.judge_tag.new.state (setting_fine sign octets before behind c.args.at p c.in-Ok.next first c.in-Tag-true.tag means setting) c.in_default-judge_tag.field-0 items
+    (c.in_default-judge_tag.ensures.judged items st (λ placed. absurd (false≢true (sym (setting_is c.in-Tag-true.tag setting).2 ∙ placed))))
 
 pub returns-clause-met : goal.returns-clause-met
 returns-clause-met c =
-    let setting : is_setting (Does c.in-Tag.tag) ≡ true = ap is_setting (sym (ap meant_by c.in-Tag.is)) ∙ sym c.is_setting.ensures ∙ c.if-not-is_setting.false in (
-      c.in-Tag.tag,
-      record { setting = setting; judged = λ items st. c.in-Ok-judge_tag.ensures.judged items st (λ placed. absurd (false≢true (sym (setting_is c.in-Tag.tag setting).2 ∙ placed))); limited = c.in-Ok-judge_tag.ensures.limited },
-      rw (← c.in-Tag.is) (next_at c.args.sign.now c.args.source.now.octets c.args.at c.in-Ok.next c.in-Ok.ensures.item),
+    let setting : is_setting (Does c.in-Tag-true.tag) ≡ true = ap is_setting (sym (ap meant_by c.in-Tag-true.is-0)) ∙ sym c.is_setting.ensures ∙ search rules in (
+      c.in-Tag-true.tag,
+      record { setting = setting; judged = λ items st. c.in-Ok-judge_tag.ensures.judged items st (λ placed. absurd (false≢true (sym (setting_is c.in-Tag-true.tag setting).2 ∙ placed))); limited = c.in-Ok-judge_tag.ensures.limited },
+      rw (← c.in-Tag-true.is-0) (next_at c.args.sign.now c.args.source.now.octets c.args.at c.in-Ok.next c.in-Ok.ensures.item),
     )
 
 pub returns-clause-steps : goal.returns-clause-steps

@@ -2,7 +2,7 @@ use Rattle.multi_layout.proofs.Common.{rules, map, ◌≡◌, ◌+◌, ◌*◌, 
 use Rattle.page_plane.specs.Octets.{octet_count}
 use Rattle.multi_layout.proofs.AreaDrawLemmas.{filled_longer, filled_none, filled_then}
 use Rattle.multi_layout.proofs.DrawLemmas.{four_octets}
-use Rattle.multi_layout.proofs.PageDrawLemmas.{area_begins, area_passed, if_same, last_passed, last_shown, new_page_is, next_area, page_begins, page_ends, page_filled, page_goes_on, page_in, page_passed}
+use Rattle.multi_layout.proofs.PageDrawLemmas.{area_passed, if_same, last_passed, last_shown, new_page_is, next_area, page_begins, page_ends, page_filled, page_goes_on, page_in, page_passed}
 use Rattle.multi_layout.proofs.PieceLemmas.{begins_tag, itself}
 use Rattle.multi_layout.proofs.WalkLemmas.{no_steps, ready_between, same_octets, steps_then, steps_within, item_fine, item_fits, tag_passed, within_between}
 use Rattle.multi_layout.proofs.draw.draw_page.Goals as goal
@@ -16,20 +16,8 @@ loop-read-init c = record {
   filled = subst (IsFilledBy c.args.sign.now c.fill.new.self c.fill.new.self) (omega arith) (filled_none c.args.sign.now c.fill.new.self);
 }
 
-pub pass_settings-begun-requires : goal.pass_settings-begun-requires
-pass_settings-begun-requires c = (c.args.layer, c.args.cursor.now.state.pages, c.loop-read.plane, page_in (same_octets c.loop-read.invariant.steps.3) c.loop-read.invariant.drawn)
-
-pub read_area-requires-clause-begins : goal.read_area-requires-clause-begins
-read_area-requires-clause-begins c =
-    let set = c.pass_settings-begun.ensures in
-    let now = page_in (same_octets set.steps.3) (set.passed c.args.layer c.args.cursor.now.state.pages c.loop-read.plane (page_in (same_octets c.loop-read.invariant.steps.3) c.loop-read.invariant.drawn)) in
-    (now.before, now.behind, now.up_to.between, now.begins)
-
-pub draw_area-requires-clause-known : goal.draw_area-requires-clause-known
-draw_area-requires-clause-known c =
-    let set = c.pass_settings-begun.ensures in
-    let was = page_in (same_octets c.loop-read.invariant.steps.3) c.loop-read.invariant.drawn in
-    (c.args.cursor.now.state.pages, area_begins (same_octets set.steps.3) (same_octets c.read_area.ensures.steps.3) (set.passed c.args.layer c.args.cursor.now.state.pages c.loop-read.plane was) c.read_area.ensures.read)
+pub draw_area-requires-clause-begins : goal.draw_area-requires-clause-begins
+draw_area-requires-clause-begins c = (c.args.cursor.now.state.pages, page_in (same_octets c.loop-read.invariant.steps.3) c.loop-read.invariant.drawn)
 
 pub returns-in_default : goal.returns-in_default
 returns-in_default c =
@@ -38,10 +26,7 @@ returns-in_default c =
     let start = c.args.cursor.now in
     let new = c.draw_area.new.cursor in
     let i = c.loop-read.invariant in
-    let e =
-    area_passed c.loop-read.cursor c.pass_settings-begun.new.self c.loop-read.source c.pass_settings-begun.result.1 c.loop-read.invariant.drawn (same_octets c.loop-read.invariant.steps.3)
-    c.pass_settings-begun.ensures.passed c.pass_settings-begun.ensures.on c.pass_settings-begun.ensures.steps c.read_area.ensures.read c.read_area.ensures.known c.read_area.ensures.steps
-    c.draw_area.ensures.drawn c.draw_area.ensures.at c.draw_area.ensures.steps c.draw_area.ensures.fills in
+    let e = area_passed (same_octets c.loop-read.invariant.steps.3) c.loop-read.invariant.drawn (c.draw_area.ensures.drawn c.args.cursor.now.state.pages) c.draw_area.ensures.at c.draw_area.ensures.steps c.draw_area.ensures.fills in
     let same = same_octets i.steps.3 in
     let d = e.drawn in
     let past = e.reached in
@@ -59,17 +44,14 @@ returns-in_default c =
 
 pub pass_tag-requires : goal.pass_tag-requires
 pass_tag-requires c =
-    let e =
-    area_passed c.loop-read.cursor c.pass_settings-begun.new.self c.loop-read.source c.pass_settings-begun.result.1 c.loop-read.invariant.drawn (same_octets c.loop-read.invariant.steps.3)
-    c.pass_settings-begun.ensures.passed c.pass_settings-begun.ensures.on c.pass_settings-begun.ensures.steps c.read_area.ensures.read c.read_area.ensures.known c.read_area.ensures.steps
-    c.draw_area.ensures.drawn c.draw_area.ensures.at c.draw_area.ensures.steps c.draw_area.ensures.fills in
+    let e = area_passed (same_octets c.loop-read.invariant.steps.3) c.loop-read.invariant.drawn (c.draw_area.ensures.drawn c.args.cursor.now.state.pages) c.draw_area.ensures.at c.draw_area.ensures.steps c.draw_area.ensures.fills in
     let n = next_area (e.same ∙ same_octets c.loop-read.invariant.steps.3) e.drawn e.reached c.in-Some.is in
     let b = n.up_to.between in
     record {
       ready = ready_between c.args.sign.now c.draw_area.new.source.octets n.before (n.item ∷ n.rest) c.draw_area.new.cursor b;
       tag = begins_tag c.in-Some.next.item (ap begins_area (sym n.read_is.meant) ∙ n.begins);
       fine = (map meant n.before, b.state_is, item_fine b n.read_is);
-      room = omega (arith, item_fits b n.read_is);
+      room = omega (arith, item_fits {before = n.before} {rest = n.rest} {item = n.item} b n.read_is);
     }
 
 pub returns-then-ends_page : goal.returns-then-ends_page
@@ -79,10 +61,7 @@ returns-then-ends_page c =
     let start = c.args.cursor.now in
     let new = c.pass_tag.new.self in
     let i = c.loop-read.invariant in
-    let e =
-    area_passed c.loop-read.cursor c.pass_settings-begun.new.self c.loop-read.source c.pass_settings-begun.result.1 c.loop-read.invariant.drawn (same_octets c.loop-read.invariant.steps.3)
-    c.pass_settings-begun.ensures.passed c.pass_settings-begun.ensures.on c.pass_settings-begun.ensures.steps c.read_area.ensures.read c.read_area.ensures.known c.read_area.ensures.steps
-    c.draw_area.ensures.drawn c.draw_area.ensures.at c.draw_area.ensures.steps c.draw_area.ensures.fills in
+    let e = area_passed (same_octets c.loop-read.invariant.steps.3) c.loop-read.invariant.drawn (c.draw_area.ensures.drawn c.args.cursor.now.state.pages) c.draw_area.ensures.at c.draw_area.ensures.steps c.draw_area.ensures.fills in
     let same = same_octets i.steps.3 in
     let past = e.reached in
     let n = next_area refl e.drawn past c.in-Some.is in
@@ -106,10 +85,7 @@ returns-then-ends_page c =
 
 pub loop-read-smaller : goal.loop-read-smaller
 loop-read-smaller c =
-    let e =
-    area_passed c.loop-read.cursor c.pass_settings-begun.new.self c.loop-read.source c.pass_settings-begun.result.1 c.loop-read.invariant.drawn (same_octets c.loop-read.invariant.steps.3)
-    c.pass_settings-begun.ensures.passed c.pass_settings-begun.ensures.on c.pass_settings-begun.ensures.steps c.read_area.ensures.read c.read_area.ensures.known c.read_area.ensures.steps
-    c.draw_area.ensures.drawn c.draw_area.ensures.at c.draw_area.ensures.steps c.draw_area.ensures.fills in
+    let e = area_passed (same_octets c.loop-read.invariant.steps.3) c.loop-read.invariant.drawn (c.draw_area.ensures.drawn c.args.cursor.now.state.pages) c.draw_area.ensures.at c.draw_area.ensures.steps c.draw_area.ensures.fills in
     let same = same_octets c.loop-read.invariant.steps.3 in
     let there = e.same in
     let n = next_area (there ∙ same) e.drawn e.reached c.in-Some.is in
@@ -121,10 +97,7 @@ loop-read-preserved c =
     let sign = c.args.sign.now in
     let source = c.args.source.now in
     let i = c.loop-read.invariant in
-    let e =
-    area_passed c.loop-read.cursor c.pass_settings-begun.new.self c.loop-read.source c.pass_settings-begun.result.1 c.loop-read.invariant.drawn (same_octets c.loop-read.invariant.steps.3)
-    c.pass_settings-begun.ensures.passed c.pass_settings-begun.ensures.on c.pass_settings-begun.ensures.steps c.read_area.ensures.read c.read_area.ensures.known c.read_area.ensures.steps
-    c.draw_area.ensures.drawn c.draw_area.ensures.at c.draw_area.ensures.steps c.draw_area.ensures.fills in
+    let e = area_passed (same_octets c.loop-read.invariant.steps.3) c.loop-read.invariant.drawn (c.draw_area.ensures.drawn c.args.cursor.now.state.pages) c.draw_area.ensures.at c.draw_area.ensures.steps c.draw_area.ensures.fills in
     let same = same_octets i.steps.3 in
     let n = next_area refl e.drawn e.reached c.in-Some.is in
     let there = e.same ∙ same in

@@ -6,20 +6,20 @@ use Rattle.multi_layout.proofs.read.end_group.Goals as goal
 pub of-requires : goal.of-requires
 of-requires c =
     let area = c.args.area.now in
-    let (spots, placing, sum, known, room, narrow) = c.requires.known in
-    let (wide, tall) = narrow area.present (c.requires.below.some c.if-group.true) c.requires.below.known in
-    let height = c.height.ensures.sum (in_group area.present spots) (placing_group area.present spots placing) (group_of_own spots area sum area.present refl) in
-    record { known = search rules; narrow = (after_last is_break (in_group area.present spots), own_line spots area sum, wide); low = omega (arith, tall, height) }
+    let k = c.requires in
+    let (wide, tall) = k.narrow area.present (k.below.some c.if-group.true) k.below.known in
+    let height = c.height.ensures.sum (in_group area.present k.spots) (placing_group area.present k.spots k.placing) (group_of_own k.spots area k.sum area.present refl) in
+    record { narrow = (after_last is_break (in_group area.present k.spots), own_line k.spots area k.sum, wide); low = omega (arith, tall, height) }
 
 pub push-requires : goal.push-requires
 push-requires c =
     let area = c.args.area.now in
-    let (spots, placing, sum, known, room, narrow) = c.requires.known in
-    let some = c.requires.below.some c.if-group.true in
+    let k = c.requires in
+    let some = k.below.some c.if-group.true in
     record {
       known = search rules;
-      room = last_room spots area sum c.if-group.true some c.requires.below.known c.args.lines.now known room;
-      last = behind_empty spots c.args.lines.now area.present (omega (arith, ap (λ (a : Area). a.present) sum)) some known;
+      room = last_room k.spots area k.sum c.if-group.true some k.below.known c.args.lines.now k.known k.room;
+      last = behind_empty k.spots c.args.lines.now area.present (omega (arith, ap (λ (a : Area). a.present) k.sum)) some k.known;
     }
 
 pub returns-then-group : goal.returns-then-group

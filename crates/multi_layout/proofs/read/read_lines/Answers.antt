@@ -1,150 +1,198 @@
-use Rattle.multi_layout.proofs.Common.{rules, ◌==◌, not, ◌≡◌, ◌+◌, ◌-◌, ◌*◌, ◌++◌, length, refl, sym, ap, subst, ◌∙◌, arith, GoesOn, IsFirst, items_of, item_steps}
-use Rattle.std.specs.Prelude.{slice_get}
-use Rattle.multi_judge.specs.declared.item.KnownItem.TheVariants as known
-use Rattle.multi_layout.proofs.AreaLinesLemmas.{all_counted, area_ended, area_read, met_stays, no_more, none_ends, none_known, nothing_read, placed_in, read_on, setting_read, so_advances, so_met, so_next, so_read, steps_gone, gone_forward, ready_state, went_on}
-use Rattle.multi_layout.proofs.AreaReadLemmas.{read_below, read_lines, read_ready, read_state}
+use Rattle.multi_layout.proofs.Common.{rules, ◌==◌, not, ◌≡◌, ◌+◌, ◌-◌, ◌*◌, ◌++◌, inl, inr, length, slice_get, refl, sym, ap, subst, ◌∙◌, arith, items_of, item_steps, AreaLines, RisesBetween, false}
+use Rattle.multi_layout.proofs.AreaLinesLemmas.{GoesBehind, IsReadFrom, IsReadTo, met_stays, area_begins, ends_at, ends_string, item_read, moved_on, nothing_read, read_within, set_behind, set_passed, so_advances, so_met, so_next, ready_state, run_gone}
+use Rattle.multi_layout.proofs.AreaReadLemmas.{read_lines, read_ready, read_state}
 use Rattle.multi_judge.proofs.ReadLemmas.{limited_of}
-use Rattle.multi_layout.proofs.WalkLemmas.{no_steps, same_octets, steps_of, steps_then, steps_within}
+use Rattle.multi_judge.specs.Run.{IsRunPassed}
+use Rattle.multi_layout.proofs.WalkLemmas.{font_known, same_octets, steps_of, steps_then, steps_within}
+use Rattle.multi_layout.proofs.read.read_lines.Goals.{then-cursor-at, else-cursor-at, in-Some+in-Item, in_default}
 use Rattle.multi_layout.proofs.read.read_lines.Goals as goal
 
 pub loop-first-init : goal.loop-first-init
-loop-first-init g c =
-    record {
-      so_far = λ before behind b begins. nothing_read (not (g.row.WORDS == 0)) c.requires.kind b begins c.new-kept.result c.new-kept.ensures.state c.new-kept.ensures.filled c.args.read.now.lines c.requires.none;
-      forward = omega arith;
-      first = c.requires.begun.first;
-      item = c.requires.begun.item;
-      few = omega arith;
-      steps = no_steps c.args.source.now;
-    }
+loop-first-init g c = record {
+  so_far = λ layer page plane d. record {
+    drawn = d;
+    so = nothing_read (not (g.row.WORDS == 0)) c.requires.kind d.up_to.between d.begins c.new-kept.result c.new-kept.ensures.state c.new-kept.ensures.filled c.clear.new.self c.clear.ensures.none;
+  };
+  stays = λ same. c.new-kept.ensures.state;
+  begins = omega arith;
+  forward = omega arith;
+  first = c.read-first.ensures.octet;
+  none = refl;
+  steps = steps_within c.args.source.now (steps_of c.args.source.now c.read-first.ensures.step) (omega arith) (omega arith);
+}
 
-pub end_area-requires : goal.end_area-requires
-end_area-requires g c =
-    let (before, behind, b, begins) = c.requires.begins in
-    let so = c.loop-first.invariant.so_far before behind b begins in
-    record { below = read_below c.requires.sound so.read; known = read_lines c.requires.sound so.read }
-
-pub returns-in_default : goal.returns-in_default
-returns-in_default g c =
-    let i = c.loop-first.invariant in
-    let e = c.end_area.ensures in
-    let (before, behind, b, begins) = c.requires.begins in
-    let now = i.so_far before behind b begins in
-    let last = none_known now (no_more now (sym i.first ∙ c.in_default.is)) c.loop-first.item i.item in
-    record {
-      read = λ before behind b begins.
-          let so = i.so_far before behind b begins in
-          let none = no_more so (sym i.first ∙ c.in_default.is) in
-          area_read so c.requires.kind c.args.cursor.now c.end_area.new.read b.placed.place (none_ends so none) (all_counted so c.requires.sound c.end_area.new.read.lines e.known)
-          e.end.0 (subst (λ n. IsFirst (items_of so.left) n) (sym e.end.1) none);
-      known = omega (arith, i.few, last, e.end.0);
-      steps = steps_within c.args.source.now i.steps (omega arith) (omega (arith, last, e.end.0));
-    }
-
-pub meet-requires-clause-begins : goal.meet-requires-clause-begins
-meet-requires-clause-begins g c =
-    let (before, behind, b, begins) = c.requires.begins in
-    let so = c.loop-first.invariant.so_far before behind b begins in
+pub meet-requires : goal.meet-requires
+meet-requires g c =
+    let (layer, page, plane, d) = c.requires.page in
+    let so = (c.loop-first.invariant.so_far layer page plane d).so in
     let ready = ready_state (not (g.row.WORDS == 0)) c.loop-first.kept (read_ready c.requires.sound so.read) in
-    record { within = search rules; ready = ready; behind = (_, read_state c.requires.sound so.read); stands = search rules; room = search rules }
+    record { begins = record { within = search rules; ready = ready; behind = (_, read_state c.requires.sound so.read); stands = search rules; room = search rules } }
+
+pub overflow_add-cursor : goal.overflow_add-cursor
+overflow_add-cursor g c =
+    let i = c.loop-first.invariant in
+    let (layer, page, plane, d) = c.requires.page in
+    omega (arith, i.forward, read_within (set_behind (i.so_far layer page plane d) c.requires.sound (same_octets i.steps.3) c.in-Setting.len c.meet.new.state c.in-Setting.ensures.met))
 
 pub overflow_add-at : goal.overflow_add-at
 overflow_add-at g c =
     let i = c.loop-first.invariant in
-    let (before, behind, b, begins) = c.requires.begins in
-    let so = i.so_far before behind b begins in
-    let (tag, puts, is) = c.in-Setting.ensures.met in
-    let n = so_read so (same_octets i.steps.3) (record { item = known.Tag tag; len = c.in-Setting.len }) is in
-    let on = so_advances so n (c.loop-first.at + c.in-Setting.len) refl in
-    omega (arith, on, b.placed.accepted.short)
+    let (layer, page, plane, d) = c.requires.page in
+    omega (arith, read_within (set_behind (i.so_far layer page plane d) c.requires.sound (same_octets i.steps.3) c.in-Setting.len c.meet.new.state c.in-Setting.ensures.met))
 
 pub loop-first-smaller-in-Setting : goal.loop-first-smaller-in-Setting
 loop-first-smaller-in-Setting g c =
     let i = c.loop-first.invariant in
-    let (before, behind, b, begins) = c.requires.begins in
-    let so = i.so_far before behind b begins in
-    let (tag, puts, is) = c.in-Setting.ensures.met in
-    let n = so_read so (same_octets i.steps.3) (record { item = known.Tag tag; len = c.in-Setting.len }) is in
-    let on = so_advances so n (c.loop-first.at + c.in-Setting.len) refl in
-    omega (arith, on)
+    let (layer, page, plane, d) = c.requires.page in
+    omega (arith, c.in-Setting.ensures.some, read_within (set_behind (i.so_far layer page plane d) c.requires.sound (same_octets i.steps.3) c.in-Setting.len c.meet.new.state c.in-Setting.ensures.met))
 
 pub loop-first-preserved-in-Setting : goal.loop-first-preserved-in-Setting
 loop-first-preserved-in-Setting g c =
     let i = c.loop-first.invariant in
     let octets : c.meet.new.source.octets ≡ c.args.source.now.octets = same_octets c.in-Setting.ensures.steps.3 ∙ same_octets i.steps.3 in
+    let goes : GoesBehind c.loop-first.cursor c.loop-first.at c.in-Setting.len c.meet.new.state c.if-cursor-at.cursor = elim c.if-cursor-at.branch [
+      | then-cursor-at w ↦ inl (w.if-cursor-at.true, w.cursor-is)
+      | else-cursor-at w ↦ inr (w.if-cursor-at.false, w.cursor-is)
+    ] in
+    let (stays, begins, forward) = moved_on c.loop-first.cursor c.if-cursor-at.cursor c.loop-first.at c.in-Setting.len c.meet.new.state goes i.forward c.in-Setting.ensures.some in
     record {
-      so_far = λ before behind b begins.
-          let so = i.so_far before behind b begins in
-          setting_read so c.requires.sound (same_octets i.steps.3) c.in-Setting.len c.meet.new.state c.in-Setting.ensures.met;
-      forward = omega (arith, i.forward);
-      first = c.read-first.ensures.octet ∙ ap (λ o. slice_get o (c.loop-first.at + c.in-Setting.len)) octets;
-      item = tt;
-      few = omega (arith, i.few, i.forward, c.in-Setting.ensures.known);
-      steps = steps_within c.args.source.now (steps_then c.args.source.now (steps_then c.args.source.now i.steps c.in-Setting.ensures.steps) (steps_of c.meet.new.source c.read-first.ensures.step)) (omega arith)
-          (omega (arith, i.few, i.forward, c.in-Setting.ensures.known, c.in-Setting.ensures.some));
-    }
-
-pub end_area-requires-then-begins_area : goal.end_area-requires-then-begins_area
-end_area-requires-then-begins_area g c =
-    let (before, behind, b, begins) = c.requires.begins in
-    let so = met_stays (c.loop-first.invariant.so_far before behind b begins) c.meet.new.state c.in-Item.ensures.met.0 in
-    record { below = read_below c.requires.sound so.read; known = read_lines c.requires.sound so.read }
-
-pub returns-then-begins_area : goal.returns-then-begins_area
-returns-then-begins_area g c =
-    let i = c.loop-first.invariant in
-    let e = c.end_area-then-begins_area.ensures in
-    let (same, is) = c.in-Item.ensures.met in
-    let next : item_steps c.end_area-then-begins_area.new.read.next ≡ 9 * c.in-Item.next.len - 9 = ap item_steps e.end.1 in
-    record {
-      read = λ before behind b begins.
-          let so' = met_stays (i.so_far before behind b begins) c.meet.new.state same in
-          let first = is (items_of (before ++ so'.pieces)) (items_of so'.left) (placed_in so' (same_octets i.steps.3)) in
-          area_read so' c.requires.kind c.args.cursor.now c.end_area-then-begins_area.new.read b.placed.place (area_ended so' c.in-Item.next first (sym c.begins_area.ensures ∙ c.if-begins_area.true))
-          (all_counted so' c.requires.sound c.end_area-then-begins_area.new.read.lines e.known) e.end.0 (subst (λ n. IsFirst (items_of so'.left) n) (sym e.end.1) first);
-      known = omega (arith, i.few, next, c.in-Item.ensures.known, e.end.0);
-      steps = steps_within c.args.source.now (steps_then c.args.source.now i.steps c.in-Item.ensures.steps) (omega arith) (omega (arith, i.few, next, c.in-Item.ensures.known, e.end.0));
+      so_far = λ layer page plane d. set_passed (i.so_far layer page plane d) c.requires.sound (same_octets i.steps.3) c.in-Setting.len c.meet.new.state c.in-Setting.ensures.met c.if-cursor-at.cursor i.stays goes;
+      stays = stays;
+      begins = omega (arith, i.begins, begins);
+      forward = forward;
+      first = c.read-first-in-Setting.ensures.octet ∙ ap (λ o. slice_get o (c.loop-first.at + c.in-Setting.len)) octets;
+      none = i.none;
+      steps = steps_within c.args.source.now (steps_then c.args.source.now (steps_then c.args.source.now i.steps c.in-Setting.ensures.steps) (steps_of c.meet.new.source c.read-first-in-Setting.ensures.step)) (omega arith)
+          (omega (arith, i.begins, i.forward, c.in-Setting.ensures.some));
     }
 
 pub pass_item-requires-clause-known : goal.pass_item-requires-clause-known
 pass_item-requires-clause-known g c =
     let i = c.loop-first.invariant in
-    let (before, behind, b, begins) = c.requires.begins in
-    let (so, n) = so_met (i.so_far before behind b begins) (same_octets i.steps.3) c.in-Item.next c.meet.new.state c.in-Item.ensures.met in
-    (items_of (before ++ so.pieces), n.piece.item, so.read, so_next so n)
+    let (layer, page, plane, d) = c.requires.page in
+    let r = i.so_far layer page plane d in
+    let (so, n) = so_met r.so (same_octets i.steps.3) c.in-Item.next c.meet.new.state c.in-Item.ensures.met in
+    (items_of (r.drawn.before ++ so.pieces), n.piece.item, so.read, so_next so n)
 
-pub go_on-requires : goal.go_on-requires
-go_on-requires g c =
+pub overflow_add-at-in-Item-2 : goal.overflow_add-at-in-Item-2
+overflow_add-at-in-Item-2 g c =
     let i = c.loop-first.invariant in
-    let (before, behind, b, begins) = c.requires.begins in
-    let (so, n) = so_met (i.so_far before behind b begins) (same_octets i.steps.3) c.in-Item.next c.meet.new.state c.in-Item.ensures.met in
-    let r = c.pass_item.ensures.known (items_of (before ++ so.pieces)) n.piece.item so.read (so_next so n) in
-    let octets : c.pass_item.new.source.octets ≡ c.args.source.now.octets = same_octets c.pass_item.ensures.steps.3 ∙ same_octets c.in-Item.ensures.steps.3 ∙ same_octets i.steps.3 in
+    let (layer, page, plane, d) = c.requires.page in
+    let r = i.so_far layer page plane d in
+    let (so, n) = so_met r.so (same_octets i.steps.3) c.in-Item.next c.meet.new.state c.in-Item.ensures.met in
+    omega (arith, so_advances so n (c.loop-first.at + c.in-Item.next.len) refl, read_within r)
+
+pub loop-first-smaller-then-this-ne0 : goal.loop-first-smaller-then-this-ne0
+loop-first-smaller-then-this-ne0 g c =
+    let i = c.loop-first.invariant in
+    let (layer, page, plane, d) = c.requires.page in
+    let (so, n) = so_met (i.so_far layer page plane d).so (same_octets i.steps.3) c.in-Item.next c.meet.new.state c.in-Item.ensures.met in
+    omega (arith, so_advances so n (c.loop-first.at + c.in-Item.next.len) refl)
+
+pub loop-first-preserved-then-this-ne0 : goal.loop-first-preserved-then-this-ne0
+loop-first-preserved-then-this-ne0 g c =
+    let i = c.loop-first.invariant in
+    let (layer, page, plane, d) = c.requires.page in
+    let same = same_octets i.steps.3 in
+    let octets : c.pass_item.new.source.octets ≡ c.args.source.now.octets = same_octets c.pass_item.ensures.steps.3 ∙ same_octets c.in-Item.ensures.steps.3 ∙ same in
     record {
-      small = (ready_state (not (g.row.WORDS == 0)) c.pass_item.new.kept (read_ready c.requires.sound r), omega (arith, ap length octets, b.placed.accepted.short));
-      limited = λ off. limited_of (not (g.row.WORDS == 0)) off c.args.sign.now c.pass_item.new.kept _ r.of;
-      behind = λ is off. c.pass_item.ensures.behind (c.is_octet.ensures.octet is) off;
-      within = omega (arith, (so_advances so n (c.loop-first.at + c.in-Item.next.len) refl).1, ap length octets);
+      so_far = λ layer page plane d. item_read (i.so_far layer page plane d) same c.in-Item.next c.meet.new.state c.in-Item.ensures.met (sym c.begins_area.ensures ∙ c.if-begins_area.false) c.pass_item.new.kept c.pass_item.new.lines c.pass_item.ensures.known;
+      stays = λ to. absurd (omega (arith, to, i.forward, c.in-Item.ensures.some));
+      begins = i.begins;
+      forward = omega (arith, i.forward);
+      first = c.read-first-then-this-ne0.ensures.octet ∙ ap (λ o. slice_get o (c.loop-first.at + c.in-Item.next.len)) octets;
+      none = i.none;
+      steps = steps_within c.args.source.now (steps_then c.args.source.now (steps_then c.args.source.now (steps_then c.args.source.now i.steps c.in-Item.ensures.steps) c.pass_item.ensures.steps) (steps_of c.pass_item.new.source c.read-first-then-this-ne0.ensures.step))
+          (omega arith) (omega (arith, i.begins, i.forward, c.in-Item.ensures.some));
     }
+
+pub unreachable-requires : goal.unreachable-requires
+unreachable-requires g c =
+    let i = c.loop-first.invariant in
+    let (layer, page, plane, d) = c.requires.page in
+    let r = item_read (i.so_far layer page plane d) (same_octets i.steps.3) c.in-Item.next c.meet.new.state c.in-Item.ensures.met (sym c.begins_area.ensures ∙ c.if-begins_area.false) c.pass_item.new.kept c.pass_item.new.lines c.pass_item.ensures.known in
+    font_known (read_state c.requires.sound r.so.read) (rw (← c.sign.view_is) (sym c.cells.ensures.cells ∙ c.in_default-cells.is))
+
+pub go_along-requires-clause-limited : goal.go_along-requires-clause-limited
+go_along-requires-clause-limited g c =
+    let i = c.loop-first.invariant in
+    let (layer, page, plane, d) = c.requires.page in
+    let r = item_read (i.so_far layer page plane d) (same_octets i.steps.3) c.in-Item.next c.meet.new.state c.in-Item.ensures.met (sym c.begins_area.ensures ∙ c.if-begins_area.false) c.pass_item.new.kept c.pass_item.new.lines c.pass_item.ensures.known in
+    limited_of (not (g.row.WORDS == 0)) (ap (λ n. not (n == 0)) c.if-this-ne0.false) c.args.sign.now c.pass_item.new.kept _ r.so.read.of
+
+pub go_along-requires-clause-small : goal.go_along-requires-clause-small
+go_along-requires-clause-small g c =
+    let i = c.loop-first.invariant in
+    let (layer, page, plane, d) = c.requires.page in
+    let same = same_octets i.steps.3 in
+    let r = item_read (i.so_far layer page plane d) same c.in-Item.next c.meet.new.state c.in-Item.ensures.met (sym c.begins_area.ensures ∙ c.if-begins_area.false) c.pass_item.new.kept c.pass_item.new.lines c.pass_item.ensures.known in
+    let octets = same_octets c.cells.ensures.step ∙ same_octets c.pass_item.ensures.steps.3 ∙ same_octets c.in-Item.ensures.steps.3 ∙ same in
+    (ready_state (not (g.row.WORDS == 0)) c.pass_item.new.kept (read_ready c.requires.sound r.so.read), omega (arith, ap length octets, read_within r))
+
+pub go_along-requires-clause-within : goal.go_along-requires-clause-within
+go_along-requires-clause-within g c =
+    let i = c.loop-first.invariant in
+    let (layer, page, plane, d) = c.requires.page in
+    let same = same_octets i.steps.3 in
+    let r = item_read (i.so_far layer page plane d) same c.in-Item.next c.meet.new.state c.in-Item.ensures.met (sym c.begins_area.ensures ∙ c.if-begins_area.false) c.pass_item.new.kept c.pass_item.new.lines c.pass_item.ensures.known in
+    let octets = same_octets c.cells.ensures.step ∙ same_octets c.pass_item.ensures.steps.3 ∙ same_octets c.in-Item.ensures.steps.3 ∙ same in
+    omega (arith, ap length octets, read_within r)
 
 pub loop-first-preserved : goal.loop-first-preserved
 loop-first-preserved g c =
     let i = c.loop-first.invariant in
-    let octets : c.pass_item.new.source.octets ≡ c.args.source.now.octets = same_octets c.pass_item.ensures.steps.3 ∙ same_octets c.in-Item.ensures.steps.3 ∙ same_octets i.steps.3 in
-    let at = c.loop-first.at + c.in-Item.next.len in
-    let gone = subst (λ o. GoesOn (not (g.row.WORDS == 0)) c.args.sign.now o at c.pass_item.new.kept c.go_on.result.0 c.go_on.new.kept) octets c.go_on.ensures.gone in
-    let on = gone_forward at c.go_on.result.0 c.pass_item.new.kept c.go_on.new.kept gone in
-    let met = steps_then c.args.source.now i.steps c.in-Item.ensures.steps in
-    let passed = steps_gone c.meet.new.source at c.go_on.result.0 c.is_octet.result c.pass_item.ensures.steps (λ is. c.pass_item.ensures.octet (c.is_octet.ensures.octet is)) c.go_on.ensures.steps in
+    let start = c.args.source.now in
+    let same = same_octets i.steps.3 in
+    let octets : c.cells.new.source.octets ≡ start.octets = same_octets c.cells.ensures.step ∙ same_octets c.pass_item.ensures.steps.3 ∙ same_octets c.in-Item.ensures.steps.3 ∙ same in
+    let is = c.is_octet.ensures.octet c.if-not-is_octet.false in
+    let off : not (g.row.WORDS == 0) ≡ false = ap (λ n. not (n == 0)) c.if-this-ne0.false in
+    let run = subst (λ o. IsRunPassed c.args.sign.now o (c.loop-first.at + c.in-Item.next.len) c.pass_item.new.kept.state c.go_along.result.0 c.go_along.new.state) octets c.go_along.ensures.run in
     record {
-      so_far = λ before behind b begins.
-          let (so, n) = so_met (i.so_far before behind b begins) (same_octets i.steps.3) c.in-Item.next c.meet.new.state c.in-Item.ensures.met in
-          let plain = sym c.begins_area.ensures ∙ c.if-begins_area.false in
-          let more = read_on so n at refl plain c.pass_item.new.kept c.pass_item.new.lines (c.pass_item.ensures.known (items_of (before ++ so.pieces)) n.piece.item so.read (so_next so n)) in
-          went_on c.requires.sound (omega (arith, b.placed.accepted.short)) at c.go_on.result.0 c.pass_item.new.kept c.go_on.new.kept c.pass_item.new.lines more gone;
-      forward = omega (arith, i.forward, on);
-      first = c.go_on.ensures.next ∙ ap (λ o. slice_get o c.go_on.result.0) octets;
-      item = tt;
-      few = omega (arith, i.few, i.forward, on, c.in-Item.ensures.known);
-      steps = steps_within c.args.source.now (steps_then c.args.source.now met passed) (omega arith) (omega (arith, i.few, i.forward, on, c.in-Item.ensures.known, c.in-Item.ensures.some));
+      so_far = λ layer page plane d.
+          let r = item_read (i.so_far layer page plane d) same c.in-Item.next c.meet.new.state c.in-Item.ensures.met (sym c.begins_area.ensures ∙ c.if-begins_area.false) c.pass_item.new.kept c.pass_item.new.lines c.pass_item.ensures.known in
+          record {
+            drawn = r.drawn;
+            so = run_gone off c.requires.sound (omega (arith, read_within r)) (c.loop-first.at + c.in-Item.next.len) c.go_along.result.0 c.pass_item.new.kept c.go_along.new.state c.pass_item.new.lines (c.pass_item.ensures.behind is off) r.so run;
+          };
+      stays = λ to. absurd (omega (arith, to, run.forward, i.forward, c.in-Item.ensures.some));
+      begins = i.begins;
+      forward = omega (arith, run.forward, i.forward);
+      first = c.go_along.ensures.next ∙ ap (λ o. slice_get o c.go_along.result.0) octets;
+      none = i.none;
+      steps = steps_within start (steps_then start (steps_then start (steps_then start (steps_then start i.steps c.in-Item.ensures.steps) (steps_of c.meet.new.source (c.pass_item.ensures.octet is))) (steps_of c.pass_item.new.source c.cells.ensures.step)) c.go_along.ensures.steps)
+          (omega arith) (omega (arith, run.forward, i.begins, i.forward, c.in-Item.ensures.some));
     }
+
+pub end_group-requires : goal.end_group-requires
+end_group-requires g c =
+    let i = c.loop-first.invariant in
+    let words = not (g.row.WORDS == 0) in
+    let (layer, page, plane, d) = c.requires.page in
+    let r = i.so_far layer page plane d in
+    let last : IsReadFrom words c.args.sign.now c.args.source.now.octets layer page plane c.loop-first.cursor c.loop-first.at c.match-first.kept c.match-first.read.lines = elim c.match-first.branch [
+      | in-Some+in-Item w ↦ rw (w.kept-is, w.read-is) (record { drawn = r.drawn; so = met_stays r.so w.meet.new.state w.in-Item.ensures.met.0 })
+      | in_default w ↦ rw (w.kept-is, w.read-is) r
+    ] in
+    read_lines c.requires.sound {items = items_of (last.drawn.before ++ last.so.pieces)} last.so.read
+
+pub returns-clause-read : goal.returns-clause-read
+returns-clause-read g c = λ layer page plane d.
+    let i = c.loop-first.invariant in
+    let same = same_octets i.steps.3 in
+    let words = not (g.row.WORDS == 0) in
+    let r = i.so_far layer page plane d in
+    let to : IsReadTo words c.args.sign.now c.args.source.now.octets layer page plane c.loop-first.cursor c.loop-first.at c.match-first.kept c.match-first.read.lines c.match-first.read.next = elim c.match-first.branch [
+      | in-Some+in-Item w ↦ rw (w.kept-is, w.read-is) (ends_at r same w.in-Item.next w.meet.new.state w.in-Item.ensures.met (sym w.begins_area.ensures ∙ w.if-begins_area.true))
+      | in_default w ↦ rw (w.kept-is, w.read-is, i.none) (ends_string r (sym i.first ∙ w.in_default.is))
+    ] in
+    area_begins _ to c.requires.sound c.requires.kind c.end_group.ensures.known refl
+
+pub returns-clause-steps : goal.returns-clause-steps
+returns-clause-steps g c =
+    let i = c.loop-first.invariant in
+    let start = c.args.source.now in
+    let most = 9 * (c.loop-first.at - c.args.cursor.now.at) + 1 + item_steps c.match-first.read.next in
+    elim c.match-first.branch [
+      | in-Some+in-Item w ↦ subst (λ s. RisesBetween start s 0 most) (sym w.source-is) (steps_within start (steps_then start i.steps w.in-Item.ensures.steps) (omega arith) (omega (arith, ap (λ (r : AreaLines). item_steps r.next) w.read-is)))
+      | in_default w ↦ subst (λ s. RisesBetween start s 0 most) (sym w.source-is) (steps_within start i.steps (omega arith) (omega arith))
+    ]

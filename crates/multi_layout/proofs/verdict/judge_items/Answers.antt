@@ -47,7 +47,7 @@ loop-next-preserved-then-is_bracket g c =
     let sign = c.args.sign.now in
     let words = not (g.row.WORDS == 0) in
     let spelled = c.in-Ok.spelled in
-    let (fine, of) = c.in_default-judge_item.ensures.judged (map meaning r.items) r.is in
+    let (fine, of, apart, on) = c.in_default-judge_item.ensures.judged (map meaning r.items) r.is in
     item_behind sign c.args.source.now.octets l.at c.in-Some.first (IsPassOf words sign l.pass) l.source i c.requires.short
     spelled.len (meant_by spelled.item) (subst (λ (os : List ℕ). IsItemAt os l.at spelled.len (meant_by spelled.item)) l.invariant.same c.in-Ok.ensures.item) c.judge_item.new.source
     (steps_of l.source c.in-Ok.ensures.item c.in-Ok.ensures.steps c.judge_item.ensures.steps)
@@ -75,7 +75,7 @@ judge_run-requires-clause-behind g c =
     let r = i.so_far in
     let sign = c.args.sign.now in
     let words = not (g.row.WORDS == 0) in
-    let (fine, of) = c.in_default-judge_octet.ensures.judged sign (rw (← c.sign.view_is) c.in-Some-cells.ensures.widths) (map meaning r.items) r.is in
+    let (fine, of, apart, on) = c.in_default-judge_octet.ensures.judged sign (rw (← c.sign.view_is) c.in-Some-cells.ensures.widths) (map meaning r.items) r.is in
     octet_behind sign c.args.source.now.octets l.at c.in-Some.first (IsPassOf words sign l.pass) l.source i c.requires.short
     (no_bracket c.in-Some.first (sym c.is_bracket.ensures ∙ c.if-is_bracket.false)) c.judge_octet.new.source (c.judge_octet.ensures.step ∙ ap (λ (s : Counted). charged s 1) c.cells.ensures.step ∙ charged-charged l.source 1 1)
     (IsPassOf words sign c.judge_octet.new.self) fine of

@@ -1,4 +1,4 @@
-use Rattle.multi_layout.proofs.Common.{false, true, [], subst, sym, ◌∙◌, IsTold, IsStateOf}
+use Rattle.multi_layout.proofs.Common.{false, true, [], subst, sym, ◌∙◌, IsStateOf}
 use Rattle.multi_judge.specs.State.{IsLimited}
 use Rattle.multi_layout.proofs.AtLemmas.{pass_told}
 use Rattle.multi_judge.proofs.ReadLemmas.{pass_start}

@@ -23,7 +23,6 @@ returns c =
             omega (arith, moved.1, cond_most (2 == area.present) (kept_height area.group) area.top (k + 1024) (omega (arith, ended.kept, ended.below, below.group.closed)) (omega (arith, below.top))),
             omega (arith, moved.2, cond_most (3 == area.present) (kept_height area.group) area.middle (k + 1024) (omega (arith, ended.kept, ended.below, below.group.closed)) (omega (arith, below.middle))),
             rw moved.3 (record { ended = omega arith; closed = omega arith; line = record { left = omega arith; centre = omega arith; right = omega arith; part = record { width = omega arith; count = omega arith }; known = omega arith } }),
-            rw moved.3 (λ none. (refl, refl)),
           );
           present = moved.0;
           stays = λ same. absurd (c.requires.other same);

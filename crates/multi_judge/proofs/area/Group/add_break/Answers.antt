@@ -1,14 +1,19 @@
-use Rattle.multi_judge.proofs.Lemmas.{◌≡◌, refl, ◌∙◌, rules, cond, group_break}
+use Rattle.multi_judge.proofs.Lemmas.{◌≡◌, ◌+◌, ℕ, Some, true, refl, ap, ◌∙◌, arith, rules, cond, option_map_or, unwrap_or, average, Group, kept_height, group_break}
 use Rattle.multi_judge.proofs.area.Group.add_break.Goals as goal
-use Rattle.multi_judge.proofs.area.Group.add_break.Goals.{then-self, else-self}
+use Rattle.multi_judge.proofs.area.Group.add_break.Goals.{then-not-self, else-not-self}
 
 pub returns-clause-sum : goal.returns-clause-sum
 returns-clause-sum c group s placing e is =
-    let line = c.args.self.now.line in
+    let self = c.args.self.now in
+    let line = c.if-not-self.self.line in
     let info = c.args.font.now in
-    let ended : (c.if-self.height.0 ≡ cond line.any line.height info.height) × (c.if-self.height.1 ≡ cond line.any line.spacing info.line_spacing) = elim c.if-self.branch [
-      | then-self w ↦ rw (w.height-is, w.if-self.true) (refl, refl)
-      | else-self w ↦ rw (w.height-is, w.if-self.false) (refl, refl)
+    let (same, any, height, spacing) : (c.if-not-self.self ≡ record self { line = line }) × (line.any ≡ true) × (line.height ≡ cond self.line.any self.line.height info.height) × (line.spacing ≡ cond self.line.any self.line.spacing info.line_spacing) = elim c.if-not-self.branch [
+      | then-not-self w ↦ rw (w.self-is, w.if-not-self.true) (refl, refl, refl, refl)
+      | else-not-self w ↦ rw (w.self-is, w.if-not-self.false) (refl, refl, refl, refl)
     ] in
-    group_break group s c.args.gap info placing is c.args.self.now c.default-self.result c.from.result c.from-2.result c.if-self.height.1 e (search rules)
-    (c.from.ensures ∙ c.gap.ensures) (c.from-2.ensures ∙ ended.0) ended.1
+    let gap = option_map_or (λ ended. unwrap_or ended.gap (average ended.spacing line.spacing)) self.last 0 in
+    let closed : c.height-self.result ≡ self.closed + (gap + line.height) = omega (arith, c.height-self.ensures.kept ∙ ap kept_height same ∙ ap {B = ℕ} (λ b. cond b (self.closed + gap + line.height) self.closed) any) in
+    let ended : ◌≡◌ {A = Group} (record { ended = c.if-not-self.self.ended + 1; closed = c.height-self.result; last = Some (record { gap = c.args.gap; spacing = line.spacing }); line = c.default-self.result })
+    (record { ended = self.ended + 1; closed = self.closed + (gap + line.height); last = Some (record { gap = c.args.gap; spacing = line.spacing }); line = c.default-self.result }) =
+    λ i. record { ended = (same i).ended + 1; closed = closed i; last = Some (record { gap = c.args.gap; spacing = line.spacing }); line = c.default-self.result } in
+    ended ∙ group_break group s c.args.gap info placing is self c.default-self.result gap line.height line.spacing e (search rules) refl height spacing

@@ -1,8 +1,16 @@
-use Rattle.multi_judge.proofs.Lemmas.{◌∙◌, height_ended, height_present}
+use Rattle.multi_judge.proofs.Lemmas.{◌≡◌, true, false, rules, ◌∙◌, option_map_or, unwrap_or, average, height_ended, height_present}
 use Rattle.multi_judge.proofs.area.Group.height.Goals as goal
+use Rattle.multi_judge.proofs.area.Group.height.Goals.{in-Some, in-None}
 
 pub returns-then-not-self-clause-sum : goal.returns-then-not-self-clause-sum
-returns-then-not-self-clause-sum c group placing e = height_ended group placing c.args.self e c.if-not-self.true
+returns-then-not-self-clause-sum c group placing e = let none : c.args.self.line.any ≡ false = search rules in height_ended group placing c.args.self e none
 
 pub returns-clause-sum : goal.returns-clause-sum
-returns-clause-sum c group placing e = height_present group placing c.args.self e c.if-not-self.false c.from.result c.from-2.result (c.from.ensures ∙ c.gap.ensures) c.from-2.ensures
+returns-clause-sum c group placing e =
+    let self = c.args.self in
+    let gap : c.match-self.gap ≡ option_map_or (λ ended. unwrap_or ended.gap (average ended.spacing self.line.spacing)) self.last 0 = elim c.match-self.branch [
+      | in-Some w ↦ rw w.in-Some.is (w.gap-is ∙ w.gap_or_average-gap.ensures)
+      | in-None w ↦ rw w.in-None.is w.gap-is
+    ] in
+    let some : self.line.any ≡ true = search rules in
+    height_present group placing self e some c.from.result c.from-2.result (c.from.ensures ∙ gap) c.from-2.ensures

@@ -1,11 +1,11 @@
-use Rattle.multi_judge.proofs.Lemmas.{◌≡◌, ◌<◌, [], rules, nat_tests, option_map_or, unwrap_or, average, ◌≤◌, ◌||◌, max, ap, ◌∙◌, refl, arith, nat_lt, line_number, line_sum, segment_sum, kept_width, in_order, segment_own, line_with, no_character, turned}
+use Rattle.multi_judge.proofs.Lemmas.{◌≡◌, ◌<◌, [], rules, nat_tests, option_map_or, unwrap_or, average, ◌≤◌, ◌||◌, max, ap, ◌∙◌, refl, arith, nat_lt, line_number, segment_sum, kept_width, in_order, segment_own, line_with, no_character, turned}
 use Rattle.multi_judge.proofs.line.Line.add.Goals as goal
 use Rattle.multi_judge.proofs.line.Line.add.Goals.{in-Some, in-None, then-just-self+in-2, then-just-self+in-3, then-just-self+in-4, then-just-self+in_default, else-just-self}
 
 pub returns-then-not-self-clause-sum : goal.returns-then-not-self-clause-sum
 returns-then-not-self-clause-sum c line s glyphs is e none =
     let empty = no_character line c.args.self.now glyphs e c.if-not-self.true in
-    rw empty (c.begin.ensures.sum s is (e ∙ ap line_sum empty))
+    rw (empty, e) (search rules)
 
 pub returns-clause-sum : goal.returns-clause-sum
 returns-clause-sum c line s glyphs is e none =

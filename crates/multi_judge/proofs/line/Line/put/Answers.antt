@@ -1,4 +1,4 @@
-use Rattle.multi_judge.proofs.Lemmas.{◌∙◌, ap, refl, sym, line_sum, line_clashes, no_character}
+use Rattle.multi_judge.proofs.Lemmas.{◌∙◌, refl, sym, false≢true, line_clashes, no_character}
 use Rattle.multi_judge.proofs.line.Line.put.Goals as goal
 
 pub returns-then-not-self-clause-apart : goal.returns-then-not-self-clause-apart
@@ -6,10 +6,8 @@ returns-then-not-self-clause-apart c line s glyphs e just = rw (no_character lin
 
 pub returns-then-not-self-clause-put : goal.returns-then-not-self-clause-put
 returns-then-not-self-clause-put c = λ is. record {
-  sum = λ line s glyphs own e apart.
-      let empty = no_character line c.args.self.now glyphs e c.if-not-self.true in
-      rw empty (c.begin.ensures.sum s own (e ∙ ap line_sum empty));
-  behind = c.begin.ensures.behind;
+  sum = c.add.ensures.sum;
+  behind = c.add.ensures.behind (λ any. absurd (false≢true (sym c.if-not-self.true ∙ any)));
 }
 
 pub returns-then-just-self-clause-apart : goal.returns-then-just-self-clause-apart

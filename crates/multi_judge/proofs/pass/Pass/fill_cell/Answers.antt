@@ -1,25 +1,26 @@
-use Rattle.multi_judge.proofs.Lemmas.{LineJust, line_clashes, ◌≡◌, ◌||◌, ◌&&◌, ◌==◌, List, list_any, nat_lt, line_number, Spot, clashes, Order, order_sum, None, ap, cond, sym, ◌∙◌, Option, ℕ, Some, LineFill, cell_in, Shows, offence, filled_conflict, filled_free, cell_of_width}
+use Rattle.multi_judge.proofs.Lemmas.{rules, ◌^◌, page_number_known, ap, arith, sym, ◌∙◌, LineFill, cell_in, Shows, offence, filled_conflict, cell_below, cell_of_width, cell_put, clash_by, reached_below}
+use Rattle.multi_judge.proofs.PassedLemmas.{IsSplitReached}
 use Rattle.multi_judge.proofs.pass.Pass.fill_cell.Goals as goal
+use Rattle.multi_judge.proofs.pass.Pass.fill_cell.Goals.{then-page-present-2, else-page-present-2}
 
--- a character clashes by the order of those before it
-clash_by : (order : Order) (just : LineJust) (n : ℕ) → n ≡ line_number just → (line : List Spot) (s : Spot) → order ≡ order_sum line → s.at.line_just ≡ just → (nat_lt n order.largest || ((n == 5) && order.has_parts)) ≡ list_any (clashes s) line
-clash_by order just n is line s e j = rw (e, is, ← j) (sym (line_clashes line s))
-
-pub returns-then-page_just-present-clause-judged : goal.returns-then-page_just-present-clause-judged
-returns-then-page_just-present-clause-judged c = λ sign items is own.
-    let (cell, some, wide) = cell_of_width (cell_in sign c.args.self.now.state.attributes.font.number c.args.number) c.args.width (sym own) in
+pub returns-then-page-present-clause-put : goal.returns-then-page-present-clause-put
+returns-then-page-present-clause-put c = λ sign own items is.
+    let kept = c.args.self.now in
+    let (cell, some, wide) = cell_of_width (cell_in sign kept.state.attributes.font.number c.args.number) c.args.cell_width (sym own) in
     ap (λ (setting : LineFill). offence setting sign items (Shows c.args.number)) is.words
-    ∙ filled_conflict sign items c.args.self.now is.of c.args.number cell some _ (clash_by c.args.self.now.order c.args.self.now.state.attributes.line_just c.number-just.result c.number-just.ensures.number) (rw c.number-page_just.ensures.number at c.if-page_just-present.true)
+    ∙ filled_conflict sign items kept is.of c.args.number cell some _ (clash_by kept.order kept.state.attributes.line_just c.number-just.result c.number-just.ensures.number) (rw c.number-page.ensures.number at c.if-page-present.true)
 
-pub returns-then-fits-clause-judged : goal.returns-then-fits-clause-judged
-returns-then-fits-clause-judged c = λ sign items is own.
-    let (cell, some, wide) = cell_of_width (cell_in sign c.args.self.now.state.attributes.font.number c.args.number) c.args.width (sym own) in
-    let put = c.put_filled.ensures.put sign items is own (filled_free sign items c.args.self.now is.of c.args.number cell some _ (clash_by c.args.self.now.order c.args.self.now.state.attributes.line_just c.number-just.result c.number-just.ensures.number) (rw c.number-page_just.ensures.number at c.if-page_just-present.false)) in
-    let told = sym c.fits.ensures ∙ c.if-fits.true in
-    (put.size ∙ ap {B = Option ℕ} (λ b. cond b None (Some 5)) told, (put.passed told).of)
+pub fill_character-requires-clause-below : goal.fill_character-requires-clause-below
+fill_character-requires-clause-below c =
+    (reached_below c.reach.ensures.reached (page_number_known c.args.self.now.state.attributes.page_just) (2 ^ 62) c.requires.ready.state.below).2
 
-pub returns-else-fits-clause-judged : goal.returns-else-fits-clause-judged
-returns-else-fits-clause-judged c = λ sign items is own.
-    let (cell, some, wide) = cell_of_width (cell_in sign c.args.self.now.state.attributes.font.number c.args.number) c.args.width (sym own) in
-    let put = c.put_filled.ensures.put sign items is own (filled_free sign items c.args.self.now is.of c.args.number cell some _ (clash_by c.args.self.now.order c.args.self.now.state.attributes.line_just c.number-just.result c.number-just.ensures.number) (rw c.number-page_just.ensures.number at c.if-page_just-present.false)) in
-    put.size ∙ ap {B = Option ℕ} (λ b. cond b None (Some 5)) (sym c.fits.ensures ∙ c.if-fits.false)
+pub returns-clause-put : goal.returns-clause-put
+returns-clause-put c = λ sign own items is.
+    let parts : IsSplitReached c.args.self.now c.if-page-present-2.split = first_of (search (rules), grind (arith)) in
+    cell_put c.args.self.now _ _ _ c.reach.ensures.reached c.if-page-present-2.split parts c.fill_character.new.self c.fill_character.new.split c.fill_character.ensures.grows sign items is c.args.number c.args.cell_width own
+    c.number-page.result c.number-just.result c.number-page.ensures.number c.number-just.ensures.number c.if-page-present.false _ c.fill_character.ensures.most c.fill_character.result c.character-character.result c.character-character.ensures c.fill_character.ensures.sum
+
+pub returns-clause-below : goal.returns-clause-below
+returns-clause-below c =
+    let parts : IsSplitReached c.args.self.now c.if-page-present-2.split = first_of (search (rules), grind (arith)) in
+    (cell_below c.args.self.now _ _ _ c.reach.ensures.reached c.if-page-present-2.split parts c.fill_character.new.self c.fill_character.new.split c.fill_character.ensures.grows (2 ^ 62) c.requires.ready.state.below c.requires.ready.split).0

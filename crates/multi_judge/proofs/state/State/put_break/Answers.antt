@@ -23,7 +23,7 @@ returns-clause-added c = λ is.
           let on = goes.sum area placing e in
           area_with area s here (ap page_number page) state.area e order c.reach.new.self _ on refl refl refl
           (ended.sum (in_group here area) s (placing_group here area placing) (ap (λ (a : Area). a.group) on) own ∙ ap group_sum (sym (own_group here area s (ap page_number page))));
-      grows = λ k below. regrouped_below c.reach.ensures.reached (page_number_known state.attributes.page_just) k below c.add_break.new.self (ended.grows k) ended.bare;
+      grows = λ k below. regrouped_below c.reach.ensures.reached (page_number_known state.attributes.page_just) k below c.add_break.new.self (ended.grows k);
       present = λ order. goes.present;
       none = ended.none;
       same = refl;
