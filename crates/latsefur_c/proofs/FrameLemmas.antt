@@ -3,7 +3,7 @@ use Rattle.std.proofs.Common.{◌≡◌, ℕ, ◌+◌, ◌*◌, ◌<◌, ◌≤�
 use Rattle.std.specs.Prelude.{take}
 use Rattle.page_plane.specs.Octets.{is_bit_set, row_octets}
 use Rattle.page_plane.specs.Plane.{BitPlane, is_lit}
-use Rattle.multi_meaning.specs.Drawn.{Lights}
+use Rattle.multi_meaning.specs.Picture.{Lights}
 use Rattle.latsefur_c.specs.Drawn.{HoldsPlane}
 use Rattle.latsefur_c.specs.Framed.{StandsInFront}
 use Rattle.latsefur_c.proofs.RowLemmas.{no_rows, one_row_more}

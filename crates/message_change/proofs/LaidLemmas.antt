@@ -9,8 +9,7 @@ use Rattle.sign_font.specs.Sign.{CellData, SignData, cell_numbered}
 use Rattle.multi_meaning.specs.Address.{Break, Cover, Glyph, Put, Spot, Standing, is_break, spot_at, spots, standing}
 use Rattle.multi_meaning.specs.Attributes.{given_flash}
 use Rattle.multi_meaning.specs.declared.attributes.FlashTimes.{FlashTimes}
-use Rattle.multi_meaning.specs.Laid.{laid_spot}
-use Rattle.multi_meaning.specs.LaidItems.{laid_of, laid_out}
+use Rattle.multi_meaning.specs.Laid.{laid_spot, laid_of, laid_out}
 use Rattle.multi_meaning.specs.Line.{given_gap}
 use Rattle.multi_meaning.specs.Meaning.{Does, Meaning, Shows, is_new_page}
 use Rattle.multi_meaning.specs.Words.{each_after, some_after}

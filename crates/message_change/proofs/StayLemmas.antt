@@ -9,7 +9,7 @@ use Rattle.sign_font.specs.Sign.{SignData, sized}
 use Rattle.multi_meaning.specs.Address.{Break, Cover, Glyph, Put, Spot, spots}
 use Rattle.multi_meaning.specs.declared.times.Shown.{Shown}
 use Rattle.multi_meaning.specs.declared.times.Shown.TheVariants.{Off, Page}
-use Rattle.multi_meaning.specs.LaidItems.{laid_out}
+use Rattle.multi_meaning.specs.Laid.{laid_out}
 use Rattle.multi_meaning.specs.Meaning.{Meaning, meanings}
 use Rattle.multi_meaning.specs.Picture.{in_plane, pixel_at, shown_colour, thing_at, things, things_among}
 use Rattle.multi_meaning.specs.Place.{place_of}

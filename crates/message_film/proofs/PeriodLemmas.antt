@@ -11,8 +11,7 @@ use Rattle.multi_meaning.specs.Address.{Spot, Standing, Put, Glyph, Break, Cover
 use Rattle.multi_meaning.specs.Attributes.{given_flash}
 use Rattle.multi_meaning.specs.declared.attributes.FlashTimes.{FlashTimes}
 use Rattle.multi_meaning.specs.declared.times.Shown.TheVariants.{Page}
-use Rattle.multi_meaning.specs.LaidItems.{laid_of, laid_out}
-use Rattle.multi_meaning.specs.Laid.{laid_spot}
+use Rattle.multi_meaning.specs.Laid.{laid_of, laid_out, laid_spot}
 use Rattle.multi_meaning.specs.Meaning.{Meaning, meanings}
 use Rattle.multi_meaning.specs.Picture.{in_plane, is_lit_at, pixel_at, shown_colour, thing_at, things, things_among}
 use Rattle.multi_meaning.specs.Place.{place_of}

@@ -3,9 +3,8 @@ use Rattle.std.proofs.Common.{◌≡◌, ℕ, ◌<◌, ◌==◌, Bool, false, Li
 use Rattle.std.proofs.lemmas.Bool.{cases_Bool, or_left}
 use Rattle.page_plane.specs.Plane.{BitPlane, is_lit}
 use Rattle.sign_font.specs.Sign.{SignData}
-use Rattle.multi_meaning.specs.Drawn.{Lights}
+use Rattle.multi_meaning.specs.Picture.{Lights, picture, pixel_at}
 use Rattle.multi_meaning.specs.Meaning.{meanings}
-use Rattle.multi_meaning.specs.Picture.{picture, pixel_at}
 use Rattle.multi_meaning.specs.Times.{page_times, shown}
 use Rattle.multi_meaning.specs.Verdict.{pages_of}
 use Rattle.multi_meaning.specs.declared.times.Shown.{Shown}

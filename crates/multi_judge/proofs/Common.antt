@@ -20,12 +20,15 @@ pub use Rattle.multi_meaning.proofs.WordLemmas.{largest_most, largest_push, filt
 pub use Rattle.multi_meaning.specs.Address.{Spot, is_glyph, is_break, area_of, in_group, line_before, segment, Break, Standing, in_area, Glyph, group_of, Cover, lines_of, Put}
 unfoldable pub use Rattle.multi_meaning.specs.Address.{spots, standing}
 pub use Rattle.multi_meaning.specs.Filling.{filled, CutAt, is_space, soft_break, cut_at_last, longer, dropped}
-pub use Rattle.multi_meaning.specs.Fit.{line_fits, area_fits, fit, FitsWithout, room_for}
-pub use Rattle.multi_meaning.specs.Laid.{too_big, laid}
-pub use Rattle.multi_meaning.specs.LaidItems.{laid_items, laid_item}
+pub use Rattle.multi_meaning.specs.Fit.{line_fits, fit}
+pub use Rattle.multi_meaning.specs.kept.Fits.{area_fits, FitsWithout, room_for}
+pub use Rattle.multi_meaning.specs.Laid.{too_big, laid_items, laid_item}
+pub use Rattle.multi_meaning.specs.kept.Places.{laid}
 pub use Rattle.multi_meaning.specs.Line.{char_gap, glyph_width, width_of, height_of, average, bearers, line_height, line_spacing, line_gap, given_gap}
-pub use Rattle.multi_meaning.specs.Meaning.{Meaning, Does, Shows, is_new_page, meaning, has_place, begins_area}
-pub use Rattle.multi_meaning.specs.Offence.{clashes, conflicts, offence, first_code, never_big, unsized_offence, character_cases, goes_back}
+pub use Rattle.multi_meaning.specs.Meaning.{Meaning, Does, Shows, is_new_page, meaning, begins_area}
+pub use Rattle.multi_meaning.specs.kept.Bounds.{has_place}
+pub use Rattle.multi_meaning.specs.Offence.{clashes, conflicts, offence, first_code, character_cases, goes_back}
+pub use Rattle.multi_meaning.specs.kept.Fine.{never_big, unsized_offence}
 unfoldable pub use Rattle.multi_meaning.specs.Offence.{offence_by}
 pub use Rattle.multi_meaning.specs.Times.{Times, cycle, ended_times, times_at}
 pub use Rattle.multi_meaning.specs.Verdict.{pages_of, Accepted, IsCycle, IsVerdict, Refused, broken, of_first, verdict}

@@ -8,7 +8,7 @@ use Rattle.sign_font.specs.Sign.{SignData}
 use Rattle.multi_meaning.specs.Address.{in_group, is_break, standing}
 use Rattle.multi_meaning.specs.Filling.{filled}
 use Rattle.multi_meaning.specs.kept.FillOpen.{AllOpenFit}
-use Rattle.multi_meaning.specs.LaidItems.{laid_items}
+use Rattle.multi_meaning.specs.Laid.{laid_items}
 use Rattle.multi_meaning.specs.Meaning.{Meaning}
 use Rattle.multi_meaning.specs.kept.Present.{present_area}
 use Rattle.multi_judge.specs.declared.pass.Pass.{Pass}

@@ -4,10 +4,11 @@ use Rattle.multi_tag.specs.Just.{page_number}
 use Rattle.sign_font.specs.Sign.{SignData}
 use Rattle.sign_font.specs.Text.{width_in}
 use Rattle.multi_meaning.specs.Address.{Spot, in_group}
-use Rattle.multi_meaning.specs.LaidItems.{laid_items}
+use Rattle.multi_meaning.specs.Laid.{laid_items}
 use Rattle.multi_meaning.specs.declared.fault.SyntaxError.{SyntaxError}
 use Rattle.multi_meaning.specs.Codes.{code_of}
-use Rattle.multi_meaning.specs.Meaning.{Meaning, Shows, begins_area, has_place}
+use Rattle.multi_meaning.specs.Meaning.{Meaning, Shows, begins_area}
+use Rattle.multi_meaning.specs.kept.Bounds.{has_place}
 use Rattle.multi_meaning.specs.kept.Present.{present_area}
 use Rattle.multi_meaning.specs.Offence.{offence}
 use Rattle.multi_judge.specs.declared.pass.Pass.{Pass}

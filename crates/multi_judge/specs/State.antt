@@ -6,8 +6,9 @@ use Rattle.sign_font.specs.declared.parts.LineFill.TheVariants.{Off}
 use Rattle.sign_font.specs.Sign.{SignData, font_numbered, info_of}
 use Rattle.multi_meaning.specs.declared.fault.SyntaxError.{SyntaxError}
 use Rattle.multi_meaning.specs.Codes.{code_of}
-use Rattle.multi_meaning.specs.Fit.{area_fits, room_for}
-use Rattle.multi_meaning.specs.Meaning.{Meaning, has_place}
+use Rattle.multi_meaning.specs.kept.Fits.{area_fits, room_for}
+use Rattle.multi_meaning.specs.Meaning.{Meaning}
+use Rattle.multi_meaning.specs.kept.Bounds.{has_place}
 use Rattle.multi_meaning.specs.Address.{Standing, standing}
 use Rattle.multi_meaning.specs.Offence.{offence}
 use Rattle.multi_meaning.specs.Times.{cycle, ended_times}

@@ -46,15 +46,15 @@ pub use Rattle.multi_meaning.proofs.WordLemmas.{left_nil, some_after-append, eac
 pub use Rattle.multi_meaning.specs.Address.{in_area, Spot, Standing, put_at, Break, in_group, Glyph, Put, group_of, is_break, is_glyph, lines_of, segment}
 unfoldable pub use Rattle.multi_meaning.specs.Address.{spots, standing}
 pub use Rattle.multi_meaning.specs.Codes.{code_of}
-pub use Rattle.multi_meaning.specs.Drawn.{Lights}
-unfoldable pub use Rattle.multi_meaning.specs.Drawn.{has_colour}
-pub use Rattle.multi_meaning.specs.Laid.{too_big, laid_spot}
-pub use Rattle.multi_meaning.specs.LaidItems.{laid_items, laid_item, laid_of, laid_out}
+pub use Rattle.multi_meaning.specs.Picture.{Lights, shown_colour, is_lit_at, picture}
+unfoldable pub use Rattle.multi_meaning.specs.kept.Places.{has_colour}
+pub use Rattle.multi_meaning.specs.Laid.{too_big, laid_spot, laid_items, laid_item, laid_of, laid_out}
 pub use Rattle.multi_meaning.specs.Line.{height_of, glyph_width, width_of}
-pub use Rattle.multi_meaning.specs.Meaning.{EndsArea, Meaning, begins_area, is_new_page, Does, has_place, meaning, Shows, Faulty, BeginsPage, meanings}
-pub use Rattle.multi_meaning.specs.Offence.{offence, unsized_offence, first_code}
+pub use Rattle.multi_meaning.specs.kept.Bounds.{EndsArea, has_place, BeginsPage}
+pub use Rattle.multi_meaning.specs.Meaning.{Meaning, begins_area, is_new_page, Does, meaning, Shows, Faulty, meanings}
+pub use Rattle.multi_meaning.specs.Offence.{offence, first_code}
+pub use Rattle.multi_meaning.specs.kept.Fine.{unsized_offence, IsAccepted, IsOrderly}
 unfoldable pub use Rattle.multi_meaning.specs.Offence.{offence_by}
-pub use Rattle.multi_meaning.specs.Picture.{shown_colour, is_lit_at, picture}
 unfoldable pub use Rattle.multi_meaning.specs.Place.{place_of}
 pub use Rattle.multi_meaning.specs.Times.{cycle, ended_times, times_at}
 pub use Rattle.multi_meaning.specs.Verdict.{pages_of, fault_at, offences, IsVerdict}
@@ -62,7 +62,6 @@ pub use Rattle.multi_meaning.specs.Words.{each_after}
 pub use Rattle.multi_meaning.specs.declared.fault.SyntaxError.{SyntaxError}
 pub use Rattle.multi_meaning.specs.declared.place.Place.{Place}
 pub use Rattle.multi_meaning.specs.declared.times.Shown.{Shown}
-pub use Rattle.multi_meaning.specs.kept.Fine.{IsAccepted, IsOrderly}
 pub use Rattle.multi_meaning.specs.kept.ItemAt.{IsFaultAt, IsItemAt}
 pub use Rattle.multi_meaning.specs.kept.Present.{present_area, IsPlacing, IsNarrowArea, ended_lines}
 pub use Rattle.multi_tag.proofs.JustLemmas.{page_number_known}

@@ -3,8 +3,9 @@ use Rattle.multi_layout.proofs.Common.{NextItem, Tag, Char, IsItemRead, IsRead, 
 use Rattle.std.proofs.lemmas.List.Elements.{All-weaker}
 use Rattle.multi_layout.proofs.PieceLemmas.{read_tag, read_unfilled}
 use Rattle.multi_judge.specs.declared.item.KnownItem.TheVariants as known
-use Rattle.multi_meaning.specs.Laid.{laid}
-use Rattle.multi_meaning.specs.Offence.{never_big, conflicts}
+use Rattle.multi_meaning.specs.kept.Places.{laid}
+use Rattle.multi_meaning.specs.kept.Fine.{never_big}
+use Rattle.multi_meaning.specs.Offence.{conflicts}
 use Rattle.multi_meaning.proofs.LaidItemLemmas.{laid_as, HasWidth, groups_laid, one_more, same_at, in_areas}
 use Rattle.multi_meaning.proofs.RoomLemmas.{area_wide, rectangle_width_within, rectangle_within, narrow_of, fits_first, fits_next, room_of}
 use Rattle.multi_meaning.proofs.FillLemmas.{LaidAs}
@@ -12,7 +13,8 @@ use Rattle.multi_meaning.proofs.StandingLemmas.{offence-undefined, spots_behind,
 use Rattle.multi_meaning.proofs.WordLemmas.{All-split}
 use Rattle.multi_judge.proofs.PlacingLemmas.{order}
 use Rattle.multi_meaning.specs.Filling.{filled}
-use Rattle.multi_meaning.specs.Fit.{area_fits, line_fits}
+use Rattle.multi_meaning.specs.kept.Fits.{area_fits}
+use Rattle.multi_meaning.specs.Fit.{line_fits}
 use Rattle.multi_meaning.proofs.VerdictLemmas.{orderly_items}
 use Rattle.multi_judge.proofs.FilledStateLemmas.{area_with, offends_by, offends_without, shown}
 use Rattle.multi_layout.proofs.WalkLemmas.{laid_here, never_offends, state_moved}

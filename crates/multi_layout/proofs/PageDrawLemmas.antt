@@ -3,8 +3,8 @@ use Rattle.multi_layout.proofs.Common.{◌≡◌, ℕ, ◌+◌, ◌-◌, ◌*◌
 use Rattle.multi_token.specs.Spelling.{IsReading}
 use Rattle.multi_token.proofs.ReadingLemmas.{each_string_has_a_reading, none_found}
 use Rattle.multi_token.proofs.SpellingLemmas.{one_reading}
-use Rattle.multi_meaning.specs.Drawn as drawn
-use Rattle.multi_meaning.specs.Meaning.{EndsPage}
+use Rattle.multi_meaning.specs.Picture as drawn
+use Rattle.multi_meaning.specs.kept.Bounds.{EndsPage}
 use Rattle.multi_meaning.specs.Picture.{in_plane}
 use Rattle.multi_meaning.proofs.DrawnLemmas.{covered_begins, covered_ends}
 use Rattle.multi_layout.proofs.AreaDrawLemmas.{area_in, area_over, drawn_more}

@@ -5,9 +5,8 @@ use Rattle.page_plane.specs.Plane.{BitPlane}
 use Rattle.sign_font.specs.Sign.{SignData, tallest}
 use Rattle.sign_font.specs.Sound.{IsSound}
 use Rattle.multi_meaning.specs.declared.times.Shown.{Shown}
-use Rattle.multi_meaning.specs.Drawn.{Lights}
+use Rattle.multi_meaning.specs.Picture.{Lights, pixel_at}
 use Rattle.multi_meaning.specs.Meaning.{meanings}
-use Rattle.multi_meaning.specs.Picture.{pixel_at}
 use Rattle.multi_meaning.specs.Times.{shown}
 use Rattle.multi_meaning.specs.Verdict.{pages_of}
 use Rattle.multi_layout.specs.declared.cursor.Cursor.{Cursor}

@@ -10,10 +10,10 @@ pub use Rattle.sign_font.specs.Defaults.{default_fault, under}
 pub use Rattle.sign_font.specs.Sign.{SignData}
 pub use Rattle.page_plane.specs.Plane.{BitPlane}
 pub use Rattle.multi_meaning.specs.Codes.{code_of}
-pub use Rattle.multi_meaning.specs.Drawn.{Lights}
-pub use Rattle.multi_meaning.specs.Meaning.{Meaning, begins_area, has_place, meanings}
-pub use Rattle.multi_meaning.specs.Offence.{unsized_offence}
-pub use Rattle.multi_meaning.specs.Picture.{picture, is_lit_at, shown_colour, pixel_at}
+pub use Rattle.multi_meaning.specs.Picture.{Lights, picture, is_lit_at, shown_colour, pixel_at}
+pub use Rattle.multi_meaning.specs.Meaning.{Meaning, begins_area, meanings}
+pub use Rattle.multi_meaning.specs.kept.Bounds.{has_place}
+pub use Rattle.multi_meaning.specs.kept.Fine.{unsized_offence}
 pub use Rattle.multi_meaning.specs.kept.ItemAt.{IsFaultAt, IsItemAt}
 pub use Rattle.multi_meaning.specs.Times.{shown}
 pub use Rattle.multi_meaning.specs.Verdict.{Accepted, IsVerdict, IsCycle, Refused}

@@ -4,7 +4,7 @@ use Rattle.multi_meaning.proofs.WordLemmas.{All-around, each_after_push, front_i
 use Rattle.multi_meaning.proofs.GroupLemmas.{placing_group, in_area_placing}
 use Rattle.multi_meaning.proofs.FillLemmas.{LaidAs, filled_laid, filled_behind}
 use Rattle.multi_meaning.proofs.StandingLemmas.{spots_push, spots_with, standing_push, spots_more, spots_nothing, spots_placed}
-use Rattle.multi_meaning.specs.Fit as plain
+use Rattle.multi_meaning.specs.kept.Fits as plain
 
 -- the spots of a group of an area
 abbrev pub members : ℕ → ℕ → List Spot → List Spot

@@ -6,7 +6,7 @@ use Rattle.multi_tag.specs.Just.{page_number}
 use Rattle.multi_token.specs.Spelling.{Item}
 use Rattle.sign_font.specs.Sign.{SignData}
 use Rattle.multi_meaning.specs.Address.{in_area, in_group, is_break, spots, standing}
-use Rattle.multi_meaning.specs.LaidItems.{laid_out}
+use Rattle.multi_meaning.specs.Laid.{laid_out}
 use Rattle.multi_meaning.specs.Meaning.{Meaning, Shows, Does, meaning}
 use Rattle.multi_meaning.specs.Verdict.{offences}
 

@@ -1,14 +1,18 @@
 -- The spots of a string as they are laid out: each dropped space as the end of its line (own).
 use Rattle.std.specs.Prelude.{ℕ, Bool, not, ◌||◌, ◌&&◌, List, [], ◌∷◌, ◌++◌, length, slice_index_or, Option, Some, None, if◌then◌else◌}
 use Rattle.std.specs.List.{after_last}
+use Rattle.std.specs.Option.{option_map}
 use Rattle.multi_tag.specs.Just.{page_number}
 use Rattle.sign_font.specs.declared.parts.LineFill.{LineFill}
 use Rattle.sign_font.specs.declared.parts.LineFill.TheVariants.{Off, Words}
-use Rattle.multi_meaning.specs.Address.{Spot, Standing, is_glyph, is_break, area_of, in_group, group_of, lines_of}
+use Rattle.multi_meaning.specs.Address.{Spot, Standing, is_glyph, is_break, area_of, in_group, group_of, lines_of, spot_at, spots, standing}
 use Rattle.multi_meaning.specs.Fit.{fit, line_fits}
-use Rattle.multi_meaning.specs.Line.{height_of}
+use Rattle.multi_meaning.specs.Line.{height_of, given_gap}
 use Rattle.multi_meaning.specs.Words.{each_after}
 use Rattle.multi_meaning.specs.Filling.{filled}
+use Rattle.multi_tag.specs.declared.tag.Tag.TheVariants.{NewLine}
+use Rattle.sign_font.specs.Sign.{SignData}
+use Rattle.multi_meaning.specs.Meaning.{Meaning, Does}
 
 -- the width to which lines are filled, if they are (own)
 abbrev pub fill_at : LineFill → Standing → Option ℕ
@@ -39,6 +43,20 @@ laid_spot setting all before spot =
     if is_glyph spot then slice_index_or (filled (fill_at setting spot.at) (group_of spot all)) (length (group_of spot before)) spot else
     spot
 
--- some spots from the first on, as they are laid out among all (own)
-abbrev pub laid : LineFill → List Spot → List Spot → List Spot
-laid setting all some = each_after (laid_spot setting all) some
+-- an item of which this is laid: what ends a line is an `nl`, and all else is the item (own)
+abbrev pub laid_of : Meaning → Option Spot → Meaning
+laid_of item None = item
+laid_of item (Some spot) = if is_break spot then Does (NewLine (given_gap spot)) else item
+
+-- an item as it is laid out among all (own)
+abbrev pub laid_item : LineFill → SignData → List Meaning → List Meaning → Meaning → Meaning
+laid_item setting sign all before item =
+    laid_of item (option_map (laid_spot setting (spots sign all) (spots sign before)) (spot_at sign.defaults (standing sign before) item))
+
+-- some items from the first on, as they are laid out among all (own)
+abbrev pub laid_items : LineFill → SignData → List Meaning → List Meaning → List Meaning
+laid_items setting sign all some = each_after (laid_item setting sign all) some
+
+-- the items of a string as a sign lays them out (own)
+abbrev pub laid_out : SignData → List Meaning → List Meaning
+laid_out sign items = laid_items sign.line_fill sign items items

@@ -1,12 +1,10 @@
 pub mod Address
 pub mod Attributes
 pub mod Codes
-pub mod Drawn
 pub mod FillLaw
 pub mod Filling
 pub mod Fit
 pub mod Laid
-pub mod LaidItems
 pub mod Line
 pub mod Meaning
 pub mod Offence

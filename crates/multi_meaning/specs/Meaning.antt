@@ -1,11 +1,11 @@
 -- What each item of a string means (NTCIP 1203 v03, MULTI).
-use Rattle.std.specs.Prelude.{◌≡◌, ◌⊎◌, ℕ, Bool, true, false, List, [], ◌∷◌, ◌++◌, map, Result, Ok, Err}
+use Rattle.std.specs.Prelude.{ℕ, Bool, true, false, List, map, Result, Ok, Err}
 use Rattle.multi_token.specs.Reading.{reading}
 use Rattle.multi_token.specs.Spelling.{Item, Char, Tag}
 use Rattle.multi_tag.specs.declared.tag.TagFault.{TagFault}
 use Rattle.multi_tag.specs.declared.tag.TagFault.TheVariants.{Unsupported, Value}
 use Rattle.multi_tag.specs.declared.tag.Tag as tag
-use Rattle.multi_tag.specs.declared.tag.Tag.TheVariants.{HexChar, NewLine, NewPage, Rect}
+use Rattle.multi_tag.specs.declared.tag.Tag.TheVariants.{HexChar, NewPage, Rect}
 use Rattle.multi_tag.specs.TagOf.{tag_of}
 
 -- an item shows a character by its number, or does what its tag says, or its tag is at fault with the number of an error (own)
@@ -44,22 +44,3 @@ abbrev pub begins_area : Meaning → Bool
 begins_area (Does NewPage) = true
 begins_area (Does (Rect x y w h)) = true
 begins_area _ = false
-
--- the item has a place in a group: a character or the end of a line (NTCIP 1203 v03, MULTI tag 'nl')
-abbrev pub has_place : Meaning → Bool
-has_place (Shows number) = true
-has_place (Does (NewLine gap)) = true
-has_place _ = false
-
--- a page begins behind these items: behind none, or behind a new page (NTCIP 1203 v03, MULTI tag 'np')
-abbrev pub BeginsPage : List Meaning → Type 0
-BeginsPage before = (before ≡ []) ⊎ ((earlier : List Meaning) × (before ≡ earlier ++ Does NewPage ∷ []))
-
--- a page ends before these items: before none, or before a new page (NTCIP 1203 v03, MULTI tag 'np')
-abbrev pub EndsPage : List Meaning → Type 0
-EndsPage behind = (behind ≡ []) ⊎ ((rest : List Meaning) × (behind ≡ Does NewPage ∷ rest))
-
--- an area ends before these items: before none, or before an item behind which the next begins (NTCIP 1203 v03, MULTI tags
--- 'np' and 'tr')
-abbrev pub EndsArea : List Meaning → Type 0
-EndsArea behind = (behind ≡ []) ⊎ ((x : Meaning) × (rest : List Meaning) × (begins_area x ≡ true) × (behind ≡ x ∷ rest))

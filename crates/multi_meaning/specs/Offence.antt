@@ -71,11 +71,3 @@ offence_by big sign before item = first_code (cases big sign before item)
 -- dmsMultiSyntaxError)
 abbrev pub offence : LineFill → SignData → List Meaning → Meaning → Option ℕ
 offence setting sign before item = offence_by (too_big setting) sign before item
-
--- nothing is too big (own)
-abbrev pub never_big : List Spot → Spot → Bool
-never_big before spot = false
-
--- the error of an item after the items before it, if it offends by more than its size (own)
-abbrev pub unsized_offence : SignData → List Meaning → Meaning → Option ℕ
-unsized_offence sign before item = offence_by never_big sign before item

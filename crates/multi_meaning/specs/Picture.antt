@@ -1,11 +1,11 @@
 -- The picture of a page, pixel by pixel (NTCIP 1203 v03, MULTI).
-use Rattle.std.specs.Prelude.{ℕ, ◌+◌, ◌-◌, ◌%◌, Bool, true, ◌&&◌, ◌==◌, nat_le, nat_lt, min, List, Option, Some, None, if◌then◌else◌}
+use Rattle.std.specs.Prelude.{ℕ, ◌+◌, ◌-◌, ◌%◌, Bool, true, ◌&&◌, ◌==◌, nat_le, nat_lt, min, List, Option, Some, None, if◌then◌else◌, ◌≡◌, ◌<◌}
 use Rattle.std.specs.List.{filter_map, last_or}
 use Rattle.std.specs.Option.{unwrap_or}
 use Rattle.sign_font.specs.declared.parts.Defaults.{Defaults}
 use Rattle.sign_font.specs.Cell as cells
 use Rattle.sign_font.specs.Sign.{SignData, sized}
-use Rattle.multi_meaning.specs.LaidItems.{laid_out}
+use Rattle.multi_meaning.specs.Laid.{laid_out}
 use Rattle.multi_meaning.specs.Meaning.{Meaning, meanings}
 use Rattle.multi_meaning.specs.declared.attributes.FlashTimes.{FlashTimes}
 use Rattle.multi_meaning.specs.Address.{Put, Glyph, Break, Cover, Spot, spots}
@@ -14,6 +14,7 @@ use Rattle.multi_meaning.specs.declared.times.Shown.{Shown}
 use Rattle.multi_meaning.specs.declared.times.Shown.TheVariants.{Page, Off}
 use Rattle.multi_meaning.specs.Place.{place_of}
 use Rattle.multi_meaning.specs.Words.{some_after}
+use Rattle.page_plane.specs.Plane.{BitPlane, is_lit}
 
 -- a character is lit at a phase of its page: on first in the first `on` tenths of each flash, off first behind the first `off`
 -- ones, and always without a flash or where both its times are 0 (NTCIP 1203 v03, MULTI tag 'fl'; the times of 0 are own)
@@ -77,3 +78,7 @@ pixel_at sign items Off colour column row = colour == 0
 -- the plane of a colour of a page of a string at a phase: a test of column and row (NTCIP 1203 v03, MULTI)
 abbrev pub picture : SignData → List ℕ → ℕ → ℕ → ℕ → ℕ → ℕ → Bool
 picture sign octets page phase colour column row = in_plane sign (laid_out sign (meanings octets)) page phase colour column row
+
+-- the plane has lit the pixels of a test of column and row (own)
+abbrev pub Lights : BitPlane → (ℕ → ℕ → Bool) → Type 0
+Lights plane lit = (column row : ℕ) → column < plane.width → row < plane.height → is_lit plane column row ≡ lit column row

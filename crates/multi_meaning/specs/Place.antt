@@ -1,14 +1,10 @@
 -- The place of each character of an accepted string (NTCIP 1203 v03, MULTI tags 'jl' and 'jp').
-use Rattle.std.specs.Prelude.{ℕ, ◌+◌, ◌-◌, ◌*◌, ◌/◌, ◌==◌, List, [], ◌∷◌, ◌++◌, take, length, slice_index_or, Some, None, if◌then◌else◌}
+use Rattle.std.specs.Prelude.{ℕ, ◌+◌, ◌-◌, ◌*◌, ◌/◌, ◌==◌, List, [], ◌∷◌, ◌++◌, take, length, slice_index_or, if◌then◌else◌}
 use Rattle.std.specs.List.{count_by}
 use Rattle.multi_tag.specs.Just.{line_number, page_number}
-use Rattle.sign_font.specs.Sign.{SignData}
 use Rattle.multi_meaning.specs.declared.place.Place.{Place}
-use Rattle.multi_meaning.specs.Meaning.{Meaning}
-use Rattle.multi_meaning.specs.Address.{Spot, spots, group_of, lines_of, line_before, segment, is_glyph, is_break}
-use Rattle.multi_meaning.specs.Laid.{laid}
+use Rattle.multi_meaning.specs.Address.{Spot, group_of, lines_of, line_before, segment, is_break}
 use Rattle.multi_meaning.specs.Line.{height_of, width_of, glyph_width}
-use Rattle.multi_meaning.specs.Words.{some_after}
 
 -- where a part of a size begins within a length: left, top and full at the start, centre and middle (3) in the middle,
 -- right and bottom (4) at the end (NTCIP 1203 v03, MULTI tags 'jl' and 'jp')
@@ -37,10 +33,3 @@ place_of before all spot =
       row = within.top + start (page_number spot.at.page_just) within.height (height_of lines)
           + (height_of (take (k + 1) lines) - spot.at.font.height);
     }
-
--- the place of each character of a string that stands, in their order; a dropped space stands nowhere (own)
-unfoldable pub places : SignData → List Meaning → List Place
-unfolding spots place_of
-places sign items =
-    let all = laid sign.line_fill (spots sign items) (spots sign items) in
-    some_after (λ before spot. if is_glyph spot then Some (place_of before all spot) else None) all

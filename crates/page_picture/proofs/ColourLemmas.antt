@@ -5,8 +5,7 @@ use Rattle.std.proofs.lemmas.List.{get_or-append-add, replicate-append-replicate
 use Rattle.std.specs.List.{flat_map, range_with_len}
 use Rattle.page_plane.specs.Plane.{BitPlane}
 use Rattle.sign_font.specs.Sign.{SignData}
-use Rattle.multi_meaning.specs.Drawn.{Lights}
-use Rattle.multi_meaning.specs.Picture.{picture}
+use Rattle.multi_meaning.specs.Picture.{Lights, picture}
 use Rattle.octet_text.proofs.TextLemmas.{flat_map_more, flat_map_same, map_more, map_same}
 use Rattle.page_picture.specs.Colours.{row_values, values}
 use Rattle.page_picture.specs.Dots.{value_at}

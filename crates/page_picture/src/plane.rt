@@ -2,9 +2,8 @@
 
 ghost use Rattle.std.specs.Prelude.{◌≡◌, ◌+◌, ◌*◌, ◌≤◌, length};
 ghost use Rattle.multi_token.specs.Counted.{RisesBetween};
-ghost use Rattle.multi_meaning.specs.Drawn.{Lights};
+ghost use Rattle.multi_meaning.specs.Picture.{Lights, pixel_at};
 ghost use Rattle.multi_meaning.specs.Meaning.{meanings};
-ghost use Rattle.multi_meaning.specs.Picture.{pixel_at};
 ghost use Rattle.multi_layout.specs.Limits.{plane_limit, reading_limit};
 ghost use Rattle.multi_layout.specs.Pages.{IsSized};
 ghost use Rattle.page_picture.specs.Painted.{TakesSteps};

@@ -18,7 +18,7 @@ use Rattle.multi_tag.proofs.TagOfLemmas.{tag_of_is_the_table}
 use Rattle.sign_font.specs.Sign.{CellData, SignData, cell_numbered}
 use Rattle.multi_meaning.specs.Address.{Break, Cover, Glyph, Put, Spot, Standing, is_break, put_at, spot_at, spots, standing}
 use Rattle.multi_meaning.specs.Attributes.{given_back, given_fore, in_force}
-use Rattle.multi_meaning.specs.LaidItems.{laid_item, laid_of, laid_out}
+use Rattle.multi_meaning.specs.Laid.{laid_item, laid_of, laid_out}
 use Rattle.multi_meaning.specs.Meaning.{Meaning, Shows, Does, meaning, meaning_of_tag, meanings, said_by}
 use Rattle.multi_meaning.specs.Picture.{Thing, colour_of, shown_colour, thing_at, things, things_among}
 use Rattle.multi_meaning.specs.Place.{place_of}

@@ -6,7 +6,7 @@ use Rattle.sign_font.specs.Sign.{SignData}
 use Rattle.sign_font.specs.Sound.{IsSound}
 use Rattle.multi_meaning.specs.declared.times.Shown.{Shown}
 use Rattle.multi_meaning.specs.declared.times.Shown.TheVariants.{Page, Off}
-use Rattle.multi_meaning.specs.LaidItems.{laid_out}
+use Rattle.multi_meaning.specs.Laid.{laid_out}
 use Rattle.multi_meaning.specs.Meaning.{meanings}
 use Rattle.multi_meaning.specs.Picture.{colour_of, in_plane, pixel_at, shown_colour, things}
 use Rattle.multi_meaning.specs.Verdict.{Accepted, IsVerdict, Refused, broken, of_first, offences, pages_of, verdict, verdict_on}

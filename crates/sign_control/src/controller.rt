@@ -2,9 +2,8 @@
 
 ghost use Rattle.std.specs.Prelude.{◌≡◌, ◌+◌, ◌-◌, ◌≤◌, length, IfOk};
 ghost use Rattle.std.specs.Borrow.{sem};
-ghost use Rattle.multi_meaning.specs.Drawn.{Lights};
+ghost use Rattle.multi_meaning.specs.Picture.{Lights, pixel_at};
 ghost use Rattle.multi_meaning.specs.Meaning.{meanings};
-ghost use Rattle.multi_meaning.specs.Picture.{pixel_at};
 ghost use Rattle.multi_meaning.specs.Times.{shown};
 ghost use Rattle.multi_layout.specs.Limits.{frame_limit};
 ghost use Rattle.multi_layout.specs.Pages.{IsSized};

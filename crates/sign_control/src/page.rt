@@ -1,8 +1,7 @@
 //! The pages of a text that isn't shown, on the sign that a controller holds.
 
 ghost use Rattle.std.specs.Prelude.{◌≡◌, ◌≤◌, None, length, IfErr, IfOk, OnOk};
-ghost use Rattle.multi_meaning.specs.Drawn.{Lights};
-ghost use Rattle.multi_meaning.specs.Picture.{picture};
+ghost use Rattle.multi_meaning.specs.Picture.{Lights, picture};
 ghost use Rattle.multi_layout.specs.Limits.{check_limit};
 ghost use Rattle.multi_layout.specs.Pages.{IsSized};
 ghost use Rattle.sign_font.specs.Defaults.{default_fault, under};

@@ -3,9 +3,8 @@ use Rattle.std.proofs.Common.{◌≡◌, ℕ, ◌≤◌, List, ◌++◌, length,
 use Rattle.page_plane.specs.Plane.{BitPlane, is_lit}
 use Rattle.sign_font.specs.Sign.{SignData}
 use Rattle.multi_meaning.specs.declared.times.Shown.{Shown}
-use Rattle.multi_meaning.specs.Drawn.{Lights}
+use Rattle.multi_meaning.specs.Picture.{Lights, pixel_at}
 use Rattle.multi_meaning.specs.Meaning.{meanings}
-use Rattle.multi_meaning.specs.Picture.{pixel_at}
 use Rattle.multi_meaning.specs.Times.{shown}
 use Rattle.multi_meaning.specs.Verdict.{Accepted, IsVerdict}
 use Rattle.multi_layout.specs.Pages.{IsSized}

@@ -4,8 +4,10 @@ use Rattle.std.specs.List.{All}
 use Rattle.page_plane.specs.Plane.{BitPlane}
 use Rattle.sign_font.specs.Sign.{SignData, tallest}
 use Rattle.multi_meaning.specs.Address.{Spot, spots, standing, in_group, lines_of, in_area}
-use Rattle.multi_meaning.specs.Drawn.{Lights, has_colour}
-use Rattle.multi_meaning.specs.Meaning.{Meaning, Shows, EndsArea, begins_area}
+use Rattle.multi_meaning.specs.Picture.{Lights}
+use Rattle.multi_meaning.specs.kept.Places.{has_colour}
+use Rattle.multi_meaning.specs.Meaning.{Meaning, Shows, begins_area}
+use Rattle.multi_meaning.specs.kept.Bounds.{EndsArea}
 use Rattle.multi_meaning.specs.kept.Present.{ended_lines, present_area}
 use Rattle.multi_layout.specs.declared.cursor.Cursor.{Cursor}
 use Rattle.multi_layout.specs.declared.paint.Layer.{Layer}

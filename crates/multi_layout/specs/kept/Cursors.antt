@@ -2,14 +2,13 @@
 use Rattle.std.specs.Prelude.{◌≡◌, ℕ, List, [], ◌∷◌, ◌++◌, map, length, Option, Some, None}
 use Rattle.multi_token.specs.Spelling.{Item, spelling, spell}
 use Rattle.sign_font.specs.Sign.{SignData}
-use Rattle.multi_meaning.specs.LaidItems.{laid_item, laid_out}
+use Rattle.multi_meaning.specs.Laid.{laid_item, laid_out}
 use Rattle.multi_meaning.specs.Meaning.{Meaning, meaning}
 use Rattle.multi_meaning.specs.Words.{each_after}
-use Rattle.multi_meaning.specs.kept.Fine.{IsAccepted, IsOrderly}
+use Rattle.multi_meaning.specs.kept.Fine.{IsAccepted, IsOrderly, unsized_offence}
 use Rattle.multi_layout.specs.declared.cursor.Cursor.{Cursor}
 use Rattle.multi_judge.specs.declared.item.NextItem.{NextItem}
 use Rattle.multi_judge.specs.KnownItem.{meant_by}
-use Rattle.multi_meaning.specs.Offence.{unsized_offence}
 use Rattle.multi_judge.specs.declared.state.State.{State}
 use Rattle.multi_judge.specs.State.{IsStateOf}
 

@@ -5,7 +5,8 @@ use Rattle.page_plane.specs.Plane.{BitPlane}
 use Rattle.sign_font.specs.Sign.{SignData, tallest}
 use Rattle.multi_meaning.specs.declared.times.Shown.{Shown}
 use Rattle.multi_meaning.specs.declared.times.Shown.TheVariants.{Page, Off}
-use Rattle.multi_meaning.specs.Meaning.{BeginsPage, meanings}
+use Rattle.multi_meaning.specs.kept.Bounds.{BeginsPage}
+use Rattle.multi_meaning.specs.Meaning.{meanings}
 use Rattle.multi_meaning.specs.Verdict.{pages_of}
 use Rattle.multi_layout.specs.declared.cursor.Cursor.{Cursor}
 use Rattle.multi_layout.specs.Limits.{plane_octets}

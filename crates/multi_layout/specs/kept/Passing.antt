@@ -3,7 +3,8 @@ use Rattle.std.specs.Prelude.{◌≡◌, ◌⊎◌, ℕ, ◌+◌, ◌<◌, ◌�
 use Rattle.std.specs.List.{filter}
 use Rattle.multi_token.specs.Spelling.{Item}
 use Rattle.sign_font.specs.Sign.{SignData}
-use Rattle.multi_meaning.specs.Meaning.{BeginsPage, Meaning, has_place, meaning, meanings}
+use Rattle.multi_meaning.specs.kept.Bounds.{BeginsPage, has_place}
+use Rattle.multi_meaning.specs.Meaning.{Meaning, meaning, meanings}
 use Rattle.multi_meaning.specs.Verdict.{pages_of}
 use Rattle.multi_meaning.specs.Times.{Times, cycle, page_times}
 use Rattle.multi_layout.specs.declared.cursor.Cursor.{Cursor}

@@ -1,8 +1,7 @@
 //! Callers of the calls that lend a plane. They are proved and never run: what those calls promise is of use to a caller.
 
 ghost use Rattle.std.specs.Prelude.{◌≡◌, ◌+◌, ◌<◌};
-ghost use Rattle.multi_meaning.specs.Drawn.{Lights};
-ghost use Rattle.multi_meaning.specs.Picture.{picture};
+ghost use Rattle.multi_meaning.specs.Picture.{Lights, picture};
 ghost use Rattle.multi_layout.specs.Pages.{page_count};
 
 use multi_layout::{Checked, Pages};

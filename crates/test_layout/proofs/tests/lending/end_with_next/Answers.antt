@@ -1,7 +1,6 @@
 use Rattle.std.proofs.Common.{◌≡◌, ap, sym, subst, ◌∙◌}
 use Rattle.page_plane.specs.Plane.{BitPlane}
-use Rattle.multi_meaning.specs.Drawn.{Lights}
-use Rattle.multi_meaning.specs.Picture.{picture}
+use Rattle.multi_meaning.specs.Picture.{Lights, picture}
 use Rattle.test_layout.proofs.tests.lending.end_with_next.Goals as goal
 
 pub returns-clause-shown : goal.returns-clause-shown
