@@ -73,23 +73,6 @@ impl Walk {
         }
     }
 
-    /// Goes behind the octets that stand for themselves: their font is looked up, each of them is read and looked at, and so is the octet
-    /// behind them; the end is read.
-    fn pass_text(&mut self, source: &mut Source<'_>) {
-        source.charge(1);
-        for _ in 0..=source.len() {
-            let at = self.at.min(source.len());
-            let Some(octet) = source.read(at) else {
-                return;
-            };
-            source.charge(1);
-            if octet == b'[' || octet == b']' {
-                return;
-            }
-            self.at = at.saturating_add(1);
-        }
-    }
-
     /// Puts an item into force that was read on the way to a page, and looks up no cell.
     fn pass_by(&mut self, sign: &Sign, source: &mut Source<'_>, item: Tag) {
         if let Tag::Font(_) = item {
@@ -106,9 +89,6 @@ impl Walk {
             self.pass_by(sign, source, item);
             if let Tag::NewPage = item {
                 return;
-            }
-            if let Tag::HexChar(_) | Tag::NewLine(_) = item {
-                self.pass_text(source);
             }
         }
     }
