@@ -135,9 +135,7 @@ module _ {page height : ℕ} {old : Area} {most : ℕ} {reached : Bool} {new : A
 
   -- and so it has with another group there, whose numbers may have grown
   pub regrouped_below : (k : ℕ) → IsBelow k old → (group : Group) → (IsGroupBelow k new.group → IsGroupBelow (k + 1024) group) → IsBelow (k + 1024) (record new { group = group })
-  regrouped_below k b group below =
-      let (top, middle, old_group, least, known) = reached_below k b in
-      record { top = top; middle = middle; group = below old_group; known = known; some = λ any. least; empty = λ none. absurd (omega (arith, none, least)) }
+  regrouped_below k b group below = grind (arith, reached_below k b)
 
   -- and the limits of its present group and of its present line are known where they were
   pub reached_group : (2 ≤ old.present → most ≡ group_room old height) → most' ≡ group_room new height

@@ -58,7 +58,7 @@ pub use Rattle.multi_judge.specs.FilledState.{IsFilledOf, begins_line, IsFilledF
 pub use Rattle.multi_judge.specs.Judging.{ReadSoFar, IsAt, IsBehind}
 pub use Rattle.multi_judge.specs.PassState.{IsPassOf, IsPassReady, fill_of}
 pub use Rattle.multi_judge.specs.Passed.{IsCellPut, IsItemJudged, IsItemPassed, JudgesCell, PutsCell, next_group}
-pub use Rattle.multi_judge.specs.Run.{FitsBefore, is_within, lengthened_line, kept_height, kept_width, IsBehindCharacter, kept_fits, IsRun, lengthened, lengthened_area, line_in_force, IsBehindOne}
+pub use Rattle.multi_judge.specs.Run.{FitsBefore, gap_here, is_within, lengthened_line, kept_height, kept_width, IsBehindCharacter, kept_fits, IsRun, lengthened, lengthened_area, line_in_force, IsBehindOne}
 pub use Rattle.multi_judge.specs.State.{IsMost, group_room, segment_room, AreaFits, IsJudged, IsLimited, IsStateOf, attributes_of, IsReady, IsUnfilledOf, IsSimple, JudgesTag}
 pub use Rattle.multi_judge.specs.Sums.{group_sum, area_sum, area_sum_in, line_sum, IsBelow, IsGroupBelow, IsCharacter, IsBreak, IsLineBelow, segment_sum, width_before, height_before, ended_sum, IsSegmentBelow}
 pub use Rattle.multi_judge.specs.Table.{counted_line, TableLines, split_lines, line_entry, table_of, column_in, IsOrdered, group_lines}

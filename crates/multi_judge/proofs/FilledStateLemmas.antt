@@ -158,10 +158,8 @@ module _ (width : ℕ) where
   -- a character that clashes with none since the hard break clashes with none on the open line
   pub no_clash_filled : (g : List Spot) (s : Spot) → All IsPlacing g → list_any (clashes s) (after_last is_break g) ≡ false → list_any (clashes s) (after_last is_break (filled (Some width) g)) ≡ false
   no_clash_filled g s placing apart =
-      let since = (cut is_break g).open' in
-      let (front, is) = end_of (length since) since in
-      ap (list_any (clashes s)) (open_line_is width g placing)
-      ∙ none_later_on (clashes s) front (open_line width g) (ap (list_any (clashes s)) (sym is ∙ sym (after_last_is is_break g)) ∙ apart)
+      let (front, is) = end_of (length ((cut is_break g).open')) ((cut is_break g).open') in
+      grind (arith, open_line_is width g placing, none_later_on (clashes s) front (open_line width g) (ap (list_any (clashes s)) (sym is ∙ sym (after_last_is is_break g)) ∙ apart))
 
 -- the order with one more character, which isn't before the others
 pub order_more : (line : List Spot) (s : Spot) (just : ℕ) (parts : Bool) → line_number s.at.line_just ≡ just → list_any (clashes s) line ≡ false → parts ≡ list_any (λ (t : Spot). nat_lt (line_number t.at.line_just) 5) line

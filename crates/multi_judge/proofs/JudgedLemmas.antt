@@ -1,7 +1,6 @@
 -- Bounds on the sums that are kept: what is below one is below a larger one.
-use Rattle.multi_judge.proofs.Common.{ℕ, ◌+◌, ◌≤◌, Option, Some, None, arith, rules, ◌≡◌, ◌*◌, ◌^◌, true, false, cond, inl, inr, List, [], ◌∷◌, ◌++◌, length, refl, sym, ap, ◌∙◌, append-nil, ◌-◌, not, ◌==◌, subst, nat_lt, count_by, cons_option, option_map, unwrap_or, option_map_or, cases_Bool, eq-eqb, eqb-true, length-append, sum_by-append, nat_tests, Tag, Back, NewLine, NewPage, Rect, Off, too_big, SizedCell, SignData, CellData, FontData, cell_in, cell_numbered, font_numbered, FontInfo, Spot, Cover, Glyph, spots, standing, Meaning, Shows, Does, is_new_page, conflicts, never_big, offence, unsized_offence, offence_by, present_area, standing_behind, Times, cycle, ended_times, times_at, pages_of, offence-undefined, offence-character, standing_push, present_area-nothing, present_area-cover, present_area-new, some_after_push, none_mapped, Area, Group, Split, Line, Segment, IsSplitBelow, IsBelow, IsGroupBelow, IsLineBelow, area_sum, lengthened_line, begins_line, Attributes, Limits, State, IsReady, IsStateOf, attributes_of, find, option_and_then, same_Some, sum_by_push, Font, info_of, sized, default_line_just, default_page_just, whole_sign, is_inside, offence-page, offence-rectangle, offence-font, offence-no_font, IsSegmentBelow, IsSimple}
+use Rattle.multi_judge.proofs.Common.{ℕ, ◌+◌, ◌≤◌, Option, Some, None, arith, rules, ◌≡◌, ◌*◌, ◌^◌, true, false, cond, inl, inr, List, [], ◌∷◌, ◌++◌, length, refl, sym, ap, ◌∙◌, append-nil, ◌-◌, not, ◌==◌, subst, nat_lt, count_by, cons_option, option_map, unwrap_or, option_map_or, cases_Bool, eq-eqb, eqb-true, length-append, sum_by-append, nat_tests, Tag, Back, NewLine, NewPage, Rect, Off, too_big, SizedCell, SignData, CellData, FontData, cell_in, cell_numbered, font_numbered, FontInfo, Cover, Glyph, spots, standing, Meaning, Shows, Does, is_new_page, conflicts, never_big, offence, unsized_offence, offence_by, present_area, standing_behind, Times, cycle, ended_times, times_at, pages_of, offence-undefined, offence-character, standing_push, present_area-nothing, present_area-cover, present_area-new, some_after_push, none_mapped, Area, Group, Split, Line, Segment, IsSplitBelow, IsBelow, IsGroupBelow, IsLineBelow, area_sum, lengthened_line, begins_line, Attributes, Limits, State, IsReady, IsStateOf, attributes_of, find, option_and_then, same_Some, sum_by_push, Font, info_of, sized, default_line_just, default_page_just, whole_sign, is_inside, offence-page, offence-rectangle, offence-font, offence-no_font, IsSegmentBelow, IsSimple}
 use Rattle.multi_tag.specs.declared.tag.FontPick.{FontPick}
-use Rattle.multi_meaning.proofs.StandingLemmas as unplaced
 
 segment_more : (k m : ℕ) (segment : Segment) → k ≤ m → IsSegmentBelow k segment → IsSegmentBelow m segment
 segment_more k m segment h b = record { width = omega (arith, b.width); count = omega (arith, b.count) }
@@ -113,9 +112,7 @@ state-limits sign items state new same st = search (rules)
 -- a character that doesn't offend doesn't conflict
 pub shown_free : (sign : SignData) (items : List Meaning) (number : ℕ) (cell : CellData) → cell_numbered (standing sign items).font number ≡ Some cell → unsized_offence sign items (Shows number) ≡ None
     → conflicts (spots sign items) (record { at = standing sign items; put = Glyph cell }) ≡ false
-shown_free sign items number cell found fine =
-    let spot : Spot = record { at = standing sign items; put = Glyph cell } in
-    unplaced.no_conflict (conflicts (spots sign items) spot) false (sym (offence-character never_big sign items number cell found) ∙ fine)
+shown_free sign items number cell found fine = grind (arith, offence-character never_big sign items number cell found)
 
 -- an area of no item has nothing
 none_below : (area : Area) → area ≡ area_sum [] → IsBelow 0 area
@@ -261,10 +258,7 @@ pub judged-version : (sign : SignData) (items : List Meaning) (pick : FontPick) 
     → (unwrap_or pick.version info.version == info.version) ≡ false → offence Off sign items (Does (Font (Some pick))) ≡ Some 13
 judged-version sign items pick info is differs =
     let (font, found, same) = some_mapped info_of (font_numbered sign pick.number) info is in
-    let versions : font.version ≡ info.version = ap (λ (i : FontInfo). i.version) (sym same) in
-    let test : option_map_or (λ v. not (v == font.version)) pick.version false ≡ true =
-    ap (λ n. option_map_or (λ v. not (v == n)) pick.version false) versions ∙ other_version pick.version info.version ∙ ap not differs in
-    offence-font (too_big Off) sign items pick font found ∙ ap (λ b. cond {A = Option ℕ} b (Some 13) None) test
+    grind (arith, other_version pick.version info.version, offence-font (too_big Off) sign items pick font found, same)
 
 -- the font that is asked for, in its version
 pub judged-picked : (sign : SignData) (items : List Meaning) (state : State) (st : IsStateOf sign items state) (pick : FontPick) (info : FontInfo)

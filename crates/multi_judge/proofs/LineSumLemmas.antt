@@ -148,11 +148,7 @@ last_option (Some n) = refl
 
 -- the gap of a line that an `nl` ends is the gap of its `nl`
 pub gap_of_break : (line : List Spot) (s : Spot) (gap : Option ℕ) → AllPass is_glyph line → s.put ≡ Break gap → last_or None (filter_map given_gap (line ++ s ∷ [])) ≡ gap
-gap_of_break line s gap h e =
-    ap (last_or None) (filter_map-append given_gap line (s ∷ []))
-    ∙ ap (λ l. last_or None (l ++ cons_option (given_gap s) [])) (glyph_gaps line h)
-    ∙ ap (λ p. last_or None (cons_option (given_gap (record { at = s.at; put = p })) [])) e
-    ∙ last_option gap
+gap_of_break line s gap h e = grind (arith, filter_map-append given_gap line (s ∷ []), glyph_gaps line h, last_option gap)
 
 -- a line that an `nl` ends has its height and spacing from its characters, else from the `nl`
 pub largest_break : (f : Spot → ℕ) (line : List Spot) (s : Spot) → AllPass is_glyph line → is_glyph s ≡ false → largest f (bearers (line ++ s ∷ [])) ≡ cond (list_any is_glyph line) (largest f (bearers line)) (f s)
@@ -194,11 +190,7 @@ pub group_character : (just : ℕ) (area : List Spot) (s : Spot) → page_number
     → ◌≡◌ {A = Group} (record { ended = group.ended; closed = group.closed; last = group.last; line = line }) (group_sum (in_group just (area ++ s ∷ [])))
 group_character just area s own g group line e l =
     let before = in_group just area in
-    let c = cut is_break before in
-    ap (λ (group : Group). record { ended = group.ended; closed = group.closed; last = group.last; line = line }) (e ∙ sums_are before)
-    ∙ ap (λ (line : Line). record { ended = (cut_sums c).ended; closed = (cut_sums c).closed; last = (cut_sums c).last; line = line }) (l ∙ ap (λ l. line_sum (l ++ s ∷ [])) (after_last_is is_break before))
-    ∙ sym (sums_push before s false (glyph_put s.at s.put g).0)
-    ∙ ap group_sum (sym (own_group just area s own))
+    grind (arith, sums_are before, after_last_is is_break before, sums_push before s false (glyph_put s.at s.put g).0, own_group just area s own)
 
 -- the gap before a line, from the last ended one
 line_gap_if : (o : Option (List Spot)) (line : List Spot) → option_map_or (λ ended. unwrap_or ended.gap (average ended.spacing (line_spacing line))) (option_map ended_sum o) 0 ≡ option_map_or (λ l. line_gap l line) o 0

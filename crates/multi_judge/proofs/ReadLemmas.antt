@@ -1,5 +1,5 @@
 -- What is kept behind one more character, where lines are filled.
-use Rattle.multi_judge.proofs.Common.{◌≡◌, ℕ, ◌+◌, ◌*◌, ◌≤◌, Bool, true, false, ◌==◌, inl, inr, List, [], ◌∷◌, ◌++◌, length, Option, Some, None, refl, sym, ap, subst, ◌∙◌, arith, append-nil, rules, ◌^◌, ◌<◌, drop, map, slice_get, append_assoc, Result, Ok, Err, not, after_last, list_any, All, and_parts, cases_eq, eq-eqb, eqb-true, false≢true, cases_lt, ne_eqb, length-append, length-drop, All-push, All-nil, sum_by-append, page_number, LineFill, Words, Off, SizedCell, SignData, CellData, cell_in, cell_numbered, Spot, Standing, group_of, in_group, is_break, spots, standing, filled, area_fits, line_fits, laid_item, laid_items, Meaning, Shows, meaning, clashes, conflicts, first_code, offence, unsized_offence, present_area, in_group_other, own_group, are_laid, standing_push, present_area-placing, each_after_length, none_more, Token, IsTokenOf, cycle, ended_times, pages_of, SyntaxError, some_after, Area, Attributes, Split, Pass, Character, Order, Limits, Line, IsFilledFor, IsFilledOf, IsFilledReady, EndsLine, IsSplitBelow, order_sum, split_sum, IsLimited, IsReady, IsStateOf, IsUnfilledOf, attributes_of, IsJudged, IsBelow, IsCharacter, area_sum, State, ReadSoFar, IsCellPut, IsPassOf, drop_all, map-append, slice_get-get_or, spaces_is, Item, IsItem, spelling, spell, HasNoItem, IsReading, item_of, Accepted, IsCycle, IsVerdict, Refused, broken, of_first, verdict, item_refused, length-meanings, offences_push, one_verdict, IsPassReady, fill_of}
+use Rattle.multi_judge.proofs.Common.{◌≡◌, ℕ, ◌+◌, ◌*◌, ◌≤◌, Bool, true, false, ◌==◌, inl, inr, List, [], ◌∷◌, ◌++◌, length, Option, Some, None, refl, sym, ap, subst, ◌∙◌, arith, append-nil, rules, ◌^◌, ◌<◌, drop, map, slice_get, append_assoc, Result, Ok, Err, not, after_last, list_any, All, and_parts, cases_eq, eq-eqb, eqb-true, false≢true, cases_lt, ne_eqb, length-append, length-drop, All-push, All-nil, sum_by-append, page_number, LineFill, Words, Off, SizedCell, SignData, CellData, cell_in, cell_numbered, Spot, Standing, group_of, in_group, is_break, spots, standing, filled, area_fits, line_fits, laid_item, laid_items, Meaning, Shows, meaning, clashes, conflicts, first_code, offence, unsized_offence, present_area, in_group_other, own_group, are_laid, standing_push, present_area-placing, each_after_length, none_more, Token, IsTokenOf, cycle, ended_times, pages_of, SyntaxError, some_after, Area, Attributes, Split, Pass, Character, Order, Limits, Line, IsFilledFor, IsFilledOf, IsFilledReady, EndsLine, IsSplitBelow, order_sum, split_sum, IsLimited, IsReady, IsStateOf, IsUnfilledOf, attributes_of, IsJudged, IsBelow, IsCharacter, area_sum, State, ReadSoFar, IsCellPut, IsPassOf, drop_all, map-append, slice_get-get_or, spaces_is, Item, IsItem, spelling, spell, HasNoItem, IsReading, item_of, Accepted, IsCycle, IsVerdict, Refused, broken, of_first, item_refused, length-meanings, offences_push, one_verdict, IsPassReady, fill_of}
 use Rattle.multi_judge.proofs.Sums.{both_fit, group_behind, no_back, no_clash, present_push, shown_free, ready, split_more, judged-undefined}
 use Rattle.std.proofs.lemmas.List.Concat.{flat_map-append}
 use Rattle.multi_token.proofs.ReadingLemmas.{none_found, spelling_some}
@@ -169,9 +169,7 @@ module _ (sign : SignData) (octets : List ℕ) (at : ℕ) (IsKept : List Meaning
     -- the item offends, whatever stands behind it
     pub refused_here : (code : ℕ) → offence sign.line_fill sign (map meaning r.items) (meaning (item_of octets t)) ≡ Some code → IsVerdict sign octets (Refused code at)
     refused_here code offends =
-        let stays = item_refused sign r.items (item_of octets t) code (drop (t.at + t.len) octets) each_more r.none offends in
-        let is : Refused code at ≡ verdict sign octets = ap (Refused code) r.place ∙ sym stays ∙ ap (verdict sign) regrouped in
-        (one_verdict sign octets (Refused code at)).1 is
+        grind (arith, item_refused sign r.items (item_of octets t) code (drop (t.at + t.len) octets) each_more r.none offends, regrouped, one_verdict sign octets (Refused code at))
 
   -- the end, where all items are read
   all_read : length octets ≡ at → IsReading octets r.items []

@@ -30,10 +30,7 @@ module _ {X : Type 0} (xs : List X) where
 
     -- and the last part with it
     range_more : (i : ℕ) → i ≤ length xs → slice_range (xs ++ x ∷ []) i (length xs + 1) ≡ slice_range xs i (length xs) ++ x ∷ []
-    range_more i low =
-        ap (take (length xs + 1 - i)) (drop-append-le i xs (x ∷ []) low)
-        ∙ take_all (length xs + 1 - i) (drop i xs ++ x ∷ []) (omega (arith, length-drop i xs, length_push (drop i xs) x))
-        ∙ ap (λ l. l ++ x ∷ []) (sym (take_all (length xs - i) (drop i xs) (omega (arith, length-drop i xs))))
+    range_more i low = grind (arith, drop-append-le, take_all, length-drop, length_push)
 
 -- a part that is empty ends where it begins
 empty_range : {X : Type 0} (xs : List X) (i j : ℕ) → i ≤ j → j ≤ length xs → slice_range xs i j ≡ [] → i ≡ j
@@ -59,29 +56,18 @@ module _ (xs : List CountedLine) (middle bottom : ℕ) (ordered : IsOrdered xs m
   -- it is put into the top group, where the others have none
   pub pushed_top : middle' ≡ length ys → bottom' ≡ length ys → old.middle ≡ [] → old.bottom ≡ [] → (new.top ≡ old.top ++ line ∷ []) × (new.middle ≡ old.middle) × (new.bottom ≡ old.bottom)
   pushed_top from_middle from_bottom none3 none4 =
-      let low : bottom ≡ length xs = empty_range xs bottom (length xs) ordered.1 (omega arith) none4 in
-      let mid : middle ≡ bottom = empty_range xs middle bottom ordered.0 ordered.1 none3 in (
-        ap (λ l. slice_range l 0 middle') more ∙ ap (slice_range (xs ++ line ∷ []) 0) (from_middle ∙ long) ∙ range_more xs line 0 (omega arith) ∙ ap (λ n. slice_range xs 0 n ++ line ∷ []) (sym low ∙ sym mid),
-        ap (λ n. slice_range ys n bottom') (from_middle ∙ sym from_bottom) ∙ range_none ys bottom' ∙ sym none3,
-        bottom_none from_bottom ∙ sym none4,
-      )
+      let none = empty_range xs bottom (length xs) ordered.1 (omega arith) none4 in
+      grind (arith, none, empty_range xs middle bottom ordered.0 ordered.1 none3, long, range_more xs line 0 (omega arith), range_none ys bottom', bottom_none from_bottom)
 
   -- into the middle one, where the bottom one has none
   pub pushed_middle : middle' ≡ middle → bottom' ≡ length ys → old.bottom ≡ [] → (new.top ≡ old.top) × (new.middle ≡ old.middle ++ line ∷ []) × (new.bottom ≡ old.bottom)
   pushed_middle from_middle from_bottom none4 =
-      let low : bottom ≡ length xs = empty_range xs bottom (length xs) ordered.1 (omega arith) none4 in (
-        ap (λ l. slice_range l 0 middle') more ∙ ap (slice_range (xs ++ line ∷ []) 0) from_middle ∙ range_kept xs line 0 middle (omega arith) most,
-        ap (λ l. slice_range l middle' bottom') more ∙ ap (λ n. slice_range (xs ++ line ∷ []) n bottom') from_middle ∙ ap (slice_range (xs ++ line ∷ []) middle) (from_bottom ∙ long) ∙ range_more xs line middle most
-            ∙ ap (λ n. slice_range xs middle n ++ line ∷ []) (sym low),
-        bottom_none from_bottom ∙ sym none4,
-      )
+      grind (arith, empty_range xs bottom (length xs) ordered.1 (omega arith) none4, range_kept xs line 0 middle (omega arith) most, long, range_more xs line middle most, bottom_none from_bottom)
 
 -- ---- what is kept of a line and of a group
 
 pub kept_fits_is : (spots : List Spot) (line : Line) (width : ℕ) → line ≡ line_sum spots → line.present ≤ 5 → kept_fits width line ≡ line_fits width spots
-kept_fits_is spots line width e known =
-    let kept = kept_width_is spots line e known in
-    rw (kept 2 (omega arith) (omega arith), kept 3 (omega arith) (omega arith), kept 4 (omega arith) (omega arith), kept 5 (omega arith) (omega arith)) refl
+kept_fits_is spots line width e known = grind (arith, kept_width_is spots line e known)
 
 pub kept_height_is : (spots : List Spot) (group : Group) → All IsPlacing spots → group ≡ group_sum spots → kept_height group ≡ height_of (lines_of spots)
 kept_height_is spots group placing e = search (rules, height_ended, height_present)

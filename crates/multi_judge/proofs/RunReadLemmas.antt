@@ -42,14 +42,8 @@ module _ (sign : SignData) (items : List Meaning) (state : State) (st : IsStateO
 
   -- it is added
   added : AddsCharacter state cell.width longer
-  added = record {
-    sum = area_beside state run.behind gap run.gap_is cell;
-    grows = λ k below. longer_below k ((line_in_force state).part.width + (gap + cell.width)) ((line_in_force state).part.count + 1) state.area below
-        (omega (arith, below.group.line.part.width, run.narrow, small)) (omega (arith, below.group.line.part.count));
-    behind = let b = behind_stays state ((line_in_force state).part.width + (gap + cell.width)) ((line_in_force state).part.count + 1) run.behind in (b.group, b.line);
-    same = refl;
-    limited = λ l. record { width = l.width; height = l.height };
-  }
+  added =
+      grind (arith, area_beside state run.behind gap run.gap_is cell, behind_stays state ((line_in_force state).part.width + (gap + cell.width)) ((line_in_force state).part.count + 1) run.behind)
 
   pub run_goes_on : (line_in_force state).part.width + (gap + cell.width) ≤ state.limits.width
       → (offence Off sign items (Shows number) ≡ None) × IsStateOf sign (items ++ Shows number ∷ []) longer
@@ -121,11 +115,9 @@ module _ (octets : List ℕ) (gap limit : ℕ) (width_of : ℕ → Option ℕ) (
   pub front_taken : (at width count len pixels : ℕ) → P at width count → at + len ≤ length octets → All IsOne (take len (drop at octets)) → HasWidth width_of gap (take len (drop at octets)) pixels
       → width + pixels ≤ limit → P (at + len) (width + pixels) (count + len)
   front_taken at width count len pixels p within ones has narrow =
-      let text = take len (drop at octets) in
-      let size : length text ≡ len = length-take-le len (drop at octets) (rw (length-drop at octets) (omega (arith, within))) in
-      let together = has.together in
-      let all = text_taken text (drop len (drop at octets)) has.widths at width count p (sym (take-append-drop len (drop at octets))) ones has.each has.within (omega (arith, narrow, together)) in
-      rw together (rw size at all)
+      let size = length-take-le len (drop at octets) (rw (length-drop at octets) (omega (arith, within))) in
+      let all = text_taken (take len (drop at octets)) (drop len (drop at octets)) has.widths at width count p (sym (take-append-drop len (drop at octets))) ones has.each has.within (omega (arith, narrow, has.together)) in
+      grind (arith, size, all)
 
 -- the front of what stands behind a character with the same attributes
 module _ (sign : SignData) (octets : List ℕ) (at : ℕ) (state : State) (r : ReadSoFar sign octets at (IsUnfilledOf sign state)) (short : length octets < 2 ^ 63) (gap : ℕ) (run : IsRun state gap) where

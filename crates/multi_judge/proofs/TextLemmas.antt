@@ -1,9 +1,8 @@
 -- A word behind a character with the same attributes, where lines are filled: what is kept with it.
-use Rattle.multi_judge.proofs.Common.{◌≡◌, ℕ, ◌+◌, ◌-◌, ◌^◌, ◌<◌, ◌≤◌, false, ◌==◌, List, [], ◌∷◌, length, take, drop, slice_get, Option, Some, None, refl, ap, subst, ◌∙◌, arith, rules, ◌*◌, true, sym, All, option_map, cases_eq, ne_eqb, All-cons, All-head, All-nil, All-tail, IsPlain, SignData, FontData, IsWithin, HasWidth, width_in, Counted, RisesBetween, charged, Attributes, Split, Pass, Line, IsFilledRun, even_line, with_run, with_run_behind, with_word, with_space, IsFilledFor, IsFilledReady, ReadSoFar, IsAt, IsRun, line_in_force, IsInText, AreWidthsOf, IsNoSpace, TakesSpace}
+use Rattle.multi_judge.proofs.Common.{◌≡◌, ℕ, ◌+◌, ◌-◌, ◌^◌, ◌<◌, ◌≤◌, false, List, length, take, drop, slice_get, Option, Some, None, refl, ap, subst, ◌∙◌, arith, rules, ◌*◌, true, sym, All, option_map, cases_eq, ne_eqb, IsPlain, SignData, FontData, IsWithin, HasWidth, width_in, Counted, RisesBetween, charged, Attributes, Split, Pass, Line, IsFilledRun, even_line, with_run, with_run_behind, with_word, IsFilledFor, IsFilledReady, ReadSoFar, IsAt, IsRun, line_in_force, IsInText, AreWidthsOf, IsNoSpace, TakesSpace, gap_here, is_within, and_from, le-leb, nat_le, kept_height}
 use Rattle.multi_token.proofs.StepLemmas.{rises_then}
 use Rattle.multi_judge.proofs.RunReadLemmas.{one_goes_on, one_taken, run_some, with_one, front_taken}
 use Rattle.multi_judge.proofs.RunLemmas.{run_stays}
-use Rattle.multi_judge.specs.declared.run.Run.{Run}
 use Rattle.multi_judge.proofs.ReadLemmas.{filled_ready_here}
 
 module _ (here : Attributes) (gap : ℕ) where
@@ -35,10 +34,6 @@ with_none gap kept = search (rules)
 with_more : (gap pixels count width : ℕ) (kept : Pass) → (count ≡ 0 → pixels ≡ 0) → (1 ≤ count → gap ≤ pixels) → with_one gap width false (with_word gap pixels count kept) ≡ with_word gap (pixels + (gap + width)) (count + 1) kept
 with_more gap pixels count width kept empty enough = search (rules)
 
-both_of : (P Q : ℕ → Type 0) (xs : List ℕ) → All P xs → All Q xs → All (λ x. P x × Q x) xs
-both_of P Q [] p q = All-nil (λ x. P x × Q x)
-both_of P Q (x ∷ xs) p q = All-cons (λ x. P x × Q x) x xs (All-head P x xs p, All-head Q x xs q) (both_of P Q xs (All-tail P x xs p) (All-tail Q x xs q))
-
 -- a text without a space
 module _ (sign : SignData) (octets : List ℕ) (at : ℕ) (kept : Pass) (r : ReadSoFar sign octets at (IsFilledFor sign kept)) (short : length octets < 2 ^ 63) (run : IsFilledRun kept) (gap : ℕ) (runs : IsRun kept.state gap) where
   abbrev width_of : ℕ → Option ℕ
@@ -60,15 +55,9 @@ module _ (sign : SignData) (octets : List ℕ) (at : ℕ) (kept : Pass) (r : Rea
       let word = with_word gap pixels count kept in
       let here_runs = run_stays kept.state gap (line.part.width + pixels) (line.part.count + count) runs in
       let narrow : line.part.width + pixels + (gap + wide) ≤ kept.state.limits.width = omega (arith, fits, within.0) in
-      let no : (octet == 32) ≡ false = ne_eqb octet 32 one.1 in
-      let more = with_more gap pixels count wide kept taken.empty taken.wide in
-      record {
-        read = subst (λ pass. ReadSoFar sign octets (to + 1) (IsFilledFor sign pass)) (ap (λ b. with_one gap wide b word) no ∙ more)
-            (one_taken sign octets to word taken.read octet short here one.0 taken.goes_on gap here_runs wide within.1 is narrow);
-        goes_on = subst IsFilledRun more (one_goes_on word taken.goes_on gap here_runs wide narrow false);
-        empty = λ none. absurd (omega (arith, none));
-        wide = λ some. omega arith;
-      }
+      let read = one_taken sign octets to word taken.read octet short here one.0 taken.goes_on gap here_runs wide within.1 is narrow in
+      let goes_on = one_goes_on word taken.goes_on gap here_runs wide narrow false in
+      grind (arith, ne_eqb octet 32 one.1, with_more gap pixels count wide kept taken.empty taken.wide, read, goes_on)
 
   -- the front of what stands there
   pub word_taken : (len pixels : ℕ) → at + len ≤ length octets → All IsPlain (take len (drop at octets)) → All IsNoSpace (take len (drop at octets)) → HasWidth width_of gap (take len (drop at octets)) pixels
@@ -77,41 +66,40 @@ module _ (sign : SignData) (octets : List ℕ) (at : ℕ) (kept : Pass) (r : Rea
   word_taken len pixels within plain word has narrow =
       let start : Taken at 0 0 = record { read = rw (with_none gap kept) r; goes_on = rw (with_none gap kept) run; empty = λ none. refl; wide = λ some. absurd (omega (arith, some)) } in
       let all = front_taken octets gap (kept.state.limits.width - line.part.width) width_of (λ octet. IsPlain octet × IsNoSpace octet) Taken one_more at 0 0 len pixels start within
-      (both_of IsPlain IsNoSpace (take len (drop at octets)) plain word) has (omega (arith, narrow)) in
+      (λ k d h. (plain k d h, word k d h)) has (omega (arith, narrow)) in
       let wide : 0 + pixels ≡ pixels = omega arith in
       let many : 0 + len ≡ len = omega arith in
       subst (λ (x : ℕ × ℕ). ReadSoFar sign octets (at + len) (IsFilledFor sign (with_word gap x.0 x.1 kept)) × IsFilledRun (with_word gap x.0 x.1 kept)) (λ i. (wide i, many i)) (all.read, all.goes_on)
 
--- a text with the same run and pass
-text_same : (sign : SignData) (cells : FontData) (octets : List ℕ) (at : ℕ) (gap left gap' left' : ℕ) (pass pass' : Pass) (source : Counted) → gap' ≡ gap → left' ≡ left → pass' ≡ pass
-    → IsInText sign cells octets at (record { gap = gap; left = left }) pass source → IsInText sign cells octets at (record { gap = gap'; left = left' }) pass' source
-text_same sign cells octets at gap left gap' left' pass pass' source g l p text = rw (g, l, p) text
-
 -- a word was read behind a character: octets that stand for themselves, none of them a space, of so many pixels, which go into what is left
-pub record ReadsWord (sign : SignData) (cells : FontData) (octets : List ℕ) (at : ℕ) (run : Run) (pass : Pass) (source : Counted) (len pixels : ℕ) : Type 0 where
-  pub text : IsInText sign cells octets at run pass source
+pub record ReadsWord (sign : SignData) (cells : FontData) (octets : List ℕ) (at : ℕ) (pass : Pass) (source : Counted) (len pixels : ℕ) : Type 0 where
+  pub text : IsInText sign cells octets at (gap_here pass.state) pass source
   pub small : length octets < 2 ^ 32
   pub within : at + len ≤ length octets
   pub plain : All IsPlain (take len (drop at octets))
   pub word : All IsNoSpace (take len (drop at octets))
-  pub has : HasWidth (width_in sign pass.state.attributes.font.number) run.gap (take len (drop at octets)) pixels
-  pub narrow : pixels ≤ run.left
+  pub has : HasWidth (width_in sign pass.state.attributes.font.number) (gap_here pass.state) (take len (drop at octets)) pixels
+  pub run : IsRun pass.state (gap_here pass.state) × ((line_in_force pass.state).part.width + pixels ≤ pass.state.limits.width)
 
-pub words : {sign : SignData} {cells : FontData} {octets whole : List ℕ} {at : ℕ} {run : Run} {pass : Pass} {source : Counted} (len pixels : ℕ) → IsInText sign cells octets at run pass source → octets ≡ whole → length whole < 2 ^ 32
-    → at + len ≤ length octets → All IsPlain (take len (drop at octets)) → All IsNoSpace (take len (drop at octets)) → pixels ≤ run.left
-    → ((s : SignData) (font : ℕ) → AreWidthsOf s font cells → HasWidth (width_in s font) run.gap (take len (drop at octets)) pixels) → ReadsWord sign cells octets at run pass source len pixels
-words {sign} {pass = pass} len pixels text same short within plain word narrow has =
-    record { text = text; small = omega (arith, ap length same, short); within = within; plain = plain; word = word; narrow = narrow; has = has sign pass.state.attributes.font.number text.widths }
+pub words : {sign : SignData} {cells : FontData} {octets whole : List ℕ} {at : ℕ} {pass : Pass} {source : Counted} {gap : ℕ} (len pixels : ℕ) → IsInText sign cells octets at gap pass source → octets ≡ whole → length whole < 2 ^ 32
+    → at + len ≤ length octets → All IsPlain (take len (drop at octets)) → All IsNoSpace (take len (drop at octets))
+    → ((s : SignData) (font : ℕ) → AreWidthsOf s font cells → HasWidth (width_in s font) (gap_here pass.state) (take len (drop at octets)) pixels)
+    → (is_within pass.state ≡ true → IsRun pass.state (gap_here pass.state) × ((line_in_force pass.state).part.width + pixels ≤ pass.state.limits.width)) → ReadsWord sign cells octets at pass source len pixels
+words {sign} {pass = pass} len pixels text same short within plain word has run =
+    record { text = record { behind = text.behind; fits = text.fits; within = text.within; gap_is = refl; widths = text.widths }; small = omega (arith, ap length same, short); within = within; plain = plain; word = word; has = has sign pass.state.attributes.font.number text.widths; run = run text.within }
 
-module _ {sign : SignData} {cells : FontData} {octets : List ℕ} {at : ℕ} {run : Run} {pass : Pass} {source : Counted} {len pixels : ℕ} (w : ReadsWord sign cells octets at run pass source len pixels) where
+module _ {sign : SignData} {cells : FontData} {octets : List ℕ} {at : ℕ} {pass : Pass} {source : Counted} {len pixels : ℕ} (w : ReadsWord sign cells octets at pass source len pixels) where
+  abbrev gap : ℕ
+  gap = gap_here pass.state
+
   abbrev kept : Pass
-  kept = with_word run.gap pixels len pass
+  kept = with_word gap pixels len pass
 
   taken : ReadSoFar sign octets (at + len) (IsFilledFor sign kept) × IsFilledRun kept
-  taken = word_taken sign octets at pass w.text.behind.so_far (omega (arith, w.small)) w.text.fits run.gap w.text.runs len pixels w.within w.plain w.word w.has (omega (arith, w.narrow, w.text.left))
+  taken = word_taken sign octets at pass w.text.behind.so_far (omega (arith, w.small)) w.text.fits gap w.run.0 len pixels w.within w.plain w.word w.has w.run.1
 
-  word_room : IsRun kept.state run.gap
-  word_room = run_stays pass.state run.gap ((line_in_force pass.state).part.width + pixels) ((line_in_force pass.state).part.count + len) w.text.runs
+  word_room : IsRun kept.state gap
+  word_room = run_stays pass.state gap ((line_in_force pass.state).part.width + pixels) ((line_in_force pass.state).part.count + len) w.run.0
 
   pub word_ready : IsFilledReady kept
   word_ready = filled_ready_here sign octets (at + len) kept taken.0 w.small
@@ -126,36 +114,27 @@ module _ {sign : SignData} {cells : FontData} {octets : List ℕ} {at : ℕ} {ru
     word_ended next octet pass' is = rw is (search (rules, steps, taken))
 
     -- the word and the space behind it
-    pub word_spaced : slice_get octets (at + len) ≡ Some 32 → (left : ℕ) (word : Pass) → left ≡ run.left - pixels → word ≡ kept → (width : ℕ) (run' : Run) (pass' : Pass)
-        → TakesSpace cells (record { gap = run.gap; left = left }) word width run' pass' → IsInText sign cells octets (at + len + 1) run' pass' behind
-    word_spaced here left word less is width run' pass' space =
+    pub word_spaced : slice_get octets (at + len) ≡ Some 32 → (width : ℕ) (pass' : Pass) → TakesSpace cells gap kept width pass' → IsInText sign cells octets (at + len + 1) gap pass' behind
+    word_spaced here width pass' space =
         let line = line_in_force kept.state in
         let text = w.text in
-        let fewest = rises.1 in
-        let few = rises.2 in
-        let least = text.behind.least in
-        let most = text.behind.most in
-        let enough : line.part.width + (run.gap + width) ≤ pass.state.limits.width = omega (arith, less, space.fits, w.narrow, text.left) in
-        let cell = space.cell ∙ sym (text.widths 32) in
-        let there : IsInText sign cells octets (at + len + 1) (record { gap = run.gap; left = left - (run.gap + width) }) (with_space (run.gap + width) kept) behind = record {
+        subst (λ p. IsInText sign cells octets (at + len + 1) gap p behind) (sym space.kept) (record {
           behind = record {
-            so_far = one_taken sign octets (at + len) kept taken.0 32 (omega (arith, w.small)) here (λ e. omega (arith, e), λ e. omega (arith, e)) taken.1 run.gap word_room width space.within.1 cell enough;
+            so_far = one_taken sign octets (at + len) kept taken.0 32 (omega (arith, w.small)) here (λ e. omega (arith, e), λ e. omega (arith, e)) taken.1 gap word_room width space.within.1 (space.cell ∙ sym (text.widths 32)) space.fits;
             same = ap (λ (s : Counted). s.octets) rises.3 ∙ text.behind.same;
-            least = omega (arith, steps, fewest, least, w.within, w.small);
-            most = omega (arith, steps, few, most, w.within, w.small);
+            least = omega (arith, steps, rises.1, text.behind.least, w.within, w.small);
+            most = omega (arith, steps, rises.2, text.behind.most, w.within, w.small);
           };
-          fits = one_goes_on kept taken.1 run.gap word_room width enough true;
-          runs = run_stays kept.state run.gap (line.part.width + (run.gap + width)) (line.part.count + 1) word_room;
-          left = omega (arith, less, space.fits, w.narrow, text.left);
+          fits = one_goes_on kept taken.1 gap word_room width space.fits true;
+          within = and_from (nat_le (line.part.width + (gap + width)) pass.state.limits.width) (nat_le (kept_height pass.state.area.group) pass.state.limits.height) (le-leb (line.part.width + (gap + width)) pass.state.limits.width space.fits) word_room.height;
+          gap_is = refl;
           widths = text.widths;
-        } in
-        text_same sign cells octets (at + len + 1) run.gap (left - (run.gap + width)) run'.gap run'.left _ pass' behind space.gap space.left (space.kept ∙ ap (with_space (run.gap + width)) is) there
+        })
 
 -- the steps of a word, and one more where the cell of a space was looked for
 pub with_look : (old read looked : Counted) (len : ℕ) → RisesBetween old read (2 * len + 1) (2 * len + 2) → looked ≡ charged read 1 → RisesBetween old looked (2 * len + 1) (2 * len + 3)
 with_look old read looked len rises step =
-    let all = rises_then old read looked (2 * len + 1) (2 * len + 2) 0 1 rises (1, omega arith, omega arith, step) in
-    (all.0, omega (arith, all.1), omega (arith, all.2), all.3)
+    grind (arith, rises_then old read looked (2 * len + 1) (2 * len + 2) 0 1 rises (1, omega arith, omega arith, step))
 
 pub without_look : (old read same : Counted) (len : ℕ) → RisesBetween old read (2 * len + 1) (2 * len + 2) → same ≡ read → RisesBetween old same (2 * len + 1) (2 * len + 3)
 without_look old read same len rises is = (rises.0, rises.1, omega (arith, rises.2), is ∙ rises.3)

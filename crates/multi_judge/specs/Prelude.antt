@@ -29,7 +29,7 @@ pub use Rattle.multi_judge.specs.KnownItem.{IsOctet, is_setting, meant_by}
 pub use Rattle.multi_judge.specs.PassState.{IsPassBehind, IsPassReady, IsPassOf}
 pub use Rattle.multi_judge.specs.Passed.{JudgesCell, JudgesItem, PutsCell}
 pub use Rattle.multi_judge.specs.Placing.{PlacesCharacter, TellsEnd}
-pub use Rattle.multi_judge.specs.Run.{kept_height, IsBehindOne, is_within, IsOpen, kept_width, IsBehindCharacter, IsRun, IsRunPassed, lengthened, line_in_force}
+pub use Rattle.multi_judge.specs.Run.{kept_height, IsBehindOne, IsOpen, kept_width, IsBehindCharacter, IsRun, IsRunPassed, gap_here, is_within, lengthened, line_in_force}
 pub use Rattle.multi_judge.specs.State.{IsSimple, attributes_of, IsLimited, IsMost, JudgesTag, IsReady, Judges, IsStateOf, whole_times}
 pub use Rattle.multi_judge.specs.Sums.{group_sum, area_sum, IsBreak, IsGroupBelow, IsBelow, IsCharacter, IsLineBelow, line_sum}
 pub use Rattle.multi_judge.specs.Table.{group_lines, line_count, line_entry, TableLines, IsOrdered, split_lines}

@@ -80,11 +80,15 @@ pub record IsBehindCharacter (state : State) : Type 0 where
   pub group : state.area.present ≡ page_number state.attributes.page_just
   pub line : IsBehindOne state.attributes.line_just state.attributes.font (line_in_force state)
 
+-- the gap in force before one more character, in pixels (own)
+abbrev pub gap_here : State → ℕ
+gap_here state = unwrap_or state.attributes.spacing state.attributes.font.char_spacing
+
 -- a character here has the attributes of the one before it, so that it only lengthens their segment: by its width and this gap; the limits
 -- are known, and the present group is within its own (own)
 pub record IsRun (state : State) (gap : ℕ) : Type 0 where
   pub behind : IsBehindCharacter state
-  pub gap_is : gap ≡ unwrap_or state.attributes.spacing state.attributes.font.char_spacing
+  pub gap_is : gap ≡ gap_here state
   pub narrow : gap ≤ 255
   pub limited : IsLimited state
   pub height : nat_le (kept_height state.area.group) state.limits.height ≡ true
@@ -98,7 +102,7 @@ pub record IsRunPassed (sign : SignData) (octets : List ℕ) (at : ℕ) (state :
   pub within : at' ≤ length octets
   pub plain : All IsPlain (slice_range octets at at')
   pub width : HasWidth (width_in sign state.attributes.font.number) gap (slice_range octets at at') pixels
-  pub gap_is : gap ≡ unwrap_or state.attributes.spacing state.attributes.font.char_spacing
+  pub gap_is : gap ≡ gap_here state
   pub narrow : gap ≤ 255
   pub run : is_within state ≡ true → IsRun state gap × ((line_in_force state).part.width + pixels ≤ state.limits.width)
   pub is : state' ≡ lengthened ((line_in_force state).part.width + pixels) ((line_in_force state).part.count + (at' - at)) state

@@ -2,7 +2,7 @@
 //! each space does so, as long as it stays on its line.
 
 ghost use Rattle.std.specs.Prelude.{All, ◌≡◌, ◌+◌, ◌-◌, ◌*◌, ◌^◌, ◌<◌, ◌≤◌, ℕ, true, false, drop, length, slice_get, take};
-ghost use Rattle.multi_judge.specs.Prelude.{unwrap_or, charged, RisesBetween, IsPlain, SignData, AreWidthsOf, HasWidth, IsNoSpace, width_in, IsFilledRun, with_word, IsFilledReady, IsPassBehind, IsPassOf, IsAt, IsBehind, IsBehindCharacter, IsBehindOne, IsRun, IsRunPassed, is_within, lengthened, line_in_force, IsLimited, IsReady, TakesSpace};
+ghost use Rattle.multi_judge.specs.Prelude.{charged, RisesBetween, IsPlain, SignData, AreWidthsOf, HasWidth, IsNoSpace, width_in, IsFilledRun, with_word, IsFilledReady, IsPassBehind, IsPassOf, IsAt, IsBehind, IsBehindCharacter, IsBehindOne, IsRun, IsRunPassed, gap_here, is_within, lengthened, line_in_force, IsLimited, IsReady, TakesSpace};
 
 use crate::fill::Split;
 use crate::line::Line;
@@ -10,60 +10,43 @@ use crate::pass::Pass;
 use crate::state::State;
 use crate::terms::Terms;
 use multi_tag::LineJust;
-use multi_token::{Run as Front, Source};
+use multi_token::{Run, Source};
 use sign_font::{FontCells, FontInfo};
 
-/// What the characters of a run are judged by, in pixels.
-#[derive(Clone, Copy)]
-pub struct Run {
-    /// Between one and the next.
-    pub gap: u8,
-    /// What is left for them.
-    pub left: u64,
-}
-
-impl Run {
-    /// The octets from an offset on that the run can take in the font of these cells: none is a bracket nor, if it is a word, a space,
-    /// each has a cell, and together they go into what is left. Each of these octets takes two steps, and so does the octet behind them;
-    /// the end takes one.
-    pub fn read(
-        self,
+impl State {
+    /// The octets from an offset on that go on behind the last character in the font of these cells: none is a bracket nor, if they are
+    /// to be a word, a space, each has a cell, and together they go into what the line has left. Each of these octets takes two steps, and
+    /// so does the octet behind them; the end takes one.
+    pub(crate) fn read_on(
+        &self,
         cells: &FontCells<'_>,
         source: &mut Source<'_>,
         at: usize,
         word: bool,
-    ) -> Front
-        requires { at ≤ length source.old.octets }
+    ) -> Run
+        requires behind { IsBehindCharacter self.now }
+        requires limited { IsLimited self.now }
+        requires at { at ≤ length source.old.octets }
         ensures within { at + result.len ≤ length source.old.octets }
         ensures plain { All IsPlain (take result.len (drop at source.old.octets)) }
         ensures word { word ≡ true → All IsNoSpace (take result.len (drop at source.old.octets)) }
         ensures width { (sign : SignData) (font : ℕ) → AreWidthsOf sign font cells.now
-            → HasWidth (width_in sign font) self.gap (take result.len (drop at source.old.octets)) result.width }
-        ensures left { result.width ≤ self.left }
+            → HasWidth (width_in sign font) (gap_here self.now) (take result.len (drop at source.old.octets)) result.width }
+        ensures narrow { gap_here self.now ≤ 255 }
+        ensures run { is_within self.now ≡ true → IsRun self.now (gap_here self.now)
+            × ((line_in_force self.now).part.width + result.width ≤ self.now.limits.width) }
         ensures next { result.next ≡ slice_get source.old.octets (at + result.len) }
         ensures steps { RisesBetween source.old source.new (2 * result.len + 1) (2 * result.len + 2) }
         ensures room { length source.old.octets < 2 ^ 63 }
     {
+        let left = self
+            .limits
+            .width
+            .saturating_sub(self.area.group.line.part.width);
         // no line has as many pixels
-        let room = self.left.min(0x7fff) as u32;
-        source.read_run(at, cells.advances(word), u32::from(self.gap), 0, room)
-    }
-}
-
-impl State {
-    /// The run that goes on behind the last character.
-    pub(crate) fn run(&self) -> Run
-        requires behind { IsBehindCharacter self.now }
-        requires limited { IsLimited self.now }
-        ensures gap { (result.gap ≡ unwrap_or self.now.attributes.spacing self.now.attributes.font.char_spacing) × (result.gap ≤ 255) }
-        ensures run { is_within self.now ≡ true
-            → IsRun self.now result.gap × ((line_in_force self.now).part.width + result.left ≡ self.now.limits.width) }
-    {
-        let taken = self.area.group.line.part.width;
-        Run {
-            gap: self.attributes.gap(),
-            left: self.limits.width.saturating_sub(taken),
-        }
+        let room = left.min(0x7fff) as u32;
+        let gap = u32::from(self.attributes.gap());
+        source.read_run(at, cells.advances(word), gap, 0, room)
     }
 
     /// Adds a width and a number of characters to the present segment.
@@ -112,8 +95,8 @@ impl Pass {
             }
     }
 
-    /// Adds so many characters of a word, of so many pixels with this gap before each: where nothing is behind the last space, the first
-    /// one has none there.
+    /// Adds so many characters of a word, of so many pixels with the gap before each: where nothing is behind the last space, the first one
+    /// has none there.
     fn take(&mut self, gap: u8, pixels: u64, count: u64)
         requires ready { IsFilledReady self.old }
         requires narrow { (pixels < 2 ^ 32) × (count < 2 ^ 32) }
@@ -139,20 +122,20 @@ impl Pass {
     }
 
     /// Takes a space, if it has a cell and fits the present line, which may be broken there then. Looking for the cell is one step.
-    fn take_space(&mut self, cells: &FontCells<'_>, source: &mut Source<'_>, run: &mut Run) -> bool
+    fn take_space(&mut self, cells: &FontCells<'_>, source: &mut Source<'_>, gap: u8) -> bool
         requires ready { IsFilledReady self.old }
-        ensures taken { result ≡ true → (width : ℕ) × TakesSpace cells.now run.old self.old width run.new self.new }
-        ensures left { result ≡ false → (run.new ≡ run.old) × (self.new ≡ self.old) }
+        ensures taken { result ≡ true → (width : ℕ) × TakesSpace cells.now gap self.old width self.new }
+        ensures left { result ≡ false → self.new ≡ self.old }
         ensures step { source.new ≡ charged source.old 1 }
     {
         let Some(width) = cells.width(source, b' ') else {
             return false;
         };
-        let pixels = u64::from(run.gap) + u64::from(width);
-        if pixels > run.left {
+        let taken = self.state.area.group.line.part.width;
+        let pixels = u64::from(gap) + u64::from(width);
+        if taken + pixels > self.state.limits.width {
             return false;
         }
-        run.left -= pixels;
         self.split = Some(Split {
             before: self.state.area.group.line,
             font: self.state.attributes.font,
@@ -186,14 +169,13 @@ pub fn judge_run<const WORDS: bool>(
     if !pass.goes_on() {
         return (at, source.read(at));
     }
-    let mut run = pass.state.run();
+    let gap = pass.state.attributes.gap();
     let mut at = at;
     loop {
-        let word = run.read(cells, source, at, true);
-        pass.take(run.gap, u64::from(word.width), word.len as u64);
-        run.left -= u64::from(word.width);
+        let word = pass.state.read_on(cells, source, at, true);
+        pass.take(gap, u64::from(word.width), word.len as u64);
         at += word.len;
-        if word.next != Some(b' ') || !pass.take_space(cells, source, &mut run) {
+        if word.next != Some(b' ') || !pass.take_space(cells, source, gap) {
             return (at, word.next);
         }
         at += 1;
@@ -219,8 +201,7 @@ pub fn go_along(
     ensures next { result.1 ≡ slice_get source.old.octets result.0 }
     ensures steps { RisesBetween source.old source.new (2 * (result.0 - at) + 1) (2 * (result.0 - at) + 2) }
 {
-    let run = state.run();
-    let front = run.read(cells, source, at, false);
-    state.lengthen(u64::from(front.width), front.len as u64);
-    (at + front.len, front.next)
+    let run = state.read_on(cells, source, at, false);
+    state.lengthen(u64::from(run.width), run.len as u64);
+    (at + run.len, run.next)
 }

@@ -1,5 +1,5 @@
 -- The items of a page, drawn one after the other.
-use Rattle.multi_layout.proofs.Common.{Counted, RisesBetween, charged, not, ◌-◌, ◌⊎◌, inr, ◌≡◌, ℕ, ◌+◌, ◌^◌, ◌<◌, ◌≤◌, false, cond, slice_get, List, [], ◌∷◌, ◌++◌, length, map, Option, None, Some, refl, sym, ap, subst, ◌∙◌, arith, append_assoc, rules, Bool, true, Err, Ok, inl, mul-add, mul-le-mul_left, false≢true, length-append, map-append, All-head, All-tail, spelling, Item, spelling_some, BitPlane, SignData, tallest, standing, Spot, Standing, put_at, EndsArea, Meaning, begins_area, is_new_page, Does, has_place, meaning, pages_of, NextItem, State, LineTable, pages_of-push, at_end, Tag, NewPage, NewLine, Font, Rect, Back, Off, Words, SyntaxError, Defaults, too_big, laid_items, offence, offence_by, Pass, ends_line, is_setting, meant_by, IsPassOf, IsStateOf, Cursor, Layer, AreaLines, plane_octets, BeginsNoArea, HasCounted, IsAreaDrawn, IsDrawnTo, IsDrawnUpTo, IsFilledBy, IsInArea, whole_area, IsNextDrawn, IsReadBehind, octets_read, IsBetween, IsFirst, IsItemRead, IsRead, items_of, meant, LaidItem, spell_of, IsPlaced, IsNextAt, IsMet, Setting}
+use Rattle.multi_layout.proofs.Common.{Counted, RisesBetween, charged, not, ◌-◌, ◌⊎◌, inr, ◌≡◌, ℕ, ◌+◌, ◌^◌, ◌<◌, ◌≤◌, false, cond, slice_get, List, [], ◌∷◌, ◌++◌, length, map, Option, None, Some, refl, sym, ap, subst, ◌∙◌, arith, append_assoc, rules, Bool, true, Err, Ok, inl, mul-add, mul-le-mul_left, false≢true, length-append, map-append, All-head, All-tail, spelling, Item, spelling_some, BitPlane, SignData, tallest, standing, Spot, Standing, put_at, EndsArea, Meaning, begins_area, is_new_page, Does, has_place, meaning, pages_of, NextItem, State, LineTable, pages_of-push, at_end, Tag, Off, Words, SyntaxError, Defaults, too_big, laid_items, offence, offence_by, Pass, ends_line, is_setting, meant_by, IsPassOf, IsStateOf, Cursor, Layer, AreaLines, plane_octets, BeginsNoArea, HasCounted, IsAreaDrawn, IsDrawnTo, IsDrawnUpTo, IsFilledBy, IsInArea, whole_area, IsNextDrawn, IsReadBehind, octets_read, IsBetween, IsFirst, IsItemRead, IsRead, items_of, meant, LaidItem, spell_of, IsPlaced, IsNextAt, IsMet, Setting}
 use Rattle.std.specs.Option.{is_some}
 use Rattle.multi_meaning.proofs.StandingLemmas.{same_area}
 use Rattle.multi_judge.proofs.ReadLemmas.{judged_unfilled}
@@ -82,12 +82,7 @@ area_met {sign} {octets} {layer} {page} {read} {cursor} {plane} d state same =
 
 module _ {sign : SignData} {octets : List ℕ} {layer : Layer} {page : ℕ} {read : AreaLines} {cursor : Cursor} {plane : BitPlane} (d : IsAreaDrawn sign octets layer page read cursor plane) where
   pub area_within : read.end ≤ length octets
-  area_within =
-      let b = d.up_to.between in
-      let left = d.left in
-      let behind : length (spell_of d.behind) ≡ length (spell_of left.area) + length (spell_of left.rest) =
-      ap (λ l. length (spell_of l)) left.split ∙ ap length (spell_of-append left.area left.rest) ∙ length-append (spell_of left.area) (spell_of left.rest) in
-      omega (arith, left.end, b.placed.place, total sign octets (items_of d.before) (items_of d.behind) cursor.at b.placed, behind)
+  area_within = grind (arith, total sign octets (items_of d.before) (items_of d.behind) cursor.at d.up_to.between.placed, spell_of-append d.left.area d.left.rest, length-append (spell_of d.left.area) (spell_of d.left.rest))
 
   pub area_short : cursor.at < 2 ^ 32
   area_short = let b = d.up_to.between in omega (arith, within_between sign octets d.before d.behind cursor b, b.placed.accepted.short)
@@ -140,12 +135,10 @@ next_met {sign} {octets} {octets'} {octets''} {cursor = cursor} same same' state
 
 -- what was read behind the cursor
 pub read_one : (read : Option ℕ) → octets_read read ≤ 1
-read_one None = omega arith
-read_one (Some octet) = omega arith
+read_one read = grind (arith)
 
 pub none_read : (octets : List ℕ) (at end : ℕ) (read : Option ℕ) → IsReadBehind octets at end read → end ≤ at → octets_read read ≡ 0
-none_read octets at end None is past = refl
-none_read octets at end (Some octet) is past = absurd (omega (arith, is.1, past))
+none_read octets at end read is past = grind (arith)
 
 -- the octet at the cursor is read, if it wasn't
 pub octet_there : {octets : List ℕ} (at end : ℕ) (first : Option ℕ) → IsReadBehind octets at end first → (old : Counted) → old.octets ≡ octets → (none : Bool) → is_some first ≡ not none → {new : Counted} {first' : Option ℕ}
@@ -157,14 +150,7 @@ octet_there at end (Some octet) i old same none some (inr (is, found, steps)) = 
 
 -- the steps over the plane add up
 pub filled_then : (sign : SignData) (a b c : BitPlane) (m n : ℕ) → IsFilledBy sign a b m → IsFilledBy sign b c n → IsFilledBy sign a c (m + n)
-filled_then sign a b c m n x y = record {
-  fills = x.fills + y.fills;
-  few = omega (arith, x.few, y.few);
-  least = omega (arith, x.least, y.least);
-  most = omega (arith, x.most, y.most, mul-add (tallest sign) m n, mul-add (plane_octets sign) x.fills y.fills);
-  width = y.width ∙ x.width;
-  height = y.height ∙ x.height;
-}
+filled_then sign a b c m n x y = grind (arith, mul-add (tallest sign) m n, mul-add (plane_octets sign) x.fills y.fills)
 
 pub filled_none : (sign : SignData) (a : BitPlane) → IsFilledBy sign a a 0
 filled_none sign a = record { fills = 0; few = omega arith; least = omega arith; most = omega arith; width = refl; height = refl }
@@ -175,13 +161,7 @@ filled_longer sign a b m n more x = first_of (search (rules, mul-le-mul_left), g
 
 offends_alike : (f g : List Spot → Spot → Bool) (sign : SignData) (one other : List Meaning) (tag : Tag) → is_setting (Does tag) ≡ true → offence_by f sign one (Does tag) ≡ offence_by g sign other (Does tag)
 unfolding offence_by
-offends_alike f g sign one other NewPage e = absurd (false≢true e)
-offends_alike f g sign one other (NewLine gap) e = absurd (false≢true e)
-offends_alike f g sign one other (Rect x y w h) e = absurd (false≢true e)
-offends_alike f g sign one other (Back colour) e = absurd (false≢true e)
-offends_alike f g sign one other (Font None) e = refl
-offends_alike f g sign one other (Font (Some pick)) e = refl
-offends_alike f g sign one other tag e = refl
+offends_alike f g sign one other tag e = grind (arith, false≢true)
 
 -- the first item of the rest of an accepted string doesn't offend behind other items either, if it is a setting
 pub setting_fine : (sign : SignData) (octets : List ℕ) (before behind : List Item) (at : ℕ) → IsPlaced sign octets before behind at → (next : NextItem) → IsFirst behind (Some next) → (tag : Tag) → meant_by next.item ≡ Does tag
@@ -198,11 +178,7 @@ never_refused sign tag new fine error items judged = first_of (search (rules), g
 -- it begins no area, ends no line, has no place, begins no line and puts nothing
 pub setting_is : (tag : Tag) → is_setting (Does tag) ≡ true → (begins_area (Does tag) ≡ false) × (ends_line (Does tag) ≡ false) × (has_place (Does tag) ≡ false) × (begins_line tag ≡ false)
     × ((defaults : Defaults) (at : Standing) → put_at defaults at (Does tag) ≡ None)
-setting_is NewPage e = absurd (false≢true e)
-setting_is (NewLine gap) e = absurd (false≢true e)
-setting_is (Rect x y w h) e = absurd (false≢true e)
-setting_is (Back colour) e = absurd (false≢true e)
-setting_is tag e = (refl, refl, refl, refl, λ defaults at. refl)
+setting_is tag e = grind (arith, false≢true)
 
 -- what is kept of some items is that of the items with it, but for its state
 pub setting_passed : (words : Bool) (sign : SignData) (items : List Meaning) (kept : Pass) (state : State) (tag : Tag) → IsPassOf words sign kept items → PutsSetting sign tag kept.state state

@@ -1,5 +1,5 @@
 -- The first reading of an area: the table of its lines, item by item.
-use Rattle.multi_layout.proofs.Common.{◌≡◌, ℕ, Bool, true, ◌+◌, ◌-◌, ◌<◌, ◌≤◌, false, cond, ◌⊎◌, inl, inr, slice_get, None, length, map, List, [], ◌∷◌, ◌++◌, Some, Option, refl, sym, ap, subst, ◌∙◌, arith, append_assoc, append-nil, rules, suc, ◌^◌, drop, map-append, length-drop, length-take-le, take-append-drop, All-head, All-tail, All, unwrap_or, sum_by-append, Item, IsPlain, spelling_some, page_number, LineFill, Words, SignData, cell_in, IsSound, Standing, in_area, spots, standing, laid_items, Does, EndsArea, Meaning, begins_area, meaning, Shows, present_area, fault_at, offences, are_laid, laid_plain, area_ends, standing_push, left_nil, some_after-append, Area, NextItem, Pass, State, LineTable, laid_area, IsFilledOf, meant_by, IsPassOf, fill_of, IsPassReady, IsStateOf, IsReady, group_lines, table_of, area_sum, at_end, drop_read, read_drop, width_in, unsized_if, IsBehindCharacter, lengthened, line_in_force, behind_stays, state_beside, behind_first, cell_of_width, Cursor, Setting, AreaLines, IsNextRead, IsReadOf, BeginsNoArea, HasCounted, HasKnown, IsInArea, next_group, whole_area, IsBetween, IsFirst, IsItemRead, IsPlaced, items_of, laid_meanings, meant, LaidItem, spell_of, IsMet, IsNextAt, Layer, BitPlane, IsPageDrawn, IsAreaDrawn, spelling}
+use Rattle.multi_layout.proofs.Common.{◌≡◌, ℕ, Bool, true, ◌+◌, ◌-◌, ◌<◌, ◌≤◌, false, cond, ◌⊎◌, inl, inr, slice_get, None, length, map, List, [], ◌∷◌, ◌++◌, Some, Option, refl, sym, ap, subst, ◌∙◌, arith, append_assoc, append-nil, rules, suc, ◌^◌, drop, map-append, length-drop, length-take-le, take-append-drop, All-head, All-tail, All, unwrap_or, sum_by-append, Item, IsPlain, spelling_some, page_number, LineFill, Words, SignData, cell_in, IsSound, Standing, in_area, spots, standing, laid_items, Does, EndsArea, Meaning, begins_area, meaning, Shows, present_area, fault_at, offences, are_laid, laid_plain, area_ends, standing_push, left_nil, some_after-append, Area, NextItem, Pass, State, LineTable, laid_area, IsFilledOf, meant_by, IsPassOf, fill_of, IsPassReady, IsStateOf, IsReady, group_lines, table_of, at_end, drop_read, read_drop, width_in, unsized_if, IsBehindCharacter, lengthened, line_in_force, behind_stays, state_beside, behind_first, cell_of_width, Cursor, Setting, AreaLines, IsNextRead, IsReadOf, BeginsNoArea, HasCounted, HasKnown, IsInArea, next_group, whole_area, IsBetween, IsFirst, IsItemRead, IsPlaced, items_of, laid_meanings, meant, LaidItem, spell_of, IsMet, IsNextAt, Layer, BitPlane, IsPageDrawn, IsAreaDrawn, spelling}
 use Rattle.std.proofs.Common.{length-append}
 use Rattle.std.proofs.lemmas.List.Elements.{All-nil, All-push}
 use Rattle.std.specs.Prelude.{slice_range}
@@ -59,10 +59,7 @@ module _ (words : Bool) {sign : SignData} (kind : sign.line_fill ≡ fill_of wor
 
   made_of : (kept : Pass) → kept.state ≡ cursor.state → (IsStateOf sign (laid_items Words sign ms ms) cursor.state → present_area sign ms ≡ [] → IsFilledOf sign ms kept) → offences sign (items_of before) ≡ []
       → (by : Bool) → sign.line_fill ≡ fill_of by → IsStateOf sign (laid_items (fill_of by) sign ms ms) cursor.state → IsPassOf by sign kept ms
-  made_of kept same made fine true is st = record { words = is; of = made st no_items }
-  made_of kept same made fine false is st =
-      let st' = subst (IsStateOf sign ms) (sym same) (subst (λ l. IsStateOf sign l cursor.state) (laid_plain sign ms) st) in
-      record { off = is; fine = fine_items sign is (items_of before) fine; state_is = st'; limited = limited_none kept.state (st'.area ∙ ap area_sum no_items) }
+  made_of kept same made fine by is st = grind (arith, no_items, laid_plain, fine_items, limited_none)
 
   pub nothing_read : (kept : Pass) → kept.state ≡ cursor.state
       → ((sign : SignData) (items : List Meaning) → IsStateOf sign (laid_items Words sign items items) cursor.state → present_area sign items ≡ [] → IsFilledOf sign items kept)
@@ -91,10 +88,7 @@ module _ (words : Bool) {sign : SignData} (kind : sign.line_fill ≡ fill_of wor
 -- a table that has the lines of an area among the items so far has them among all
 counted_among : (words : Bool) (sign : SignData) (items rest : List Meaning) → EndsArea rest → (table : LineTable) → HasCounted (laid_area words sign items) table
     → HasCounted (in_area (standing sign items).area (spots sign (laid_items (fill_of words) sign (items ++ rest) (items ++ rest)))) table
-counted_among true sign items rest ends table counted = counted_whole sign items rest ends table counted
-counted_among false sign items rest ends table counted =
-    let whole = ap (λ l. in_area (standing sign items).area (spots sign l)) (laid_plain sign (items ++ rest)) ∙ area_ends sign items rest ends ∙ ap (present_area sign) (sym (laid_plain sign items)) in
-    subst (λ a. HasCounted a table) (sym whole) counted
+counted_among words sign items rest ends table counted = grind (arith, counted_whole, laid_plain, area_ends)
 
 -- one more item
 module _ {words : Bool} {sign : SignData} {octets : List ℕ} {before behind : List LaidItem} {at : ℕ} {kept : Pass} {lines : LineTable} (so : SoFar words sign octets before behind at kept lines) where
@@ -297,12 +291,7 @@ module _ {words : Bool} {sign : SignData} {octets : List ℕ} {layer : Layer} {p
 -- the cursor isn't behind what was read
 pub moved_on : (cursor cursor' : Cursor) (at len : ℕ) (state : State) → GoesBehind cursor at len state cursor' → cursor.at ≤ at → 1 ≤ len
     → (cursor'.at ≡ at + len → state ≡ cursor'.state) × (cursor.at ≤ cursor'.at) × (cursor'.at ≤ at + len)
-moved_on cursor cursor' at len state (inl (here, is)) on some =
-    let to = ap (λ (c : Cursor). c.at) is in
-    (λ same. sym (ap (λ (c : Cursor). c.state) is), omega (arith, to), omega (arith, to, here))
-moved_on cursor cursor' at len state (inr (further, is)) on some =
-    let to = ap (λ (c : Cursor). c.at) is in
-    (λ same. absurd (omega (arith, to, same, on, some)), omega (arith, to), omega (arith, to, on))
+moved_on cursor cursor' at len state goes on some = grind (arith)
 
 -- what was read is not past the end
 pub read_within : {words : Bool} {sign : SignData} {octets : List ℕ} {layer : Layer} {page : ℕ} {plane : BitPlane} {cursor : Cursor} {at : ℕ} {kept : Pass} {lines : LineTable} → IsReadFrom words sign octets layer page plane cursor at kept lines
@@ -421,5 +410,4 @@ run_gone {words} {sign} off sound {octets} short {before} {behind} at at' kept s
 
 -- what is ready for either kind of lines has a state that is
 pub ready_state : (words : Bool) (kept : Pass) → IsPassReady words kept → IsReady kept.state
-ready_state true kept r = r.state
-ready_state false kept r = r
+ready_state words kept r = grind (arith)

@@ -37,14 +37,12 @@ closed_below spots area is placing narrow just low high own =
     omega (arith, most, kept_height_is (in_group just spots) area.group (placing_group just spots placing) sum, tall)
 
 ready_of : (words : Bool) (sign : SignData) (kept : Pass) (items : List Meaning) → IsPassOf words sign kept items → length items ≤ 2 ^ 32 → IsPassReady words kept
-ready_of true sign kept items of few = filled_ready sign items kept of.of few
-ready_of false sign kept items of few = ready sign items kept.state of.state_is few
+ready_of words sign kept items of few = grind (arith, filled_ready, ready)
 
 module _ (sign : SignData) (sound : IsSound sign) (items : List Item) (none : offences sign items ≡ []) where
   -- the lines are few and narrow
   pub room_of : (words : Bool) (kept : Pass) → IsPassOf words sign kept (map meaning items) → HasRoom (laid_area words sign (map meaning items))
-  room_of true kept of = laid_room sign sound of.words items none
-  room_of false kept of = subst (λ l. HasRoom (present_area sign l)) (sym (laid_plain sign (map meaning items))) (room sign sound sound.font (map meaning items) of.fine)
+  room_of words kept of = grind (arith, laid_room, laid_plain, room)
 
   pub narrow_of : (words : Bool) (kept : Pass) → IsPassOf words sign kept (map meaning items) → IsNarrowArea (laid_area words sign (map meaning items))
   narrow_of true kept of = laid_narrow sign sound of.words items none kept of.of
@@ -146,11 +144,7 @@ left_if {words} {sign} {items} {kept} {lines} r {item} {read} next lines' place 
 
 -- only what has a place ends a line
 pub own_group : (x : Meaning) (state : State) {ended : Option Line} {line : Line} → (has_place x ≡ false → ended ≡ None) → ended ≡ Some line → next_group state x ≡ page_number state.attributes.page_just
-own_group x state {ended} {line} apart is = of (has_place x) refl
-  where
-    of : (place : Bool) → has_place x ≡ place → next_group state x ≡ page_number state.attributes.page_just
-    of true place = ap (λ b. cond b (page_number state.attributes.page_just) state.area.present) place
-    of false none = let wrong : ◌≡◌ {A = Option Line} None (Some line) = sym (apart none) ∙ is in absurd cc
+own_group x state apart is = grind (arith)
 
 -- BEHIND ONE MORE ITEM
 

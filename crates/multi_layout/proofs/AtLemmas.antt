@@ -1,5 +1,5 @@
 -- What begins at an offset, whose first octet was read: how it is refused, and what is judged and read behind it.
-use Rattle.multi_layout.proofs.Common.{◌≡◌, ℕ, ◌+◌, ◌-◌, ◌^◌, ◌<◌, ◌≤◌, ◌*◌, inl, inr, List, [], ◌∷◌, ◌++◌, length, map, slice_get, Option, Some, None, refl, sym, ap, subst, ◌∙◌, arith, Bool, true, false, rules, slice_get_within, Counted, RisesBetween, charged, IsPlain, Token, single_token, spelling_some, SignData, SyntaxError, code_of, IsFaultAt, IsItemAt, too_big, Meaning, Shows, meaning, offence, IsVerdict, pages_of, offence-faulty, IsTold, IsAt, at_end, Pass, IsPassOf, attributes_of, standing, cycle, ended_times}
+use Rattle.multi_layout.proofs.Common.{◌≡◌, ℕ, ◌+◌, ◌-◌, ◌^◌, ◌<◌, ◌≤◌, ◌*◌, inl, inr, List, [], ◌∷◌, ◌++◌, length, map, slice_get, Option, Some, None, refl, sym, ap, subst, ◌∙◌, arith, Bool, rules, slice_get_within, Counted, RisesBetween, charged, IsPlain, Token, single_token, spelling_some, SignData, SyntaxError, code_of, IsFaultAt, IsItemAt, too_big, Meaning, Shows, meaning, offence, IsVerdict, pages_of, offence-faulty, IsTold, IsAt, at_end, Pass, IsPassOf, attributes_of, standing, cycle, ended_times}
 use Rattle.multi_token.specs.declared.token.Kind.TheVariants as kinds
 use Rattle.multi_meaning.specs.Verdict.{Refused}
 use Rattle.multi_layout.specs.kept.Told.{IsRefused}
@@ -66,15 +66,7 @@ module _ (sign : SignData) (octets : List ℕ) (at first : ℕ) (IsKept : List M
     octet_offends error offends = item_offends 1 (Shows first) itself judged rises_two error offends
 
     pub octet_behind : (IsNow : List Meaning → Type 0) → offence sign.line_fill sign so_far (Shows first) ≡ None → IsNow (so_far ++ Shows first ∷ []) → IsBehind sign judged.octets (at + 1) IsNow judged
-    octet_behind IsNow fine is =
-        let steps_two : judged.steps ≡ (charged source 2).steps = ap (λ (s : Counted). s.steps) step in
-        let all = same 1 (Shows first) itself judged rises_two in
-        subst (λ (os : List ℕ). IsBehind sign os (at + 1) IsNow judged) (sym all) (record {
-          so_far = items_more 1 (Shows first) itself judged rises_two IsNow fine is;
-          same = all;
-          least = omega (arith, bounds 1 (Shows first) itself judged rises_two);
-          most = omega (arith, steps_two, i.most, before, short);
-        })
+    octet_behind IsNow fine is = search (rules, ap (λ (s : Counted). s.steps) step, same 1 (Shows first) itself judged rises_two, same, itself, rises_two, items_more, bounds, before)
 
   -- a bracket with which no item begins, or a tag at fault
   pub fault_refused : (error : SyntaxError) → IsFaultAt octets at (code_of error) → (behind : Counted) → RisesBetween source behind 0 (4 * (length octets - at)) → IsRefused sign octets (record { error = error; at = at }) behind
@@ -101,8 +93,7 @@ module _ (sign : SignData) (octets : List ℕ) (at first : ℕ) (IsKept : List M
 -- the state has the pages and times of its items, and the values in force behind them
 told : (words : Bool) (sign : SignData) (pass : Pass) (items : List Meaning) → IsPassOf words sign pass items
     → (pass.state.pages ≡ pages_of items) × (pass.state.cycle ≡ cycle (ended_times sign items)) × (pass.state.attributes ≡ attributes_of (standing sign items))
-told true sign pass items p = (kept_pages sign items pass p.of, kept_times sign items pass p.of, attributes_here sign items pass p.of)
-told false sign pass items p = (p.state_is.pages, p.state_is.times, p.state_is.attributes)
+told words sign pass items p = grind (arith, kept_pages, kept_times, attributes_here)
 
 -- what is told of a string where all its items are read
 pub pass_told : (sign : SignData) (octets : List ℕ) (at : ℕ) (pass : Pass) (words : Bool) (source : Counted) → IsAt sign octets at None (IsPassOf words sign pass) source → IsTold sign octets pass.state.pages (whole_times pass.state) source

@@ -3,7 +3,7 @@ use Rattle.multi_layout.proofs.Common.{◌≡◌, ℕ, ◌+◌, ◌-◌, ◌^◌
 use Rattle.std.specs.Prelude.{slice_index_or}
 use Rattle.std.proofs.lemmas.List.Sums.{sum_by_push}
 use Rattle.multi_tag.specs.declared.just.LineJust.{LineJust}
-use Rattle.multi_tag.specs.declared.just.LineJust.TheVariants.{Left, Centre, Right, Full}
+use Rattle.multi_tag.specs.declared.just.LineJust.TheVariants.{Full}
 use Rattle.sign_font.specs.Cell.{SizedCell}
 use Rattle.multi_meaning.specs.Address.{line_before}
 use Rattle.multi_meaning.specs.Place.{spread, start}
@@ -24,10 +24,7 @@ not_full : (b : Bool) (n : ℕ) → b ≡ false → cond b n 0 ≡ 0
 not_full b n e = ap (λ b. cond b n 0) e
 
 not_five : (just : LineJust) → (just ≡ Full → ⊥) → (line_number just == 5) ≡ false
-not_five Left other = refl
-not_five Centre other = refl
-not_five Right other = refl
-not_five Full other = absurd (other refl)
+not_five just other = grind (arith)
 
 -- TWO CHARACTERS WITH THE SAME VALUES IN FORCE
 

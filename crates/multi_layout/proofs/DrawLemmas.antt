@@ -1,5 +1,5 @@
 -- What is drawn of one more item, and the steps over the plane that it takes.
-use Rattle.multi_layout.proofs.Common.{◌≡◌, ℕ, ◌+◌, ◌*◌, ◌^◌, ◌<◌, ◌≤◌, Bool, true, false, cond, ◌==◌, ◌⊎◌, inl, inr, List, [], ◌∷◌, ◌++◌, length, map, Option, Some, None, Ok, Err, refl, sym, ap, subst, ◌∙◌, arith, ◌-◌, ◌&&◌, rules, nat_lt, unwrap_or, option_map, length-append, spelling, tag_of, Tag, NewPage, NewLine, Back, Rect, BitPlane, is_lit, Defaults, SignData, FontData, cell_in, largest, tallest, CellData, cell_numbered, Standing, standing, put_at, spots, Break, Glyph, Spot, group_of, in_group, lines_of, is_break, in_area, Meaning, Does, Shows, begins_area, is_new_page, meaning, has_colour, shown_colour, is_lit_at, covered_same, eq-eqb, same_page_behind, present_area-placing, Cursor, Layer, State, Attributes, HasCounted, IsDrawnTo, IsFilledBy, IsStateOf, IsBelow, area_sum, IsBetween, meant, LaidItem, below_more, count_by, filter-append, page_number, Place, place_of, present_area, unsized_offence, page_number_known, Area, LineTable, StandsAt, PlacesCharacter, group_lines, table_of}
+use Rattle.multi_layout.proofs.Common.{◌≡◌, ℕ, ◌+◌, ◌*◌, ◌^◌, ◌<◌, ◌≤◌, Bool, false, cond, ◌==◌, ◌⊎◌, List, [], ◌∷◌, ◌++◌, length, map, Option, Some, None, refl, sym, ap, subst, ◌∙◌, arith, ◌-◌, ◌&&◌, rules, nat_lt, unwrap_or, option_map, length-append, spelling, tag_of, Tag, NewPage, Back, BitPlane, is_lit, Defaults, SignData, FontData, cell_in, largest, tallest, CellData, cell_numbered, Standing, standing, put_at, spots, Break, Glyph, Spot, group_of, in_group, lines_of, is_break, in_area, Meaning, Does, Shows, begins_area, is_new_page, meaning, has_colour, shown_colour, is_lit_at, covered_same, eq-eqb, same_page_behind, present_area-placing, Cursor, Layer, State, Attributes, HasCounted, IsDrawnTo, IsFilledBy, IsStateOf, IsBelow, area_sum, IsBetween, meant, LaidItem, below_more, count_by, filter-append, page_number, Place, place_of, present_area, unsized_offence, page_number_known, Area, LineTable, StandsAt, PlacesCharacter, group_lines, table_of}
 use Rattle.std.proofs.Common.{max, Result}
 use Rattle.std.specs.Prelude.{find, nat_le}
 use Rattle.std.specs.Str.{str_to_ascii_lowercase}
@@ -11,7 +11,6 @@ use Rattle.multi_tag.specs.Body.{Spells, SpellsSmall, table}
 use Rattle.multi_tag.specs.declared.name.Name.{Name}
 use Rattle.multi_tag.specs.declared.name.Name.TheVariants as names
 use Rattle.multi_tag.specs.declared.tag.TagFault.{TagFault}
-use Rattle.multi_tag.specs.declared.tag.TagFault.TheVariants.{Unsupported, Value}
 use Rattle.multi_tag.proofs.TagOfLemmas.{tag_of_is_the_table}
 use Rattle.sign_font.specs.Cell as cells
 use Rattle.sign_font.specs.Sign.{sized}
@@ -34,8 +33,7 @@ lit_covers lit cell column row rows x y = lit && nat_le column x && nat_le row y
 
 -- the cell that was found is one of the font's
 some_sized : (font : FontData) (o : Option CellData) (c : cells.SizedCell) → option_map (sized font) o ≡ Some c → (cell : CellData) × (o ≡ Some cell) × (sized font cell ≡ c)
-some_sized font None c e = cc
-some_sized font (Some cell) c e = (cell, refl, same_Some (sized font cell) c e)
+some_sized font o c e = grind (arith, same_Some)
 
 module _ (sign : SignData) (before : List Meaning) (state : State) (st : IsStateOf sign before state) (number : ℕ) (c : cells.SizedCell)
     (found : cell_in sign state.attributes.font.number number ≡ Some c) where
@@ -111,11 +109,7 @@ long_body body tag (name, rest, is, form) =
     omega (arith, ap length is, same, long_name name, length-append (table name).name rest)
 
 tag_spelled : (body : List ℕ) (r : Result Tag TagFault) (tag : Tag) → tag_of body ≡ r → meaning_of_tag r ≡ Does tag → Spells body tag
-tag_spelled body (Ok t) tag is e =
-    let same = does_tag t tag e in
-    ((tag_of_is_the_table body).0 tag).1 (is ∙ ap Ok same)
-tag_spelled body (Err Unsupported) tag is e = cc
-tag_spelled body (Err Value) tag is e = cc
+tag_spelled body read tag is e = grind (arith, does_tag, tag_of_is_the_table)
 
 -- a tag is spelled by four octets at least
 pub four_octets : (item : spelled.Item) (tag : Tag) → meaning item ≡ Does tag → 4 ≤ length (spelling item)
@@ -125,8 +119,7 @@ four_octets (spelled.Tag body) tag e = omega (arith, long_body body tag (tag_spe
 -- THE TALLEST FONT
 
 tall_if : (b : Bool) (f font : FontData) (o : Option FontData) (most : ℕ) → cond b (Some f) o ≡ Some font → (o ≡ Some font → font.height ≤ most) → font.height ≤ max f.height most
-tall_if true f font o most is more = let same : f.height ≡ font.height = ap (λ (f : FontData). f.height) (same_Some f font is) in omega arith
-tall_if false f font o most is more = omega (arith, more is)
+tall_if b f font o most is more = grind (arith, same_Some)
 
 tall_enough : (fonts : List FontData) (number : ℕ) (font : FontData) → find (λ (f : FontData). f.number == number) fonts ≡ Some font → font.height ≤ largest (map (λ (f : FontData). f.height) fonts)
 tall_enough [] number font e = cc
@@ -158,15 +151,10 @@ module _ (sign : SignData) (layer : Layer) (before rest : List Meaning) where
 -- a tag that begins no area and sets no background puts nothing, or ends a line
 pub quiet_put : (defaults : Defaults) (at : Standing) (tag : Tag) → ((given : Option ℕ) → tag ≡ Back given → ⊥) → begins_area (Does tag) ≡ false
     → (put_at defaults at (Does tag) ≡ None) ⊎ ((gap : Option ℕ) × (put_at defaults at (Does tag) ≡ Some (Break gap)))
-quiet_put defaults at NewPage other plain = cc
-quiet_put defaults at (Rect x y w h) other plain = cc
-quiet_put defaults at (Back given) other plain = absurd (other given refl)
-quiet_put defaults at (NewLine gap) other plain = inr (gap, refl)
-quiet_put defaults at tag other plain = inl refl
+quiet_put defaults at tag other plain = grind (arith)
 
 pub no_page : (tag : Tag) → begins_area (Does tag) ≡ false → is_new_page (Does tag) ≡ false
-no_page NewPage plain = cc
-no_page tag plain = refl
+no_page tag plain = grind (arith)
 
 -- STEPS OVER THE PLANE
 

@@ -183,11 +183,7 @@ module _ (sign : SignData) where
   standing_here items = (are_laid Words sign items items [] (sym (append-nil items))).0
 
   fits_of : (a b c : Bool) → first_code ((c, 11) ∷ (not a || not b, 5) ∷ []) ≡ None → b ≡ true
-  fits_of true true c e = refl
-  fits_of true false true e = cc
-  fits_of true false false e = cc
-  fits_of false b true e = cc
-  fits_of false b false e = cc
+  fits_of a b c e = grind (arith)
 
   fits_character : (items : List Meaning) (number : ℕ) → offence Words sign items (Shows number) ≡ None → (o : Option CellData) → cell_numbered (standing sign items).font number ≡ o → Fits (items ++ Shows number ∷ [])
   fits_character items number fine None e = let wrong : ◌≡◌ {A = Option ℕ} (Some 7) None = sym (offends_without sign items number e) ∙ fine in absurd cc
@@ -242,8 +238,7 @@ module _ (sign : SignData) (sound : IsSound sign) (words : sign.line_fill ≡ Wo
       (λ j. (λ i. line_fits (stands i).rectangle.width (after_last is_break (group j i))) ∙ of.fits j) high across down
 
 count_if : (xs : List Spot) (x : Spot) (b : Bool) → length (xs ++ cond b (x ∷ []) []) ≡ length xs + cond b 1 0
-count_if xs x true = length-append xs (x ∷ [])
-count_if xs x false = length-append xs []
+count_if xs x b = grind (arith, length-append)
 
 nil_from_length : (xs : List Spot) → length xs ≡ 0 → xs ≡ []
 nil_from_length [] none = refl

@@ -1,5 +1,5 @@
 -- The areas of a page, drawn one after the other.
-use Rattle.multi_layout.proofs.Common.{◌≡◌, ℕ, ◌+◌, ◌-◌, ◌*◌, ◌<◌, Counted, RisesBetween, item_steps, ◌≤◌, Bool, true, false, cond, ◌==◌, inl, inr, List, [], ◌∷◌, ◌++◌, map, None, Some, refl, sym, ap, subst, ◌∙◌, arith, append-nil, rules, count_by, mul-add, mul-le-mul_left, eq-eqb, map-append, sum_by-append, reading, Item, spell, NewPage, Rect, BitPlane, is_lit, Defaults, SignData, tallest, Standing, put_at, spots, standing, has_colour, laid_out, BeginsPage, Does, EndsArea, Faulty, Meaning, Shows, begins_area, is_new_page, meaning, meanings, picture, shown_colour, IsAccepted, present_area, pages_of, covered_same, same_page_behind, present_area-new, Attributes, NextItem, pages_of-push, Cursor, Layer, AreaLines, plane_octets, IsFilledFew, IsPagePassed, IsPageStart, IsAreaDrawn, IsDrawnUpTo, IsFilledBy, IsPageDrawn, IsBetween, IsFirst, IsRead, items_of, meant, LaidItem}
+use Rattle.multi_layout.proofs.Common.{◌≡◌, ℕ, ◌+◌, ◌-◌, ◌*◌, ◌<◌, Counted, RisesBetween, item_steps, ◌≤◌, Bool, true, false, cond, ◌==◌, inl, inr, List, [], ◌∷◌, ◌++◌, map, None, Some, refl, sym, ap, subst, ◌∙◌, arith, append-nil, rules, count_by, mul-add, mul-le-mul_left, eq-eqb, map-append, sum_by-append, reading, Item, spell, NewPage, BitPlane, is_lit, Defaults, SignData, tallest, Standing, put_at, spots, standing, has_colour, laid_out, BeginsPage, Does, EndsArea, Meaning, begins_area, is_new_page, meaning, meanings, picture, shown_colour, IsAccepted, present_area, pages_of, covered_same, same_page_behind, present_area-new, Attributes, NextItem, pages_of-push, Cursor, Layer, AreaLines, plane_octets, IsFilledFew, IsPagePassed, IsPageStart, IsAreaDrawn, IsDrawnUpTo, IsFilledBy, IsPageDrawn, IsBetween, IsFirst, IsRead, items_of, meant, LaidItem}
 use Rattle.multi_token.specs.Spelling.{IsReading}
 use Rattle.multi_token.proofs.ReadingLemmas.{each_string_has_a_reading, none_found}
 use Rattle.multi_token.proofs.SpellingLemmas.{one_reading}
@@ -37,14 +37,7 @@ module _ {sign : SignData} {octets : List ℕ} {before behind : List LaidItem} {
 
   -- and have its pages
   pub pages_left : cursor.state.pages + count_by is_new_page (map meant behind) ≡ pages_of (meanings octets)
-  pages_left =
-      omega (
-        arith,
-        b.state_is.pages,
-        pages_of-append (map meant before) (map meant behind),
-        ap pages_of (sym (map-append meant before behind) ∙ all_laid),
-        laid_pages sign (meanings octets),
-      )
+  pages_left = grind (arith, pages_of-append (map meant before) (map meant behind), map-append meant before behind, all_laid, laid_pages sign (meanings octets))
 
 -- AREAS OF A PAGE
 
@@ -141,23 +134,14 @@ module _ {sign : SignData} {octets : List ℕ} {layer : Layer} {page : ℕ} {rea
   last_shown = page_shown d.up_to (subst (λ l. EndsPage (map meant l)) (sym nothing) (inl refl))
 
   pub last_passed : (start : Cursor) → start.state.pages ≡ page → start.at ≤ cursor.at → IsPagePassed sign octets start cursor
-  last_passed start same on = record {
-    on = on;
-    within = within_between sign octets d.before d.behind cursor d.up_to.between;
-    ends = inl (d.up_to.page_is ∙ sym same, omega (arith, same, d.up_to.page_is, pages_left d.up_to.between, ap (λ l. count_by is_new_page (map meant l)) nothing));
-  }
+  last_passed start same on = grind (arith, within_between sign octets d.before d.behind cursor d.up_to.between, pages_left d.up_to.between, nothing)
 
 pub new_page_is : (m : Meaning) → is_new_page m ≡ true → m ≡ Does NewPage
-new_page_is (Shows number) is = cc
-new_page_is (Faulty code) is = cc
-new_page_is (Does NewPage) is = refl
-new_page_is (Does _) is = cc
+new_page_is m is = grind (arith)
 
 -- what begins an area and no page is a rectangle, which puts nothing
 area_no_page : (defaults : Defaults) (at : Standing) (m : Meaning) → begins_area m ≡ true → is_new_page m ≡ false → put_at defaults at m ≡ None
-area_no_page defaults at (Does (Rect x y w h)) area other = refl
-area_no_page defaults at (Does _) area other = cc
-area_no_page defaults at x area other = cc
+area_no_page defaults at x area other = grind (arith)
 
 module _ {sign : SignData} {octets : List ℕ} {layer : Layer} {page : ℕ} {next : NextItem} {cursor : Cursor} {plane : BitPlane} (n : IsNextArea sign octets layer page next cursor plane) where
   -- a new page
@@ -169,16 +153,7 @@ module _ {sign : SignData} {octets : List ℕ} {layer : Layer} {page : ℕ} {nex
     page_ends = page_shown n.up_to (inr (map meant n.rest, ap (λ m. m ∷ map meant n.rest) is))
 
     pub page_passed : (start new : Cursor) → start.state.pages ≡ page → IsBetween sign octets (n.before ++ n.item ∷ []) n.rest new → start.at ≤ new.at → IsPagePassed sign octets start new
-    page_passed start new same between on =
-        let begins = map_split n.before [] n.item (Does NewPage) is in
-        record {
-          on = on;
-          within = within_between sign octets (n.before ++ n.item ∷ []) n.rest new between;
-          ends = inr (
-            omega (arith, same, n.up_to.page_is, n.up_to.between.state_is.pages, between.state_is.pages, ap pages_of begins, pages_of-push (map meant n.before) (Does NewPage)),
-            (n.before ++ n.item ∷ [], n.rest, between, inr (map meant n.before, begins)),
-          );
-        }
+    page_passed start new same between on = grind (arith, map_split n.before [] n.item (Does NewPage) is, within_between sign octets (n.before ++ n.item ∷ []) n.rest new between, pages_of-push (map meant n.before) (Does NewPage))
 
   -- a rectangle
   pub page_goes_on : is_new_page (meant n.item) ≡ false → (new : Cursor) → IsBetween sign octets (n.before ++ n.item ∷ []) n.rest new → IsPageDrawn sign octets layer page new plane

@@ -1,5 +1,5 @@
 -- What is shown at a time of the cycle, from page to page.
-use Rattle.multi_layout.proofs.Common.{◌≡◌, ℕ, has_place, unsized_offence, ◌+◌, ◌-◌, ◌<◌, ◌≤◌, true, false, cond, List, [], ◌∷◌, ◌++◌, length, map, slice_get, Some, None, refl, sym, ap, subst, ◌∙◌, inl, inr, arith, append-nil, rules, ◌*◌, ◌/◌, ◌^◌, Bool, map-append, All, ne_eqb, cases_eq, eq-eqb, All-head, All-tail, nat_tests, mul-add, Item, spelling_some, NewPage, SignData, FontData, largest, tallest, standing, laid_out, Meaning, Does, is_new_page, meaning, meanings, cycle, ended_times, times_at, pages_of, IsAccepted, IsOrderly, accepted_is, reading, standing_push, Attributes, NextItem, State, meant_by, attributes_of, pages_of-push, at_end, Counted, RisesBetween, charged, BitPlane, IsSound, Cursor, Setting, IsFirst, IsPageStart, IsFilledFew, IsPagePassed, IsAtPage, IsPageSkipped, IsPassing, unplaced, IsMet, IsNextAt, plane_octets, reading_limit, IsSized, page_count}
+use Rattle.multi_layout.proofs.Common.{◌≡◌, ℕ, has_place, unsized_offence, ◌+◌, ◌-◌, ◌<◌, ◌≤◌, true, false, cond, List, [], ◌∷◌, ◌++◌, length, map, slice_get, Some, None, refl, sym, ap, subst, ◌∙◌, inl, arith, append-nil, rules, ◌*◌, ◌/◌, ◌^◌, Bool, map-append, All, ne_eqb, cases_eq, eq-eqb, All-head, All-tail, nat_tests, mul-add, Item, spelling_some, NewPage, SignData, FontData, largest, tallest, standing, laid_out, Meaning, Does, is_new_page, meaning, meanings, cycle, ended_times, pages_of, IsAccepted, IsOrderly, accepted_is, reading, standing_push, Attributes, NextItem, State, meant_by, attributes_of, pages_of-push, at_end, Counted, RisesBetween, charged, BitPlane, IsSound, Cursor, Setting, IsFirst, IsPageStart, IsFilledFew, IsPagePassed, IsAtPage, IsPageSkipped, IsPassing, unplaced, IsMet, IsNextAt, plane_octets, reading_limit, IsSized, page_count}
 use Rattle.std.specs.Prelude.{◌==◌}
 use Rattle.std.proofs.lemmas.Nat.{mul-le}
 use Rattle.multi_meaning.specs.declared.times.Shown.TheVariants.{Page, Off}
@@ -35,9 +35,7 @@ pub record IsClockOf (sign : SignData) (items : List Meaning) (state : State) : 
   pub attributes : state.attributes ≡ attributes_of (standing sign items)
 
 clock_of : {sign : SignData} {octets : List ℕ} {before behind : List Item} {cursor : Cursor} → IsPassing sign octets before behind cursor → IsClockOf sign (map meaning before) cursor.state
-clock_of {sign} {octets} {before} {behind} {cursor} p =
-    let (here, times, pages) = same_unplaced sign (map meaning before) in
-    record { pages = p.state_is.pages ∙ pages; times = p.state_is.times ∙ ap cycle times; attributes = p.state_is.attributes ∙ ap attributes_of here }
+clock_of {sign} {before = before} p = grind (arith, same_unplaced sign (map meaning before))
 
 -- the times that are in force
 abbrev times_of : Attributes → Times
@@ -61,9 +59,7 @@ page_starts {sign} {octets} {cursor} p all =
 
 pub accepted_of : {sign : SignData} {octets : List ℕ} {told : Told} → IsToldOf sign octets told
     → IsAccepted sign octets (reading octets).items × (told.pages ≡ pages_of (meanings octets)) × IsOrderly sign (laid_out sign (meanings octets))
-accepted_of {sign} {octets} {told} t =
-    let (accepted, count) = accepted_is sign octets told.pages t.pages t.short in
-    (accepted, count, accepted_orderly sign octets accepted)
+accepted_of {sign} {octets} {told} t = grind (arith, accepted_is sign octets told.pages, accepted_orderly sign octets)
 
 -- its first page begins at its start
 pub at_start : {sign : SignData} {octets : List ℕ} {told : Told} {cursor : Cursor} → IsToldOf sign octets told → IsAtStart sign cursor → IsAtPage sign octets cursor × (cursor.state.pages ≡ 1)
@@ -106,21 +102,7 @@ module _ {sign : SignData} {octets : List ℕ} {old cursor : Cursor} (s : IsInPa
 
   -- at the end the page is passed, the last
   pub passed_last : slice_get octets cursor.at ≡ None → IsPageSkipped sign octets old cursor
-  passed_last end =
-      let p = s.between.placed in
-      let c = clock_of s.between in
-      let here = within sign octets s.before s.behind cursor.at p in
-      let none = none_at_end sign octets s.before s.behind cursor.at p (sym (at_end octets cursor.at here end)) in
-      let all : passed ≡ meanings octets = sym (append-nil passed) ∙ ap (λ l. passed ++ map meaning l) (sym none) ∙ all_meant s.between in
-      record {
-        within = here;
-        earlier = ended_times sign passed;
-        later = [];
-        times = ap (page_times sign) (sym all) ∙ times_are_all sign passed ∙ ap (λ (a : Attributes). ended_times sign passed ++ times_of a ∷ []) (sym c.attributes);
-        page_is = omega (arith, s.same, c.pages, ended_count sign passed);
-        begins = sym s.began ∙ c.times;
-        ends = inl (s.same, refl, sym s.same ∙ c.pages ∙ ap pages_of all);
-      }
+  passed_last end = grind (arith, clock_of s.between, within sign octets s.before s.behind cursor.at s.between.placed, none_at_end sign octets s.before s.behind cursor.at s.between.placed, at_end octets cursor.at, all_meant s.between, times_are_all sign passed, ended_count sign passed, append-nil)
 
   pub first_here : (next : NextItem) → IsNextAt sign octets cursor.at next → IsFirst s.behind (Some next)
   first_here next first = first s.before s.behind s.between.placed
@@ -139,38 +121,11 @@ module _ {sign : SignData} {octets : List ℕ} {old cursor : Cursor} (s : IsInPa
 
       -- behind another item than an `np`
       pub in_page_more : is_new_page (meant_by next.item) ≡ false → IsInPage sign octets old new
-      in_page_more none = record {
-        before = s.before ++ first.0 ∷ [];
-        behind = first.1;
-        between = b;
-        same = omega (arith, counted, ap {B = ℕ} (λ p. cond p 1 0) none);
-        began = (clock_of b).times ∙ ap (λ ms. cycle (ended_times sign ms)) with ∙ cycle-stays sign passed (meant_by next.item) none ∙ sym (clock_of s.between).times ∙ s.began;
-      }
+      in_page_more none = grind (arith, counted, clock_of b, clock_of s.between, with, cycle-stays sign passed (meant_by next.item))
 
       -- behind an `np` the page is passed
       pub passed_page : is_new_page (meant_by next.item) ≡ true → old.at ≤ cursor.at → new.at ≡ cursor.at + next.len → IsPageSkipped sign octets old new
-      passed_page page on at =
-          let is : meant_by next.item ≡ Does NewPage = new_page_is (meant_by next.item) page in
-          let behind_is : map meaning (s.before ++ first.0 ∷ []) ≡ passed ++ Does NewPage ∷ [] = with ∙ ap (λ x. passed ++ x ∷ []) is in
-          let c = clock_of b in
-          let times : times_of new.state.attributes ≡ times_at (standing sign passed) =
-          ap {B = Times} (λ (a : Attributes). times_of a) (c.attributes ∙ ap (λ ms. attributes_of (standing sign ms)) behind_is ∙ ap attributes_of (standing_push sign passed (Does NewPage))) in
-          let (more, times_all) = times_are sign passed (map meaning first.1) in
-          let all : meanings octets ≡ passed ++ Does NewPage ∷ map meaning first.1 = sym (all_meant stands) ∙ ap (λ x. passed ++ x ∷ map meaning first.1) (first.3.meant ∙ is) in
-          record {
-            within = within sign octets (s.before ++ first.0 ∷ []) first.1 new.at b.placed;
-            earlier = ended_times sign passed;
-            later = more;
-            times = ap (page_times sign) all ∙ times_all ∙ ap (λ t. ended_times sign passed ++ t ∷ more) (sym times);
-            page_is = omega (arith, s.same, (clock_of s.between).pages, ended_count sign passed);
-            begins = sym s.began ∙ (clock_of s.between).times;
-            ends = inr (
-              omega (arith, counted, ap {B = ℕ} (λ p. cond p 1 0) page),
-              omega (arith, on, at, first.3.len, spelling_some first.0),
-              omega (arith, c.times, ap (λ ms. cycle (ended_times sign ms)) behind_is, cycle-grows sign passed (Does NewPage) refl, (clock_of s.between).times, s.began, ap (λ (t : Times). t.on + t.off) times),
-              record { before = s.before ++ first.0 ∷ []; behind = first.1; between = b; begins = inr (passed, behind_is) },
-            );
-          }
+      passed_page page on at = grind (arith, new_page_is (meant_by next.item), with, clock_of b, clock_of s.between, standing_push sign passed (Does NewPage), times_are sign passed (map meaning first.1), all_meant stands, within sign octets (s.before ++ first.0 ∷ []) first.1 new.at b.placed, ended_count sign passed, counted, spelling_some first.0, cycle-grows sign passed (Does NewPage))
 
   -- a setting is put into force
   pub set_here : (len : ℕ) (state : State) → IsMet sign octets cursor.at cursor.state (Setting len) state → IsInPage sign octets old (record { at = cursor.at + len; state = state })
@@ -219,15 +174,11 @@ module _ {sign : SignData} {octets : List ℕ} {start behind : Cursor} (p : IsPa
 
   -- in its on time the string shows it
   pub shown_here : start.state.cycle ≤ time → time - start.state.cycle < on_time → Page (start.state.pages - 1) (time - start.state.cycle) ≡ shown_within (page_times sign (meanings octets)) time
-  shown_here began on =
-      let number : start.state.pages - 1 ≡ length p.earlier = omega (arith, p.page_is) in
-      let since : time - start.state.cycle ≡ time - cycle p.earlier = omega (arith, p.begins) in
-      (λ i. Page (number i) (since i)) ∙ sym (shown_on (page_times sign (meanings octets)) p.earlier p.later (times_of behind.state.attributes) p.times time (omega (arith, p.begins, began)) (omega (arith, p.begins, on, began)))
+  shown_here began on = grind (arith, shown_on (page_times sign (meanings octets)) p.earlier p.later (times_of behind.state.attributes) p.times time)
 
   -- in its off time the string shows nothing
   pub off_here : start.state.cycle ≤ time → on_time ≤ time - start.state.cycle → time - start.state.cycle < on_time + off_time → Off ≡ shown_within (page_times sign (meanings octets)) time
-  off_here began over off =
-      sym (shown_off (page_times sign (meanings octets)) p.earlier p.later (times_of behind.state.attributes) p.times time (omega (arith, p.begins, over, began)) (omega (arith, p.begins, off, began)))
+  off_here began over off = grind (arith, shown_off)
 
   -- where it is over another page begins behind it, at the time or before
   pub page_behind : start.state.cycle ≤ time → on_time + off_time ≤ time - start.state.cycle → time < cycle (page_times sign (meanings octets))
@@ -244,15 +195,7 @@ page_follows p more = first_of (search (rules), grind (arith))
 -- behind it the one after it is next, of the same string with whatever count
 pub turns_to : (old new : CheckedData) (next : NextPage) (cursor : Cursor) (page : ℕ) → IsNextPage old next page → IsPagePassed old.sign old.source.octets next.cursor cursor
     → new.sign ≡ old.sign → new.source.octets ≡ old.source.octets → IsNextPage new (record { cursor = cursor }) (page + 1)
-turns_to old new next cursor page is passed sign octets = rw (sign, octets) further
-  where
-    further : page + 1 < page_count old → IsPageStart old.sign old.source.octets cursor × (cursor.state.pages ≡ page + 1 + 1)
-    further more =
-        let begun = (is (omega (arith, more))).1 in
-        elim passed.ends [
-          | inl last ↦ absurd (omega (arith, begun, last, more))
-          | inr then ↦ (then.1, omega (arith, begun, then.0))
-        ]
+turns_to old new next cursor page is passed sign octets = rw (sign, octets) (λ more. grind arith)
 
 -- ---- bounds
 
@@ -266,26 +209,17 @@ octets_few sign sound = omega (arith, mul-le ((sign.width + 7) / 8) sign.height 
 
 -- a row of the tallest font for each octet, and a fill for each four and one more
 pub plane_few : (sign : SignData) (n at fills : ℕ) → at ≤ n → 4 * fills ≤ at + 4 → tallest sign * at + plane_octets sign * fills ≤ plane_limit sign n
-plane_few sign n at fills low few =
-    let quarter : fills ≤ n / 4 + 1 = omega (arith, low, few) in
-    omega (arith, mul-le (tallest sign) at (tallest sign) n (omega arith) low, mul-le (plane_octets sign) fills (plane_octets sign) (n / 4 + 1) (omega arith) quarter)
+plane_few sign n at fills low few = grind (arith, mul-le (tallest sign) at (tallest sign) n, mul-le (plane_octets sign) fills (plane_octets sign) (n / 4 + 1))
 
 -- all this is far from the largest number of 64 bits
 pub drawing_few : (sign : SignData) (n : ℕ) → IsSound sign → n < 2 ^ 32 → drawing_limit sign n < 2 ^ 48
-drawing_few sign n sound short =
-    omega (
-      arith,
-      short,
-      mul-le (tallest sign) n 64 (2 ^ 32) (tallest_few sign.fonts sound.each) (omega (arith, short)),
-      mul-le (plane_octets sign) (n / 4 + 1) 16384 (2 ^ 30) (octets_few sign sound) (omega (arith, short)),
-    )
+drawing_few sign n sound short = grind (arith, mul-le (tallest sign) n 64 (2 ^ 32), tallest_few sign.fonts sound.each, mul-le (plane_octets sign) (n / 4 + 1) 16384 (2 ^ 30), octets_few sign sound)
 
 -- ---- a page that is drawn
 
 -- what a test adds
 pub at_most : (b : Bool) (n : ℕ) → cond b n 0 ≤ n
-at_most true n = omega arith
-at_most false n = omega arith
+at_most b n = grind (arith)
 
 pub if_next : (a b n : ℕ) → a ≡ b + 1 → cond (a == b) n 0 ≡ 0
 if_next a b n next = ap (λ t. cond t n 0) (ne_eqb a b (λ e. omega (arith, e, next)))
@@ -293,13 +227,11 @@ if_next a b n next = ap (λ t. cond t n 0) (ne_eqb a b (λ e. omega (arith, e, n
 -- the steps over the string to a page and to draw it
 pub drawing_reads : (start : Counted) {source new : Counted} {way : ℕ} (old cursor : Cursor) (n : ℕ) → RisesBetween start source 0 way → way ≤ 18 * old.at → IsReadTwice source new old cursor → old.at ≤ cursor.at → cursor.at ≤ n
     → RisesBetween start new 0 (reading_limit n)
-drawing_reads start old cursor n to less twice on few =
-    steps_within start (steps_then start to twice) (omega arith) (omega (arith, less, on, few, at_most (cursor.state.pages == old.state.pages) 2))
+drawing_reads start old cursor n to less twice on few = grind (arith, steps_within, steps_then start to twice, at_most (cursor.state.pages == old.state.pages) 2)
 
 -- the steps over the plane to draw a page
 pub drawing_fills : (sign : SignData) (plane plane' : BitPlane) (old cursor : Cursor) (n : ℕ) → IsFilledFew sign plane plane' old cursor → cursor.at ≤ n → plane'.steps ≤ plane.steps + plane_limit sign n
-drawing_fills sign plane plane' old cursor n f few =
-    omega (arith, f.most, plane_few sign n (cursor.at - old.at) f.fills (omega (arith, few)) (omega (arith, f.few, at_most (cursor.state.pages == old.state.pages) 4)))
+drawing_fills sign plane plane' old cursor n f few = grind (arith, plane_few sign n (cursor.at - old.at) f.fills, at_most (cursor.state.pages == old.state.pages) 4)
 
 -- PAGES IN TURN
 
@@ -307,20 +239,7 @@ drawing_fills sign plane plane' old cursor n f few =
 pub under_way_first : (pages : PagesState) (cursor : Cursor) → IsSound pages.string.sign → length pages.string.source.octets < 2 ^ 32 → IsSized pages.plane pages.string.sign
     → pages.next ≡ 0 → pages.string_started ≡ pages.string.source.steps → pages.plane_started ≡ pages.plane.steps
     → IsPageStart pages.string.sign pages.string.source.octets cursor → cursor.state.pages ≡ 1 → IsUnderWay pages cursor
-under_way_first pages cursor sound short size first read drawn begins one = record {
-  sound = sound;
-  short = short;
-  size = size;
-  next_most = omega (arith, first);
-  begins = λ more. (begins, omega (arith, first, one));
-  within = within_between pages.string.sign pages.string.source.octets begins.0 begins.1 cursor begins.2;
-  read_least = omega (arith, read);
-  read_most = omega (arith, read);
-  fills = 0;
-  fills_few = omega arith;
-  drawn_least = omega (arith, drawn);
-  drawn_most = omega (arith, drawn);
-}
+under_way_first pages cursor sound short size first read drawn begins one = grind (arith, within_between pages.string.sign pages.string.source.octets begins.0 begins.1 cursor begins.2)
 
 not_all : (next count : ℕ) → next < count → (next == count) ≡ false
 not_all next count more = grind (arith, nat_tests)
@@ -357,38 +276,13 @@ module _ (old : PagesState) (start next : NextPage) (u : IsUnderWay old start.cu
     rows = first_of (search (rules, mul-add), grind (arith, mul-add))
 
     still : IsUnderWay (moved on.2.0) next.cursor
-    still = record {
-      sound = u.sound;
-      short = u.short;
-      size = (omega (arith, size_kept.0, u.size.0), omega (arith, size_kept.1, u.size.1));
-      next_most = omega (arith, more);
-      begins = begins_next;
-      within = on.1;
-      read_least = omega (arith, u.read_least);
-      read_most = omega (arith, u.read_most, on.2.2, on.0, extra 2, none_yet 2);
-      fills = u.fills + f.fills;
-      fills_few = omega (arith, u.fills_few, f.few, on.0, extra 4, none_yet 4);
-      drawn_least = omega (arith, u.drawn_least, f.least);
-      drawn_most = omega (arith, u.drawn_most, f.most, on.0, rows, mul-add (plane_octets old.string.sign) u.fills f.fills);
-    }
+    still = grind (arith, extra 2, none_yet 2, extra 4, none_yet 4, rows, mul-add (plane_octets old.string.sign) u.fills f.fills, begins_next)
 
     pub under_way_further : IsUnderWay (record (moved on.2.0) { string = string }) next.cursor
     under_way_further = subst (λ s. IsUnderWay (record (moved on.2.0) { string = s }) next.cursor) (sym string_is) still
 
     pub turns_page : TurnsPage old (record (moved on.2.0) { string = string })
-    turns_page = record {
-      sign_kept = sign_kept;
-      read = rises_more old.string.source string.source 0 _ (reading_limit (length old.string.source.octets))
-          (omega (arith, on.1, at_most (next.cursor.state.pages == start.cursor.state.pages) 2)) on.2;
-      size_kept = size_kept;
-      drawn_least = f.least;
-      drawn_most = drawing_fills old.string.sign old.plane plane start.cursor next.cursor (length old.string.source.octets) f on.1;
-      phase_kept = refl;
-      colour_kept = refl;
-      next_page = refl;
-      string_started_kept = refl;
-      plane_started_kept = refl;
-    }
+    turns_page = grind (arith, rises_more old.string.source string.source, at_most (next.cursor.state.pages == start.cursor.state.pages) 2, drawing_fills old.string.sign old.plane plane start.cursor next.cursor (length old.string.source.octets) f on.1)
 
 -- ---- the bounds of all pages
 
@@ -406,14 +300,7 @@ module _ (pages : PagesState) (cursor : Cursor) (u : IsUnderWay pages cursor) wh
   all_read = (u.read_least, omega (arith, u.read_most, u.within, at_most (pages.next == page_count pages.string) 2))
 
   pub all_drawn : IsDrawnFew pages
-  all_drawn = (
-    u.drawn_least,
-    omega (
-      arith,
-      u.drawn_most,
-      plane_few pages.string.sign (length pages.string.source.octets) cursor.at u.fills u.within (omega (arith, u.fills_few, at_most (pages.next == page_count pages.string) 4)),
-    ),
-  )
+  all_drawn = grind (arith, plane_few pages.string.sign (length pages.string.source.octets) cursor.at u.fills, at_most (pages.next == page_count pages.string) 4)
 
   pub all_few : drawing_limit pages.string.sign (length pages.string.source.octets) < 2 ^ 48
   all_few = drawing_few pages.string.sign (length pages.string.source.octets) u.sound u.short

@@ -1,7 +1,5 @@
 -- The pieces of an accepted string: what each of its items is laid out as.
-use Rattle.multi_layout.proofs.Common.{◌≡◌, ℕ, Bool, true, false, cond, inl, inr, List, [], ◌∷◌, ◌++◌, map, Option, Some, None, refl, sym, ap, subst, ◌∙◌, arith, append-nil, rules, option_map, map-append, Item, Tag, NewPage, NewLine, LineFill, Off, SignData, Spot, Standing, is_break, spots, standing, laid_spot, laid_item, laid_items, laid_of, laid_out, BeginsPage, Does, EndsArea, Meaning, Shows, begins_area, has_place, meaning, pages_of, IsOrderly, each_after, are_laid, each_after-append, each_after_length, each_after_push, IsStateOf, Cursor, NextItem, KnownItem, Char, meant_by, IsBetween, IsFirst, IsItemRead, IsPlaced, IsRead, items_of, laid_meanings, meant, LaidItem, IsPassing, pages_at, same_times, length-meanings}
-use Rattle.multi_meaning.specs.Address.{spot_at}
-use Rattle.multi_meaning.specs.Line.{given_gap}
+use Rattle.multi_layout.proofs.Common.{◌≡◌, ℕ, Bool, true, false, inl, List, [], ◌∷◌, ◌++◌, map, Some, refl, sym, ap, subst, ◌∙◌, arith, append-nil, rules, map-append, Item, Tag, LineFill, Off, SignData, Standing, laid_item, laid_items, laid_out, BeginsPage, Does, EndsArea, Meaning, begins_area, has_place, meaning, pages_of, IsOrderly, each_after, are_laid, each_after-append, each_after_length, each_after_push, IsStateOf, Cursor, NextItem, KnownItem, Char, meant_by, IsBetween, IsFirst, IsItemRead, IsPlaced, IsRead, items_of, laid_meanings, meant, LaidItem, IsPassing, pages_at, same_times, length-meanings}
 use Rattle.multi_meaning.proofs.LaidItemLemmas.{unfilled_item}
 use Rattle.multi_meaning.proofs.StandingLemmas.{unplaced_item}
 use Rattle.multi_judge.specs.declared.item.KnownItem.TheVariants as items
@@ -65,8 +63,7 @@ module _ {sign : SignData} {octets : List ℕ} {before rest : List LaidItem} {pi
 
 -- a tag is laid out as itself
 tag_item : (setting : LineFill) (sign : SignData) (all before : List Meaning) (tag : Tag) → laid_item setting sign all before (Does tag) ≡ Does tag
-tag_item setting sign all before (NewLine gap) = refl
-tag_item setting sign all before _ = refl
+tag_item setting sign all before tag = grind (arith)
 
 pub read_tag : {sign : SignData} {octets : List ℕ} {before rest : List LaidItem} {piece : LaidItem} {cursor : Cursor} → IsBetween sign octets before (piece ∷ rest) cursor
     → {next : NextItem} → ((number : ℕ) → next.item ≡ Char number → ⊥) → IsItemRead piece.item next → IsRead piece next
@@ -80,18 +77,12 @@ read_tag {sign} {octets} {before} {rest} {piece} {cursor} b {next} other read = 
 
 -- what begins an area places nothing
 begins_unplaced : (m : Meaning) → begins_area m ≡ true → has_place m ≡ false
-begins_unplaced (Shows number) e = cc
-begins_unplaced (Does (NewLine gap)) e = cc
-begins_unplaced _ e = refl
+begins_unplaced m e = grind (arith)
 
 -- where an area ends before the items, it does before the pieces
 pub ends_laid : (sign : SignData) (before behind : List LaidItem) → map meant (before ++ behind) ≡ laid_meanings sign (items_of (before ++ behind)) → EndsArea (map meaning (items_of behind)) → EndsArea (map meant behind)
 ends_laid sign before [] laid ends = inl refl
-ends_laid sign before (p ∷ behind) laid (inl none) = cc
-ends_laid sign before (p ∷ behind) laid (inr (x, rest, begins, is)) =
-    let same : x ≡ meaning p.item = cc in
-    let begins' : begins_area (meaning p.item) ≡ true = ap begins_area (sym same) ∙ begins in
-    inr (meant p, map meant behind, ap begins_area (unplaced_laid sign before behind p laid (begins_unplaced (meaning p.item) begins')) ∙ begins', refl)
+ends_laid sign before (p ∷ behind) laid ends = grind (arith, unplaced_laid, begins_unplaced)
 
 -- the first of the items is that of the first piece
 pub first_piece : (behind : List LaidItem) (next : NextItem) → IsFirst (items_of behind) (Some next) → (piece : LaidItem) × (rest : List LaidItem) × (behind ≡ piece ∷ rest) × IsItemRead piece.item next
@@ -106,23 +97,11 @@ no_piece (p ∷ behind) e = cc
 
 -- where an area ends before the pieces, this is read of the first one
 laid_placed : (setting : LineFill) (sign : SignData) (all before : List Meaning) (x : Meaning) → has_place x ≡ true → has_place (laid_item setting sign all before x) ≡ true
-laid_placed setting sign all before (Shows number) e = shown (option_map (laid_spot setting (spots sign all) (spots sign before)) (spot_at sign.defaults (standing sign before) (Shows number)))
-  where
-    either : (b : Bool) (x : Meaning) → has_place x ≡ true → has_place (cond b x (Shows number)) ≡ true
-    either true x e = e
-    either false x e = refl
-
-    shown : (o : Option Spot) → has_place (laid_of (Shows number) o) ≡ true
-    shown None = refl
-    shown (Some s) = either (is_break s) (Does (NewLine (given_gap s))) refl
-laid_placed setting sign all before (Does (NewLine gap)) e = refl
-laid_placed setting sign all before _ e = cc
+laid_placed setting sign all before x e = grind (arith)
 
 -- an item that begins no area is laid as one
 placed_begins : (m : Meaning) → has_place m ≡ true → begins_area m ≡ false
-placed_begins (Shows number) e = refl
-placed_begins (Does (NewLine gap)) e = refl
-placed_begins _ e = cc
+placed_begins m e = grind (arith)
 
 pub plain_laid : (sign : SignData) (before rest : List LaidItem) (piece : LaidItem) → map meant (before ++ piece ∷ rest) ≡ laid_meanings sign (items_of (before ++ piece ∷ rest))
     → begins_area (meaning piece.item) ≡ false → begins_area (meant piece) ≡ false
@@ -143,17 +122,14 @@ itself {sign} {octets} {before} {rest} {piece} {cursor} b none =
 
 -- what begins an area is a tag
 pub begins_tag : (item : KnownItem) → begins_area (meant_by item) ≡ true → (tag : Tag) × (item ≡ items.Tag tag)
-begins_tag (Char number) begins = cc
-begins_tag (items.Tag tag) begins = (tag, refl)
+begins_tag item begins = grind (arith)
 
 pub free_tag : (item : KnownItem) → has_place (meant_by item) ≡ false → (tag : Tag) × (item ≡ items.Tag tag)
-free_tag (Char number) free = cc
-free_tag (items.Tag tag) free = (tag, refl)
+free_tag item free = grind (arith)
 
 -- where an area ends, the first item begins one
 pub first_begins : (piece : LaidItem) (rest : List LaidItem) → EndsArea (map meant (piece ∷ rest)) → begins_area (meant piece) ≡ true
-first_begins piece rest (inl none) = cc
-first_begins piece rest (inr (x, more, starts, is)) = let same : meant piece ≡ x = cc in ap begins_area same ∙ starts
+first_begins piece rest ends = grind (arith)
 
 pub first_ended : {sign : SignData} {octets : List ℕ} {before behind : List LaidItem} {cursor : Cursor} → IsBetween sign octets before behind cursor → EndsArea (map meant behind)
     → (next : NextItem) → IsFirst (items_of behind) (Some next) → IsPieceFirst behind (Some next)
@@ -191,9 +167,7 @@ module _ (sign : SignData) (octets : List ℕ) (before behind : List Item) (curs
   means = meant_pieces (laid_item sign.line_fill sign all) before
 
   laid_begins_page : (ms : List Meaning) → BeginsPage ms → BeginsPage (laid_items sign.line_fill sign all ms)
-  laid_begins_page ms (inl none) = inl (ap (laid_items sign.line_fill sign all) none)
-  laid_begins_page ms (inr (earlier, is)) =
-      inr (laid_items sign.line_fill sign all earlier, ap (laid_items sign.line_fill sign all) is ∙ each_after_push (laid_item sign.line_fill sign all) earlier (Does NewPage))
+  laid_begins_page ms begins = grind (arith, each_after_push)
 
   pub begins_page : BeginsPage (map meant pieces_before)
   begins_page = subst BeginsPage (sym means) (laid_begins_page (map meaning before) begins)

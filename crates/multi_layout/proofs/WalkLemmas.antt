@@ -1,6 +1,6 @@
 -- The next item of an accepted string.
 use Rattle.multi_layout.specs.kept.Cursors.{PassesTag}
-use Rattle.multi_layout.proofs.Common.{◌≡◌, ℕ, IsRead, true, false, ◌+◌, ◌^◌, ◌<◌, ◌≤◌, inl, inr, List, [], ◌∷◌, ◌++◌, length, drop, take, map, slice_get, Some, None, refl, sym, ap, subst, ◌∙◌, arith, append_assoc, append-nil, rules, Bool, cond, not, suc, All, count_by, length-append, map-append, All-head, All-tail, filter-append, nat_lt, Counted, RisesBetween, charged, Token, IsPlain, Item, spelling, spell, item_of, single_token, spelling_some, rises_then, Off, SignData, each_after, laid_item, Faulty, Meaning, meaning, BeginsPage, Does, Shows, has_place, is_new_page, offence, unsized_offence, first_code, offence_by, fault_at, offences, pages_of, IsFaultAt, IsItemAt, IsOrderly, offence-faulty, standing_push, present_area-new, length-meanings, each_after-append, each_after_length, left_nil, push_ind, some_after-append, NextItem, IsReady, IsStateOf, meant_by, ready, below_more, pages_of-push, NewPage, NewLine, Font, LineFill, Standing, spots, standing, present_area, ended_times, times_at, State, IsNextAt, Cursor, IsBetween, IsFirst, IsPlaced, LaidItem, items_of, laid_meanings, meant, spell_of, IsItemRead, IsPassing, unplaced}
+use Rattle.multi_layout.proofs.Common.{◌≡◌, ℕ, IsRead, true, false, ◌+◌, ◌^◌, ◌<◌, ◌≤◌, inl, inr, List, [], ◌∷◌, ◌++◌, length, drop, take, map, slice_get, Some, None, refl, sym, ap, subst, ◌∙◌, arith, append_assoc, append-nil, rules, Bool, cond, not, suc, All, length-append, map-append, All-head, All-tail, filter-append, Counted, RisesBetween, charged, Token, IsPlain, Item, spelling, spell, item_of, single_token, spelling_some, rises_then, Off, SignData, each_after, laid_item, Faulty, Meaning, meaning, BeginsPage, Does, has_place, is_new_page, offence, unsized_offence, offence_by, fault_at, offences, pages_of, IsFaultAt, IsItemAt, IsOrderly, offence-faulty, standing_push, present_area-new, length-meanings, each_after-append, each_after_length, left_nil, push_ind, some_after-append, NextItem, IsReady, IsStateOf, meant_by, ready, below_more, pages_of-push, NewPage, LineFill, Standing, spots, standing, present_area, ended_times, State, IsNextAt, Cursor, IsBetween, IsFirst, IsPlaced, LaidItem, items_of, laid_meanings, meant, spell_of, IsItemRead, IsPassing, unplaced}
 use Rattle.std.specs.List.{cons_option}
 use Rattle.sign_font.specs.Sign.{font_numbered}
 use Rattle.std.proofs.Math.Seq.{drop-append_seam, take-append_seam}
@@ -73,9 +73,7 @@ module _ (sign : SignData) (octets : List ℕ) (before behind : List Item) (at :
 
   -- an item that stands here is the first, of which this is read
   pub item_is : (next : NextItem) → IsItemAt octets at next.len (meant_by next.item) → IsFirst behind (Some next)
-  item_is next (t, here, long, stands, means) =
-      let (rest, is) = first_is t here stands in
-      (item_of octets t, rest, is, record { meant = means; len = sym long ∙ stands.len })
+  item_is next (t, here, long, stands, means) = grind (arith, first_is)
 
 pub next_at : (sign : SignData) (octets : List ℕ) (at : ℕ) (next : NextItem) → IsItemAt octets at next.len (meant_by next.item) → IsNextAt sign octets at next
 next_at sign octets at next item before behind p = item_is sign octets before behind at p next item
@@ -189,15 +187,7 @@ module _ (sign : SignData) (octets : List ℕ) (before rest : List LaidItem) (it
   -- behind it the cursor stands before the rest
   pub between_more : (new : Cursor) → new.at ≡ cursor.at + length (spelling item.item) → IsStateOf sign (map meant before ++ meant item ∷ []) new.state
       → IsBetween sign octets (before ++ item ∷ []) rest new
-  between_more new at st =
-      let again : before ++ item ∷ rest ≡ (before ++ item ∷ []) ++ rest = sym (append_assoc before (item ∷ []) rest) in
-      record {
-        placed = subst (λ l. IsPlaced sign octets l (items_of rest) new.at) (sym (map-append (λ (p : LaidItem). p.item) before (item ∷ [])))
-            (placed_more sign octets (items_of before) (items_of rest) item.item cursor.at b.placed new.at at);
-        laid = subst (λ l. map meant l ≡ laid_meanings sign (items_of l)) again b.laid;
-        orderly = subst (λ l. IsOrderly sign (map meant l)) again b.orderly;
-        state_is = subst (λ ms. IsStateOf sign ms new.state) (sym (map-append meant before (item ∷ []))) st;
-      }
+  between_more new at st = search (rules, sym (append_assoc before (item ∷ []) rest), append_assoc, map-append, placed_more)
 
 -- the next item, of which this is read
 module _ {sign : SignData} {octets : List ℕ} {before rest : List LaidItem} {item : LaidItem} {cursor : Cursor} (b : IsBetween sign octets before (item ∷ rest) cursor) {next : NextItem} (read : IsRead item next) where
@@ -253,15 +243,7 @@ unplaced_grows ms x e = unplaced_if ms x false e
 
 -- what is placed begins no page, and leaves all that is in force
 pub placed_behind : (sign : SignData) (at : Standing) (x : Meaning) → has_place x ≡ true → (standing_behind sign at x ≡ at) × (is_new_page x ≡ false)
-placed_behind sign at (Shows number) e = ((λ i. record at { page = plus_zero at.page i; area = plus_zero at.area i }), refl)
-  where
-    plus_zero : (n : ℕ) → n + 0 ≡ n
-    plus_zero n = omega arith
-placed_behind sign at (Does (NewLine gap)) e = ((λ i. record at { page = plus_zero at.page i; area = plus_zero at.area i }), refl)
-  where
-    plus_zero : (n : ℕ) → n + 0 ≡ n
-    plus_zero n = omega arith
-placed_behind sign at _ e = absurd cc
+placed_behind sign at x e = grind (arith)
 
 module _ (sign : SignData) where
   -- the same is in force, at the same times, on the same page
@@ -269,19 +251,7 @@ module _ (sign : SignData) where
   Same ms = (standing sign (unplaced ms) ≡ standing sign ms) × (ended_times sign (unplaced ms) ≡ ended_times sign ms) × (pages_of (unplaced ms) ≡ pages_of ms)
 
   same_if : (ms : List Meaning) (x : Meaning) (b : Bool) → has_place x ≡ b → Same ms → Same (ms ++ x ∷ [])
-  same_if ms x true e (here, times, pages) =
-      let (stays, no_page) = placed_behind sign (standing sign ms) x e in
-      let is = unplaced_stays ms x e in (
-        ap (standing sign) is ∙ here ∙ sym (standing_push sign ms x ∙ stays),
-        ap (ended_times sign) is ∙ times ∙ sym (ended_times-push sign ms x ∙ ap (λ b. ended_times sign ms ++ cons_option (cond b (Some (times_at (standing sign ms))) None) []) no_page ∙ append-nil (ended_times sign ms)),
-        omega (arith, ap pages_of is, pages, pages_of-push ms x, ap {B = ℕ} (λ b. cond b 1 0) no_page),
-      )
-  same_if ms x false e (here, times, pages) =
-      let is = unplaced_grows ms x e in (
-        ap (standing sign) is ∙ standing_push sign (unplaced ms) x ∙ ap (λ s. standing_behind sign s x) here ∙ sym (standing_push sign ms x),
-        ap (ended_times sign) is ∙ ended_times-push sign (unplaced ms) x ∙ (λ i. times i ++ cons_option (cond (is_new_page x) (Some (times_at (here i))) None) []) ∙ sym (ended_times-push sign ms x),
-        omega (arith, ap pages_of is, pages_of-push (unplaced ms) x, pages, pages_of-push ms x),
-      )
+  same_if ms x b e same = grind (arith, placed_behind, unplaced_stays, standing_push, ended_times-push, append-nil, pages_of-push, unplaced_grows)
 
   pub same_unplaced : (ms : List Meaning) → Same ms
   same_unplaced = push_ind Same (refl, refl, refl) (λ ms x. same_if ms x (has_place x) refl)
@@ -289,26 +259,16 @@ module _ (sign : SignData) where
   -- an item that places nothing offends behind them just where it does behind all
   pub offends_unplaced : (setting : LineFill) (ms : List Meaning) (x : Meaning) → has_place x ≡ false → unsized_offence sign (unplaced ms) x ≡ offence setting sign ms x
   unfolding offence_by
-  offends_unplaced setting ms (Shows number) e = absurd cc
-  offends_unplaced setting ms (Does (NewLine gap)) e = absurd cc
-  offends_unplaced setting ms (Does NewPage) e =
-      let pages : count_by is_new_page (unplaced ms) ≡ count_by is_new_page ms = omega (arith, (same_unplaced ms).2) in
-      ap (λ n. first_code ((nat_lt sign.max_pages (n + 2), 12) ∷ [])) pages
-  offends_unplaced setting ms (Does (Font (Some pick))) e = refl
-  offends_unplaced setting ms x e = refl
+  offends_unplaced setting ms (Does NewPage) e = grind (arith, same_unplaced ms)
+  offends_unplaced setting ms x e = grind (arith)
 
   few_unplaced : (ms : List Meaning) → length (unplaced ms) ≤ length ms
-  few_unplaced = push_ind (λ ms. length (unplaced ms) ≤ length ms) (omega arith) (λ ms x ih. one ms x (has_place x) refl ih)
-    where
-      one : (ms : List Meaning) (x : Meaning) (b : Bool) → has_place x ≡ b → length (unplaced ms) ≤ length ms → length (unplaced (ms ++ x ∷ [])) ≤ length (ms ++ x ∷ [])
-      one ms x true e ih = omega (arith, ih, ap length (unplaced_stays ms x e), length-append ms (x ∷ []))
-      one ms x false e ih = omega (arith, ih, ap length (unplaced_grows ms x e), length-append (unplaced ms) (x ∷ []), length-append ms (x ∷ []))
+  few_unplaced = push_ind (λ ms. length (unplaced ms) ≤ length ms) (omega arith) (λ ms x ih. grind (arith, unplaced_stays, unplaced_grows, length-append))
 
   -- where a page begins, the state is that of all
   empty : (ms : List Meaning) → BeginsPage ms → (present_area sign ms ≡ []) × BeginsPage (unplaced ms)
   unfolding spots
-  empty ms (inl none) = (ap (present_area sign) none, inl (ap unplaced none))
-  empty ms (inr (earlier, is)) = (ap (present_area sign) is ∙ present_area-new sign earlier (Does NewPage) refl, inr (unplaced earlier, ap unplaced is ∙ unplaced_grows earlier (Does NewPage) refl))
+  empty ms begins = grind (arith, present_area-new, unplaced_grows)
 
   pub settled_at : (ms laid : List Meaning) (state : State) → standing sign laid ≡ standing sign ms → ended_times sign laid ≡ ended_times sign ms → pages_of laid ≡ pages_of ms → length ms ≤ length laid
       → BeginsPage ms → BeginsPage laid → IsStateOf sign (unplaced ms) state → IsStateOf sign laid state

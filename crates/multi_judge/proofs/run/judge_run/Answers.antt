@@ -1,4 +1,4 @@
-use Rattle.multi_judge.proofs.Lemmas.{◌≡◌, ◌==◌, ℕ, ◌+◌, ◌-◌, List, length, refl, ap, sym, subst, ◌∙◌, arith, rules, Some, Option, Bool, true, false, not, Counted, charged, State, Pass, ReadSoFar, IsUnfilledOf, IsBehind, IsPassOf, front_read, with_word, IsFilledReady, IsAt, IsInText, filled_ready_here, option_eq, nat_eq}
+use Rattle.multi_judge.proofs.Lemmas.{◌≡◌, ◌==◌, ℕ, ◌+◌, ◌-◌, List, length, refl, ap, sym, subst, ◌∙◌, arith, rules, Some, Option, Bool, true, false, not, Counted, charged, State, Pass, ReadSoFar, IsUnfilledOf, IsBehind, IsPassOf, front_read, with_word, TakesSpace, IsFilledReady, IsAt, IsInText, filled_ready_here, option_eq, nat_eq}
 use Rattle.multi_judge.proofs.TextLemmas.{with_look, without_look, word_ended, word_ready, word_spaced, words}
 use Rattle.multi_judge.proofs.run.judge_run.Goals as goal
 use Rattle.multi_judge.proofs.run.judge_run.Goals.{then-ne-via-then-ne, then-ne-via-else-ne+then-not-take_space}
@@ -32,16 +32,15 @@ returns-then-not-this-clause-at g c =
       most = omega (arith, rises, k.2, behind.most, p.forward, p.within, c.requires.short);
     })
 
-pub loop-run-init : goal.loop-run-init
-loop-run-init g c =
+pub loop-pass-init : goal.loop-pass-init
+loop-pass-init g c =
     let filled : not (g.row.WORDS == 0) ≡ true = search rules in
-    let goes : c.goes_on.result ≡ true = search rules in
-    let (runs, left) = c.run-run.ensures.run c.requires.character.within in (
+    let goes : c.goes_on.result ≡ true = search rules in (
       record {
         behind = subst (λ w. IsBehind c.args.sign.now c.args.source.now.octets c.args.at (IsPassOf w c.args.sign.now c.args.pass.now) c.args.source.now) filled c.requires.behind;
         fits = c.goes_on.ensures goes;
-        runs = runs;
-        left = left;
+        within = c.requires.character.within;
+        gap_is = c.gap-gap.ensures;
         widths = c.requires.cells;
       },
       omega arith,
@@ -50,46 +49,46 @@ loop-run-init g c =
 
 pub take-requires-clause-ready : goal.take-requires-clause-ready
 take-requires-clause-ready g c =
-    let (text, further, same) = c.loop-run.invariant in
-    filled_ready_here c.args.sign.now c.loop-run.source.octets c.loop-run.at c.loop-run.pass text.behind.so_far (omega (arith, ap length same, c.requires.short))
+    let (text, further, same) = c.loop-pass.invariant in
+    filled_ready_here c.args.sign.now c.loop-pass.source.octets c.loop-pass.at c.loop-pass.pass text.behind.so_far (omega (arith, ap length same, c.requires.short))
 
 pub take_space-requires : goal.take_space-requires
 take_space-requires g c =
-    let (text, further, same) = c.loop-run.invariant in
-    let front = c.read-word.ensures in
-    let len = c.read-word.result.len in
-    let w = words len c.read-word.result.width text same c.requires.short front.within front.plain (front.word refl) front.left front.width in
-    let kept = c.take.ensures ∙ ap (λ n. with_word c.loop-run.run.gap n len c.loop-run.pass) c.from.ensures in
+    let (text, further, same) = c.loop-pass.invariant in
+    let front = c.read_on-word.ensures in
+    let len = c.read_on-word.result.len in
+    let w = words len c.read_on-word.result.width text same c.requires.short front.within front.plain (front.word refl) front.width front.run in
+    let kept = c.take.ensures ∙ (λ i. with_word (text.gap_is i) (c.from.ensures i) len c.loop-pass.pass) in
     record { ready = subst IsFilledReady (sym kept) (word_ready w) }
 
 pub returns-then-ne-clause-at : goal.returns-then-ne-clause-at
 returns-then-ne-clause-at g c =
-    let (text, further, same) = c.loop-run.invariant in
-    let front = c.read-word.ensures in
-    let len = c.read-word.result.len in
-    let w = words len c.read-word.result.width text same c.requires.short front.within front.plain (front.word refl) front.left front.width in
-    let kept = c.take.ensures ∙ ap (λ n. with_word c.loop-run.run.gap n len c.loop-run.pass) c.from.ensures in
+    let (text, further, same) = c.loop-pass.invariant in
+    let front = c.read_on-word.ensures in
+    let len = c.read_on-word.result.len in
+    let w = words len c.read_on-word.result.width text same c.requires.short front.within front.plain (front.word refl) front.width front.run in
+    let kept = c.take.ensures ∙ (λ i. with_word (text.gap_is i) (c.from.ensures i) len c.loop-pass.pass) in
     let filled : not (g.row.WORDS == 0) ≡ true = search rules in
-    subst (λ (x : List ℕ × Bool). IsAt c.args.sign.now x.0 (c.loop-run.at + len) c.read-word.result.next (IsPassOf x.1 c.args.sign.now c.then-ne.pass) c.then-ne.source) (λ i. (same i, sym filled i)) (elim c.then-ne.branch [
+    subst (λ (x : List ℕ × Bool). IsAt c.args.sign.now x.0 (c.loop-pass.at + len) c.read_on-word.result.next (IsPassOf x.1 c.args.sign.now c.then-ne.pass) c.then-ne.source) (λ i. (same i, sym filled i)) (elim c.then-ne.branch [
       | then-ne-via-then-ne v ↦
-          word_ended w c.then-ne.source (without_look c.loop-run.source c.read-word.new.source c.then-ne.source len front.steps v.source-is) c.read-word.result.next front.next c.then-ne.pass (v.pass-is ∙ kept)
+          word_ended w c.then-ne.source (without_look c.loop-pass.source c.read_on-word.new.source c.then-ne.source len front.steps v.source-is) c.read_on-word.result.next front.next c.then-ne.pass (v.pass-is ∙ kept)
       | then-ne-via-else-ne+then-not-take_space v ↦
-          word_ended w c.then-ne.source (with_look c.loop-run.source c.read-word.new.source c.then-ne.source len front.steps (v.source-is ∙ v.take_space.ensures.step)) c.read-word.result.next front.next
-          c.then-ne.pass (v.pass-is ∙ (v.take_space.ensures.left v.if-not-take_space.true).1 ∙ kept)
+          word_ended w c.then-ne.source (with_look c.loop-pass.source c.read_on-word.new.source c.then-ne.source len front.steps (v.source-is ∙ v.take_space.ensures.step)) c.read_on-word.result.next front.next
+          c.then-ne.pass (v.pass-is ∙ v.take_space.ensures.left v.if-not-take_space.true ∙ kept)
     ])
 
-pub loop-run-preserved : goal.loop-run-preserved
-loop-run-preserved g c =
-    let (text, further, same) = c.loop-run.invariant in
-    let front = c.read-word.ensures in
-    let len = c.read-word.result.len in
-    let w = words len c.read-word.result.width text same c.requires.short front.within front.plain (front.word refl) front.left front.width in
-    let kept = c.take.ensures ∙ ap (λ n. with_word c.loop-run.run.gap n len c.loop-run.pass) c.from.ensures in
+pub loop-pass-preserved : goal.loop-pass-preserved
+loop-pass-preserved g c =
+    let (text, further, same) = c.loop-pass.invariant in
+    let front = c.read_on-word.ensures in
+    let len = c.read_on-word.result.len in
+    let w = words len c.read_on-word.result.width text same c.requires.short front.within front.plain (front.word refl) front.width front.run in
+    let kept = c.take.ensures ∙ (λ i. with_word (text.gap_is i) (c.from.ensures i) len c.loop-pass.pass) in
     let (width, space) = c.take_space.ensures.taken c.if-not-take_space.false in
-    let next = sym front.next ∙ found_space c.read-word.result.next c.ne.result c.ne.ensures c.if-ne.false in
-    let text' = word_spaced w c.take_space.new.source (with_look c.loop-run.source c.read-word.new.source c.take_space.new.source len front.steps c.take_space.ensures.step) next
-    _ _ (ap (λ n. c.loop-run.run.left - n) c.from-in-loop-run.ensures) kept width c.take_space.new.run c.take_space.new.self space in (
-      subst (λ (os : List ℕ). IsInText c.args.sign.now c.args.cells.now os (c.loop-run.at + len + 1) c.take_space.new.run c.take_space.new.self c.take_space.new.source) (sym text'.behind.same) text',
+    let next = sym front.next ∙ found_space c.read_on-word.result.next c.ne.result c.ne.ensures c.if-ne.false in
+    let text' = word_spaced w c.take_space.new.source (with_look c.loop-pass.source c.read_on-word.new.source c.take_space.new.source len front.steps c.take_space.ensures.step) next
+    width c.take_space.new.self (subst (λ (x : ℕ × Pass). TakesSpace c.args.cells.now x.0 x.1 width c.take_space.new.self) (λ i. (text.gap_is i, kept i)) space) in (
+      subst (λ (x : ℕ × List ℕ). IsInText c.args.sign.now c.args.cells.now x.1 (c.loop-pass.at + len + 1) x.0 c.take_space.new.self c.take_space.new.source) (λ i. (sym text.gap_is i, sym text'.behind.same i)) text',
       omega (arith, further),
       text'.behind.same ∙ same,
     )
