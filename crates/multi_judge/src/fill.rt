@@ -3,8 +3,7 @@
 ghost use Rattle.std.specs.Prelude.{◌≡◌, ℕ, ◌+◌, ◌^◌, None};
 ghost use Rattle.multi_judge.specs.Prelude.{FillsGroup, IsSplitBelow, IsMost, IsGroupBelow};
 
-use crate::area::Group;
-use crate::line::{Character, Line, room_for};
+use crate::{Character, Group, Line, room_for};
 use sign_font::FontInfo;
 
 /// The parts of the open line around its last space.

@@ -1,5 +1,5 @@
 -- What is drawn of one more item, and the steps over the plane that it takes.
-use Rattle.multi_layout.proofs.Common.{◌≡◌, ℕ, ◌+◌, ◌*◌, ◌^◌, ◌<◌, ◌≤◌, Bool, false, cond, ◌==◌, ◌⊎◌, List, [], ◌∷◌, ◌++◌, length, map, Option, Some, None, refl, sym, ap, subst, ◌∙◌, arith, ◌-◌, ◌&&◌, rules, nat_lt, unwrap_or, option_map, length-append, spelling, tag_of, Tag, NewPage, Back, BitPlane, is_lit, Defaults, SignData, FontData, cell_in, largest, tallest, CellData, cell_numbered, Standing, standing, put_at, spots, Break, Glyph, Spot, group_of, in_group, lines_of, is_break, in_area, Meaning, Does, Shows, begins_area, is_new_page, meaning, has_colour, shown_colour, is_lit_at, covered_same, eq-eqb, same_page_behind, present_area-placing, Cursor, Layer, State, Attributes, HasCounted, IsDrawnTo, IsFilledBy, IsStateOf, IsBelow, area_sum, IsBetween, meant, LaidItem, below_more, count_by, filter-append, page_number, Place, place_of, present_area, unsized_offence, page_number_known, Area, LineTable, StandsAt, PlacesCharacter, group_lines, table_of}
+use Rattle.multi_layout.proofs.Common.{◌≡◌, ℕ, ◌+◌, ◌*◌, ◌^◌, ◌<◌, ◌≤◌, Bool, false, cond, ◌==◌, ◌⊎◌, List, [], ◌∷◌, ◌++◌, length, map, Option, Some, None, refl, sym, ap, subst, ◌∙◌, arith, ◌-◌, ◌&&◌, rules, nat_lt, unwrap_or, option_map, length-append, spelling, tag_of, Tag, Back, BitPlane, is_lit, Defaults, SignData, FontData, cell_in, largest, tallest, CellData, cell_numbered, Standing, standing, put_at, spots, Break, Glyph, Spot, group_of, in_group, lines_of, is_break, in_area, Meaning, Does, Shows, begins_area, is_new_page, meaning, has_colour, shown_colour, is_lit_at, covered_same, eq-eqb, same_page_behind, present_area-placing, Cursor, Layer, State, Attributes, HasCounted, IsDrawnTo, IsFilledBy, IsStateOf, IsBelow, area_sum, IsBetween, meant, LaidItem, below_more, count_by, filter-append, page_number, Place, place_of, present_area, unsized_offence, page_number_known, Area, LineTable, StandsAt, PlacesCharacter, group_lines, table_of}
 use Rattle.std.proofs.Common.{max, Result}
 use Rattle.std.specs.Prelude.{find, nat_le}
 use Rattle.std.specs.Str.{str_to_ascii_lowercase}
