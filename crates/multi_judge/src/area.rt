@@ -3,7 +3,7 @@
 ghost use Rattle.std.specs.Prelude.{◌≡◌, ◌≢◌, ℕ, ◌+◌, ◌^◌, ◌<◌, ◌≤◌, ◌&&◌, true, false, List, [], ◌∷◌, ◌++◌};
 ghost use Rattle.multi_judge.specs.Prelude.{All, page_number, Spot, in_group, lines_of, height_of, IsPlacing, ReachesGroup, kept_height, group_sum, area_sum, IsBreak, IsGroupBelow, IsBelow};
 
-use crate::{Line, gap_or_average, room_for};
+use crate::line::{Line, gap_or_average, room_for};
 use multi_tag::PageJust;
 use sign_font::FontInfo;
 

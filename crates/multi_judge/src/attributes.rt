@@ -3,7 +3,8 @@
 ghost use Rattle.std.specs.Prelude.{◌≡◌};
 ghost use Rattle.multi_judge.specs.Prelude.{unwrap_or, Standing, whole_sign, Does, standing_behind, character_of, IsSimple, attributes_of};
 
-use crate::{Character, Terms};
+use crate::line::Character;
+use crate::terms::Terms;
 use multi_meaning::{FlashTimes, Rectangle};
 use multi_tag::{LineJust, PageJust, Tag};
 use sign_font::FontInfo;

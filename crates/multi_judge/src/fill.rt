@@ -3,7 +3,8 @@
 ghost use Rattle.std.specs.Prelude.{◌≡◌, ℕ, ◌+◌, ◌^◌, None};
 ghost use Rattle.multi_judge.specs.Prelude.{FillsGroup, IsSplitBelow, IsMost, IsGroupBelow};
 
-use crate::{Character, Group, Line, room_for};
+use crate::area::Group;
+use crate::line::{Character, Line, room_for};
 use sign_font::FontInfo;
 
 /// The parts of the open line around its last space.

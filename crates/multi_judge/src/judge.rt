@@ -3,7 +3,10 @@
 ghost use Rattle.std.specs.Prelude.{◌≡◌, ◌+◌, ◌-◌, ◌≤◌, ◌==◌, if◌then◌else◌, length, IfSome, IfNone, Some, [], ◌∷◌, ◌++◌, ◌^◌};
 ghost use Rattle.multi_judge.specs.Prelude.{RisesBetween, Does, JudgesTag, IsLimited, IsReady, Judges};
 
-use crate::{Area, State, Terms, whole_sign};
+use crate::area::Area;
+use crate::attributes::whole_sign;
+use crate::state::State;
+use crate::terms::Terms;
 use multi_meaning::{Rectangle, SyntaxError};
 use multi_tag::{FontPick, Tag};
 use multi_token::Source;

@@ -20,12 +20,9 @@ mod terms;
 
 pub use area::{Area, Group};
 pub use attributes::Attributes;
-use attributes::whole_sign;
-use fill::Split;
 pub use item::{KnownItem, NextItem, tag_error};
 pub use judge::judge_tag;
 pub use line::Line;
-use line::{Character, gap_or_average, room_for};
 pub use pass::Pass;
 pub use place::{is_full, place_at};
 pub use run::{go_along, judge_run};

@@ -3,7 +3,12 @@
 ghost use Rattle.std.specs.Prelude.{◌≡◌, ◌+◌, ◌^◌, true, List, [], OnOk};
 ghost use Rattle.multi_judge.specs.Prelude.{RisesBetween, charged, Words, SignData, AreWidthsOf, laid_items, Meaning, Shows, present_area, IsFilledOf, IsFilledReady, IsOctet, meant_by, IsPassBehind, IsPassReady, JudgesCell, JudgesItem, PutsCell, IsStateOf, IsBelow};
 
-use crate::{KnownItem, Line, Split, State, Terms, judge_tag};
+use crate::fill::Split;
+use crate::item::KnownItem;
+use crate::judge::judge_tag;
+use crate::line::Line;
+use crate::state::State;
+use crate::terms::Terms;
 use multi_meaning::{Rectangle, SyntaxError};
 use multi_tag::Tag;
 use multi_token::Source;

@@ -3,7 +3,9 @@
 ghost use Rattle.std.specs.Prelude.{◌≡◌, ℕ, ◌+◌, ◌-◌, ◌^◌, ◌<◌, ◌≤◌, ◌==◌, if◌then◌else◌, length, [], ◌∷◌, ◌++◌, Some, slice_get};
 ghost use Rattle.multi_judge.specs.Prelude.{start, spread, CountedLine, PlacesCharacter, TellsEnd, IsBelow};
 
-use crate::{Area, Attributes, CountedLine};
+use crate::area::Area;
+use crate::attributes::Attributes;
+use crate::table::CountedLine;
 use multi_meaning::{Place, Rectangle};
 
 /// Where a character with these attributes in force stands whose cell has this width in pixels, the last item of its area so far;

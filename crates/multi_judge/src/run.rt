@@ -4,7 +4,11 @@
 ghost use Rattle.std.specs.Prelude.{All, ◌≡◌, ◌+◌, ◌-◌, ◌*◌, ◌^◌, ◌<◌, ◌≤◌, ℕ, true, false, drop, length, slice_get, take};
 ghost use Rattle.multi_judge.specs.Prelude.{charged, RisesBetween, IsPlain, SignData, AreWidthsOf, HasWidth, IsNoSpace, width_in, IsFilledRun, with_word, IsFilledReady, IsPassBehind, IsPassOf, IsAt, IsBehind, IsBehindCharacter, IsBehindOne, IsRun, IsRunPassed, gap_here, is_within, lengthened, line_in_force, IsLimited, IsReady, TakesSpace};
 
-use crate::{Line, Pass, Split, State, Terms};
+use crate::fill::Split;
+use crate::line::Line;
+use crate::pass::Pass;
+use crate::state::State;
+use crate::terms::Terms;
 use multi_tag::LineJust;
 use multi_token::{Run, Source};
 use sign_font::{FontCells, FontInfo};

@@ -3,7 +3,9 @@
 ghost use Rattle.std.specs.Prelude.{◌≡◌, ◌+◌, ◌*◌, ◌^◌, ◌≤◌, [], List, true, false, not};
 ghost use Rattle.multi_judge.specs.Prelude.{IsSound, Spot, area_of, is_glyph, conflicts, AddsBreak, AddsCharacter, area_sum, IsLimited, IsReady, IsStateOf, whole_times};
 
-use crate::{Area, Attributes, Terms, whole_sign};
+use crate::area::Area;
+use crate::attributes::{Attributes, whole_sign};
+use crate::terms::Terms;
 use multi_meaning::Rectangle;
 
 /// The running state behind some items of a string.

@@ -4,7 +4,7 @@ ghost use Rattle.std.specs.Prelude.{◌≡◌, ℕ, ◌<◌, ◌≤◌, ◌==◌
 ghost use Rattle.multi_judge.specs.Prelude.{page_number, Spot, IsNarrow, line_sum, group_lines, line_count, line_entry, TableLines, IsOrdered, split_lines};
 ghost use Rattle.multi_judge.specs.Table.{width_in};
 
-use crate::Line;
+use crate::line::Line;
 use arrayvec::ArrayVec;
 use multi_tag::PageJust;
 use std::marker::Model;

@@ -4,7 +4,10 @@
 ghost use Rattle.std.specs.Prelude.{◌≡◌, ℕ, ◌+◌, ◌<◌, length};
 ghost use Rattle.multi_layout.specs.Prelude.{RisesBetween, Lights, picture, shown, Accepted, IsVerdict, IsCycle, check_limit, reading_limit, IsNextPage, IsReadOn, IsSized, TakesFew, page_count, IsFilledFew, IsStartOf, IsAtStart, IsToldOf, CheckedData};
 
-use crate::{AreaLines, Cursor, Layer, draw_page};
+use crate::cursor::Cursor;
+use crate::draw::draw_page;
+use crate::paint::Layer;
+use crate::read::AreaLines;
 use multi_judge::Terms;
 use multi_meaning::Shown;
 use multi_token::Source;

@@ -3,7 +3,7 @@
 ghost use Rattle.std.specs.Prelude.{◌≡◌, None, ℕ, ◌+◌, ◌-◌, ◌*◌, ◌<◌, ◌≤◌, ◌==◌, if◌then◌else◌, ◌⊎◌, ◌^◌, List};
 ghost use Rattle.multi_layout.specs.Prelude.{RisesBetween, IsSound, Meaning, unsized_offence, meant_by, IsReady, IsStateOf, PassesTag, IsAtStart, IsOnTheWay, IsPageSkipped, IsMet, MayMeet, met_octets, met_steps};
 
-use crate::{is_bracket, read_spelled};
+use crate::bracket::{is_bracket, read_spelled};
 use multi_judge::{KnownItem, NextItem, State, Terms, judge_tag};
 use multi_tag::Tag;
 use multi_token::Source;

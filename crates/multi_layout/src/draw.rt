@@ -3,7 +3,10 @@
 ghost use Rattle.std.specs.Prelude.{◌^◌, ◌≡◌, ◌≢◌, ℕ, ◌+◌, ◌-◌, ◌*◌, ◌≤◌, Option};
 ghost use Rattle.multi_layout.specs.Prelude.{RisesBetween, Full, Lights, picture, IsSized, IsFilledFew, IsPagePassed, IsPageStart, IsReadTwice, IsAreaDrawn, IsPageDrawn, item_steps, IsFilledBy, IsBehindCharacter, DrawsNext, DrawsRun, IsNextDrawn, IsReadBehind, IsRunDrawn, octets_read};
 
-use crate::{AreaLines, Cursor, Layer, Met, is_bracket, meet, put_character, read_lines};
+use crate::bracket::is_bracket;
+use crate::cursor::{Cursor, Met, meet};
+use crate::paint::{Layer, put_character};
+use crate::read::{AreaLines, read_lines};
 use multi_judge::{KnownItem, NextItem, Terms, is_full, place_at};
 use multi_meaning::Place;
 use multi_tag::{LineJust, Tag};

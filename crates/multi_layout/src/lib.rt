@@ -14,18 +14,11 @@ mod paint;
 mod read;
 mod verdict;
 
-use bracket::{is_bracket, read_spelled};
-use checked::{Told, find_shown};
 pub use checked::{Checked, NextPage};
-use cursor::{Cursor, Met, meet};
-use draw::draw_page;
 pub use multi_meaning::{
     Shown, SyntaxError, broken_bracket_stands, keeps_breaks, one_verdict, refusal_stands,
     smaller_fits,
 };
-use pages::draw_told;
 pub use pages::{PageView, Pages};
-use paint::{Layer, put_character};
 pub use read::AreaLines;
-use read::read_lines;
 pub use verdict::{Fault, Judge, Offence, check, check_with};

@@ -3,7 +3,11 @@
 ghost use Rattle.std.specs.Prelude.{◌≡◌, ◌+◌, ◌-◌, ◌*◌, ◌<◌, ◌≤◌, true, false, nat_lt, length, IfSome, MatchOption};
 ghost use Rattle.multi_layout.specs.Prelude.{sem, RisesBetween, Lights, meanings, picture, pixel_at, shown, check_limit, drawing_limit, plane_limit, reading_limit, IsSized, ShowsAt, TakesFew, page_count, IsToldOf, IsUnderWay, PagesState, pages_state};
 
-use crate::{AreaLines, Checked, Cursor, Layer, NextPage, Told, draw_page, find_shown};
+use crate::checked::{Checked, NextPage, Told, find_shown};
+use crate::cursor::Cursor;
+use crate::draw::draw_page;
+use crate::paint::Layer;
+use crate::read::AreaLines;
 use multi_judge::Terms;
 use multi_meaning::Shown;
 use multi_token::Source;

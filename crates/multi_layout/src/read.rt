@@ -4,7 +4,7 @@ ghost use Rattle.std.specs.Prelude.{◌≡◌, ℕ, ◌+◌, ◌-◌, ◌*◌, �
 ghost use Rattle.multi_layout.specs.Prelude.{RisesBetween, charged, IsSound, BitPlane, begins_area, EndsGroup, IsNextRead, IsReadOf, KnowsArea, ReadsOn, IsOctet, meant_by, fill_of, IsBehindCharacter, IsPageDrawn, Layer, ReadsArea, item_steps};
 ghost use Rattle.multi_token.specs.Spelling as spelled;
 
-use crate::{Cursor, Met, meet};
+use crate::cursor::{Cursor, Met, meet};
 use multi_judge::{Area, CountedLine, KnownItem, LineTable, NextItem, Pass, Terms, go_along};
 use multi_token::Source;
 

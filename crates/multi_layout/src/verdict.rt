@@ -3,7 +3,10 @@
 ghost use Rattle.std.specs.Prelude.{◌≡◌, ℕ, ◌+◌, ◌*◌, ◌^◌, ◌<◌, ◌≤◌, [], length, IfOk, IfErr, OnOk, OnErr, None};
 ghost use Rattle.multi_layout.specs.Prelude.{default_fault, under, SignData, code_of, Accepted, IsVerdict, Refused, check_limit, reading_limit, IsSized, ShowsAt, TakesFew, IsRefused, IsTold, IsAt, IsPassOf};
 
-use crate::{AreaLines, Checked, Told, draw_told, is_bracket, read_spelled};
+use crate::bracket::{is_bracket, read_spelled};
+use crate::checked::{Checked, Told};
+use crate::pages::draw_told;
+use crate::read::AreaLines;
 use multi_judge::{Pass, State, Terms, judge_run};
 use multi_meaning::{Shown, SyntaxError};
 use multi_token::Source;
