@@ -37,8 +37,8 @@ pub record IsItemPassed (words : Bool) (sign : SignData) (items : List Meaning) 
       → in_group just (laid_area words sign (items ++ item ∷ [])) ≡ in_group just (laid_area words sign items)
   pub own : EndsLine (in_group page (laid_area words sign items)) (in_group page (laid_area words sign (items ++ item ∷ []))) ended
 
--- one more item is judged: it doesn't offend, the pass is then that of the items with it, and it ends this line of its group, if it ends
--- one, which needs a place, or it offends by this error (own)
+-- one more item is judged. Either it doesn't offend: the pass is then that of the items with it, and the item ended this line of its group,
+-- if one; an item without a place ends none. Or it offends by this error (own)
 abbrev pub IsItemJudged : Bool → SignData → List Meaning → Meaning → Pass → Result (Option Line) SyntaxError → Pass → Type 0
 IsItemJudged words sign items item old (Ok ended) new =
     (offence sign.line_fill sign items item ≡ None) × IsPassOf words sign new (items ++ item ∷ []) × (has_place item ≡ false → ended ≡ None)
@@ -56,8 +56,8 @@ JudgesCell words old number width result new =
     (sign : SignData) → width_in sign old.state.attributes.font.number number ≡ Some width
     → JudgesItem words sign old (Shows number) result new
 
--- one more character is put: it doesn't offend if it is within the limits, and is passed then, or it offends by its size; or it isn't put,
--- and offends by this error (own)
+-- one more character is put, or it offends by this error. If it is put and stays within the limits, it doesn't offend and is passed; else it
+-- offends by its size (own)
 abbrev pub IsCellPut : Bool → SignData → List Meaning → ℕ → Pass → Result (Option Line) SyntaxError → Pass → Type 0
 IsCellPut words sign items number old (Ok ended) new =
     (offence sign.line_fill sign items (Shows number) ≡ (if is_within new.state then None else Some 5))
