@@ -273,15 +273,3 @@ judged-picked sign items state st pick info is agrees =
     (ap (λ o. unwrap_or o (standing sign items).font) found)
     (found_again sign pick.number font found) (ap (λ (i : FontInfo). let a : Attributes = record state.attributes { font = i } in a) same)
     (offence-font (too_big Off) sign items pick font found ∙ ap (λ b. cond {A = Option ℕ} b (Some 13) None) test)
-
--- RECTANGLES
-
-module _ (sign : SignData) (x y w h : ℕ) where
-  pub outside_across : (1 ≤ x → x ≤ sign.width → x - 1 + w ≤ sign.width → ⊥) → is_inside sign x y w h ≡ false
-  outside_across no_way = search (rules, cases_Bool, nat_tests)
-
-  pub outside_down : (1 ≤ y → y ≤ sign.height → y - 1 + h ≤ sign.height → ⊥) → is_inside sign x y w h ≡ false
-  outside_down no_way = search (rules, cases_Bool, nat_tests)
-
-  pub inside : 1 ≤ x → x ≤ sign.width → x - 1 + w ≤ sign.width → 1 ≤ y → y ≤ sign.height → y - 1 + h ≤ sign.height → is_inside sign x y w h ≡ true
-  inside a b c d e f = grind (arith, nat_tests)

@@ -10,7 +10,7 @@ pub use Rattle.sign_font.specs.Sound.{IsSound, IsWithin}
 pub use Rattle.sign_font.specs.Text.{AreWidthsOf, HasWidth, IsNoSpace, width_in}
 pub use Rattle.sign_font.specs.declared.parts.LineFill.TheVariants.{Words}
 pub use Rattle.multi_meaning.specs.Address.{Spot, in_group, lines_of, Standing, is_glyph, area_of}
-pub use Rattle.multi_meaning.specs.Attributes.{whole_sign, default_line_just, default_page_just}
+pub use Rattle.multi_meaning.specs.Attributes.{whole_sign, default_line_just, default_page_just, is_inside, rectangle}
 pub use Rattle.multi_meaning.specs.Codes.{code_of}
 pub use Rattle.multi_meaning.specs.kept.Fits.{room_for}
 pub use Rattle.multi_meaning.specs.Laid.{laid_items}

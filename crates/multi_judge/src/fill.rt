@@ -1,6 +1,6 @@
 //! Lines that are filled by words: the open line is broken at its last space, which is dropped.
 
-ghost use Rattle.std.specs.Prelude.{◌≡◌, ℕ, ◌+◌, ◌^◌, None};
+ghost use Rattle.std.specs.Prelude.{◌≡◌, ℕ, ◌+◌, ◌^◌};
 ghost use Rattle.multi_judge.specs.Prelude.{FillsGroup, IsSplitBelow, IsMost, IsGroupBelow};
 
 use crate::area::Group;
@@ -57,28 +57,16 @@ impl Group {
         if space {
             self.line = before;
             self.add_break(None, &character.font);
-            forget(split);
+            *split = None;
             return Some(before);
         }
-        match *split {
-            Some(parts) => {
-                self.line = parts.before;
-                self.add_break(None, &parts.font);
-                self.line = parts.behind;
-                self.line.add(character);
-                *most = room_for(self.line.present, self.line.left, self.line.centre, width);
-                forget(split);
-                Some(parts.before)
-            }
-            None => None,
-        }
+        let parts = (*split)?;
+        self.line = parts.before;
+        self.add_break(None, &parts.font);
+        self.line = parts.behind;
+        self.line.add(character);
+        *most = room_for(self.line.present, self.line.left, self.line.centre, width);
+        *split = None;
+        Some(parts.before)
     }
-}
-
-/// Forgets the parts of a line. It isn't put into its callers' code, which would make room for no parts at every character.
-#[inline(never)]
-fn forget(split: &mut Option<Split>)
-    ensures { split.new ≡ None }
-{
-    *split = None;
 }

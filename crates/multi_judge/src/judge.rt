@@ -1,7 +1,7 @@
 //! The verdict on a string, in one reading from the left with running sums.
 
-ghost use Rattle.std.specs.Prelude.{◌≡◌, ◌+◌, ◌-◌, ◌≤◌, ◌==◌, if◌then◌else◌, length, IfSome, IfNone, Some, [], ◌∷◌, ◌++◌, ◌^◌};
-ghost use Rattle.multi_judge.specs.Prelude.{RisesBetween, Does, JudgesTag, IsLimited, IsReady, Judges};
+ghost use Rattle.std.specs.Prelude.{◌≡◌, ◌+◌, ◌-◌, ◌≤◌, ◌==◌, if◌then◌else◌, length, IfSome, IfNone, Some, None, [], ◌∷◌, ◌++◌, ◌^◌};
+ghost use Rattle.multi_judge.specs.Prelude.{RisesBetween, Does, JudgesTag, IsLimited, IsReady, Judges, is_inside, rectangle};
 
 use crate::area::Area;
 use crate::attributes::whole_sign;
@@ -47,7 +47,14 @@ pub fn judge_tag(
             }
         }
         Tag::Font(pick) => judge_font(sign, state, source, pick),
-        Tag::Rect { x, y, w, h } => judge_rectangle(sign, state, x, y, w, h),
+        Tag::Rect { x, y, w, h } => {
+            let Some(inside) = rectangle(sign, x, y, w, h) else {
+                return Err(SyntaxError::UnsupportedTagValue);
+            };
+            state.attributes.rectangle = inside;
+            state.area = Area::default();
+            Ok(())
+        }
         _ => {
             state.attributes.set(sign, tag);
             Ok(())
@@ -81,33 +88,18 @@ fn judge_font(
     Ok(())
 }
 
-/// Judges a rectangle, whose upper left pixel is counted from 1.
-fn judge_rectangle(
-    sign: &Terms<'_>,
-    state: &mut State,
-    x: u32,
-    y: u32,
-    w: u32,
-    h: u32,
-) -> Result<(), SyntaxError>
-    requires { IsReady state.old }
-    ensures judged { Judges sign.now state.old (Does (Tag.Rect x y w h)) result state.new }
-    ensures limited { IsLimited state.old → IsLimited state.new }
+/// The rectangle of a tag, whose upper left pixel is counted from 1, if it is inside the sign.
+fn rectangle(sign: &Terms<'_>, x: u32, y: u32, w: u32, h: u32) -> Option<Rectangle>
+    ensures inside { result ≡ if is_inside sign.now x y w h then Some (rectangle sign.now x y w h) else None }
 {
-    let Some((left, width)) = part_of(sign.bare.width(), x, w) else {
-        return Err(SyntaxError::UnsupportedTagValue);
-    };
-    let Some((top, height)) = part_of(sign.bare.height(), y, h) else {
-        return Err(SyntaxError::UnsupportedTagValue);
-    };
-    state.attributes.rectangle = Rectangle {
+    let (left, width) = part_of(sign.bare.width(), x, w)?;
+    let (top, height) = part_of(sign.bare.height(), y, h)?;
+    Some(Rectangle {
         left,
         top,
         width,
         height,
-    };
-    state.area = Area::default();
-    Ok(())
+    })
 }
 
 /// A part of the sign's width or height, which begins at a pixel counted from 1: its first pixel, counted from

@@ -150,10 +150,7 @@ impl Line {
 pub(crate) fn gap_or_average(given: Option<u8>, earlier: u8, later: u8) -> u8
     ensures { result ≡ unwrap_or given (average earlier later) }
 {
-    match given {
-        Some(gap) => gap,
-        None => ((u16::from(earlier) + u16::from(later) + 1) / 2) as u8,
-    }
+    given.unwrap_or(((u16::from(earlier) + u16::from(later) + 1) / 2) as u8)
 }
 
 /// The most that a part may have within a length into which those before it fit: in the middle 3, at the end 4, else at the start or alone.

@@ -6,7 +6,7 @@ ghost use Rattle.multi_judge.specs.Prelude.{start, spread, CountedLine, PlacesCh
 use crate::area::Area;
 use crate::attributes::Attributes;
 use crate::table::CountedLine;
-use multi_meaning::{Place, Rectangle};
+use multi_meaning::Place;
 
 /// Where a character with these attributes in force stands whose cell has this width in pixels, the last item of its area so far;
 /// `lines` are the counted lines of its group.
@@ -15,26 +15,21 @@ pub fn place_at(attributes: &Attributes, area: &Area, lines: &[CountedLine], wid
     ensures place { PlacesCharacter attributes.now area.now lines.now width result }
     ensures low { (result.column ≤ 2 ^ 62) × (result.row ≤ 2 ^ 62) }
 {
-    let (line_just, page_just) = (attributes.line_just.number(), attributes.page_just.number());
-    let Rectangle {
-        left,
-        top,
-        width: across,
-        height: down,
-    } = attributes.rectangle;
+    let just = attributes.line_just.number();
+    let within = attributes.rectangle;
     let line = line_at(lines, area.group.ended);
     let part = &area.group.line.part;
-    let size = line.width(line_just);
-    let spare = u64::from(across).saturating_sub(size);
+    let size = line.width(just);
+    let spare = u64::from(within.width).saturating_sub(size);
     let before = part.count.saturating_sub(1);
     let height = u64::from(lines.last().copied().unwrap_or_default().bottom);
     Place {
-        column: u64::from(left)
-            + start(line_just, across, size)
+        column: u64::from(within.left)
+            + start(just, within.width, size)
             + part.width.saturating_sub(u64::from(width))
-            + moved(line_just, before, u64::from(line.characters), spare),
-        row: u64::from(top)
-            + start(page_just, down, height)
+            + moved(just, before, u64::from(line.characters), spare),
+        row: u64::from(within.top)
+            + start(attributes.page_just.number(), within.height, height)
             + u64::from(line.bottom).saturating_sub(u64::from(attributes.font.height)),
     }
 }

@@ -1,4 +1,5 @@
-use Rattle.multi_judge.proofs.Lemmas.{◌+◌, ◌<◌, ◌≤◌, arith, rules, lt-ltb, le-ltb, SignData, judged-page, state-page, None, Option, Some, cond, ℕ, not, ap, refl, sym, ◌∙◌, le-leb, lt-leb, spots, standing, judged-simple, simple_of, break_judged, line_end, page_here, placed_conflict, spot_of}
+use Rattle.multi_judge.proofs.Lemmas.{◌≡◌, false, true, rectangle, Attributes, judged-rectangle, state-rectangle, ◌+◌, ◌<◌, ◌≤◌, arith, rules, lt-ltb, le-ltb, SignData, judged-page, state-page, None, Option, Some, cond, ℕ, not, ap, refl, sym, ◌∙◌, le-leb, lt-leb, spots, standing, judged-simple, simple_of, break_judged, line_end, page_here, placed_conflict, spot_of}
+use Rattle.multi_judge.proofs.Common.{cases_Bool, is_inside}
 use Rattle.multi_judge.proofs.judge.judge_tag.Goals as goal
 
 pub returns-then-not-put_break-clause-judged : goal.returns-then-not-put_break-clause-judged
@@ -42,4 +43,23 @@ returns-else-state-max_pages-clause-judged c = λ items st held.
     rw c.in-NewPage.is (
       judged-page c.args.sign.now items c.args.state.now st ∙ ap (λ b. cond {A = Option ℕ} b (Some 12) None) (le-ltb c.args.sign.now.max_pages (c.args.state.now.pages + 1) room),
       state-page c.args.sign.now items c.args.state.now st _ refl (omega (arith, c.from.ensures, c.from-in-NewPage.ensures)) (rw c.whole_sign-state.ensures refl) (search rules) (omega arith) (omega arith),
+    )
+
+pub returns-in_default-rectangle-clause-judged : goal.returns-in_default-rectangle-clause-judged
+returns-in_default-rectangle-clause-judged c = λ items st held.
+    let outside : is_inside c.args.sign.now c.in-Rect.x c.in-Rect.y c.in-Rect.w c.in-Rect.h ≡ false = search (rules, cases_Bool) in
+    rw c.in-Rect.is (judged-rectangle c.args.sign.now items c.args.state.now st c.in-Rect.x c.in-Rect.y c.in-Rect.w c.in-Rect.h ∙ ap (λ b. cond {A = Option ℕ} b None (Some 4)) outside)
+
+pub returns-in-Some-clause-judged : goal.returns-in-Some-clause-judged
+returns-in-Some-clause-judged c = λ items st held.
+    let sign = c.args.sign.now in
+    let x = c.in-Rect.x in
+    let y = c.in-Rect.y in
+    let w = c.in-Rect.w in
+    let h = c.in-Rect.h in
+    let inside : is_inside sign x y w h ≡ true = search (rules, cases_Bool) in
+    let is : c.in-Some.inside ≡ rectangle sign x y w h = search (rules, cases_Bool) in
+    rw c.in-Rect.is (
+      judged-rectangle sign items c.args.state.now st x y w h ∙ ap (λ b. cond {A = Option ℕ} b None (Some 4)) inside,
+      state-rectangle sign items c.args.state.now _ x y w h st refl refl (rw is (ap (λ (a : Attributes). let b : Attributes = record a { rectangle = rectangle sign x y w h } in b) st.attributes)) (search rules),
     )

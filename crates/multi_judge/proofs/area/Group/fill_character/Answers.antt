@@ -1,4 +1,4 @@
-use Rattle.multi_judge.proofs.Lemmas.{Some, after_last, filled, is_break, ◌+◌, sym, rules, ◌∙◌, subst, arith, le-leb, lt-leb, IsSplitBelow, Joins, breaks_there, drops_there, present_line, put_line, stands_there, stays_there, split_none, split_space, split_word, lined_below, split_more}
+use Rattle.multi_judge.proofs.Lemmas.{◌≡◌, None, Some, after_last, filled, is_break, ◌+◌, sym, rules, ◌∙◌, subst, arith, le-leb, lt-leb, IsSplitBelow, Joins, breaks_there, drops_there, present_line, put_line, stands_there, stays_there, split_none, split_space, split_word, lined_below, split_more}
 use Rattle.multi_judge.proofs.FillGroupLemmas.{present_glyphs}
 use Rattle.multi_judge.proofs.area.Group.fill_character.Goals as goal
 
@@ -40,34 +40,35 @@ pub returns-then-space-2-clause-sum : goal.returns-then-space-2-clause-sum
 returns-then-space-2-clause-sum c most group s placing is space fits apart e o =
     let j : Joins c.args.width group s c.args.character.now c.args.self.now = record { placing = placing; is = is; fits = fits; apart = apart; sum = e } in
     let (grown, room) = put_line j c.put.result c.put.new.self c.args.most.now c.put.new.most c.put.ensures.apart c.put.ensures.put c.put.ensures.most most in
-    rw c.forget.ensures (drops_there j c.put.new.self grown c.put.new.most room (lt-leb c.put.new.self.part.width c.put.new.most c.if-self-most.false)
+    (drops_there j c.put.new.self grown c.put.new.most room (lt-leb c.put.new.self.part.width c.put.new.most c.if-self-most.false)
     (space ∙ c.if-space-2.true) c.add_break.new.self c.add_break.ensures.sum)
 
 pub returns-then-space-2-clause-grows : goal.returns-then-space-2-clause-grows
-returns-then-space-2-clause-grows c k below split = (c.add_break.ensures.grows k below, subst (IsSplitBelow (k + 1024)) (sym c.forget.ensures) tt)
+returns-then-space-2-clause-grows c k below split = (c.add_break.ensures.grows k below, tt)
 
-pub returns-in-Some-split-clause-sum : goal.returns-in-Some-split-clause-sum
-returns-in-Some-split-clause-sum c most group s placing is space fits apart e o =
+pub returns-clause-sum : goal.returns-clause-sum
+returns-clause-sum c most group s placing is space fits apart e o =
     let j : Joins c.args.width group s c.args.character.now c.args.self.now = record { placing = placing; is = is; fits = fits; apart = apart; sum = e } in
     let (grown, room) = put_line j c.put.result c.put.new.self c.args.most.now c.put.new.most c.put.ensures.apart c.put.ensures.put c.put.ensures.most most in
-    rw c.forget-in-Some-split.ensures (breaks_there j c.put.new.self grown c.put.new.most room (lt-leb c.put.new.self.part.width c.put.new.most c.if-self-most.false)
-    (space ∙ c.if-space-2.false) c.in-Some-split.parts (sym c.in-Some-split.is ∙ o) c.add_break-in-Some-split.new.self c.add_break-in-Some-split.ensures.sum c.add-in-Some-split.new.self c.add-in-Some-split.ensures.sum)
+    (breaks_there j c.put.new.self grown c.put.new.most room (lt-leb c.put.new.self.part.width c.put.new.most c.if-self-most.false)
+    (space ∙ c.if-space-2.false) c.in_ok-parts.parts (sym c.in_ok-parts.was ∙ o) c.add_break-2.new.self c.add_break-2.ensures.sum c.add-2.new.self c.add-2.ensures.sum)
 
-pub returns-in-Some-split-clause-grows : goal.returns-in-Some-split-clause-grows
-returns-in-Some-split-clause-grows c k below split =
-    let parts = subst (IsSplitBelow k) c.in-Some-split.is split in
-    let ended = c.add_break-in-Some-split.ensures.grows k (record { ended = below.ended; closed = below.closed; line = parts.0 }) in (
-      record { ended = ended.ended; closed = ended.closed; line = c.add-in-Some-split.ensures.grows k parts.1 },
-      subst (IsSplitBelow (k + 1024)) (sym c.forget-in-Some-split.ensures) tt,
+pub returns-clause-grows : goal.returns-clause-grows
+returns-clause-grows c k below split =
+    let parts = subst (IsSplitBelow k) c.in_ok-parts.was split in
+    let ended = c.add_break-2.ensures.grows k (record { ended = below.ended; closed = below.closed; line = parts.0 }) in (
+      record { ended = ended.ended; closed = ended.closed; line = c.add-2.ensures.grows k parts.1 },
+      tt,
     )
 
-pub returns-in-None-clause-sum : goal.returns-in-None-clause-sum
-returns-in-None-clause-sum c most group s placing is space fits apart e o =
+pub returns-in_err-parts-clause-sum : goal.returns-in_err-parts-clause-sum
+returns-in_err-parts-clause-sum c most group s placing is space fits apart e o =
     let j : Joins c.args.width group s c.args.character.now c.args.self.now = record { placing = placing; is = is; fits = fits; apart = apart; sum = e } in
     let (grown, room) = put_line j c.put.result c.put.new.self c.args.most.now c.put.new.most c.put.ensures.apart c.put.ensures.put c.put.ensures.most most in
-    rw c.in-None.is (stays_there j c.put.new.self grown c.put.new.most room (lt-leb c.put.new.self.part.width c.put.new.most c.if-self-most.false)
-    (space ∙ c.if-space-2.false) (sym c.in-None.is ∙ o))
+    let none : c.from_residual.result ≡ None = search rules in
+    rw (c.in_err-parts.was, none) (stays_there j c.put.new.self grown c.put.new.most room (lt-leb c.put.new.self.part.width c.put.new.most c.if-self-most.false)
+    (space ∙ c.if-space-2.false) (sym c.in_err-parts.was ∙ o))
 
-pub returns-in-None-clause-grows : goal.returns-in-None-clause-grows
-returns-in-None-clause-grows c k below split =
+pub returns-in_err-parts-clause-grows : goal.returns-in_err-parts-clause-grows
+returns-in_err-parts-clause-grows c k below split =
     (lined_below k c.args.self.now c.put.new.self below (c.put.ensures.grows k below.line), split_more k (k + 1024) c.args.split.now (omega arith) split)
