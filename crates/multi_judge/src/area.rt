@@ -95,36 +95,19 @@ impl Area {
         requires below { IsBelow (2 ^ 62) self.old }
         ensures reached { ReachesGroup (page_number page_just) height self.old most.old result self.new most.new }
     {
-        if page_just.number() == self.present {
-            return true;
-        }
-        if self.present == 0 {
-            self.present = page_just.number();
-            *most = u64::from(height);
-            return true;
-        }
-        self.leave(page_just, height, most)
-    }
-
-    /// The same from a group of some items. It isn't put into its callers' code, since areas of several groups are few.
-    #[inline(never)]
-    fn leave(&mut self, page_just: PageJust, height: u16, most: &mut u64) -> bool
-        requires below { IsBelow (2 ^ 62) self.old }
-        requires other { page_number page_just ≢ self.old.present }
-        ensures reached { ReachesGroup (page_number page_just) height self.old most.old result self.new most.new }
-    {
         let page_just = page_just.number();
-        if page_just < self.present {
-            return false;
+        if page_just <= self.present {
+            return page_just == self.present;
         }
-        let (before, ended) = (self.present, self.group.height());
-        self.group = Group::default();
+        if self.present > 0 {
+            match self.present {
+                2 => self.top = self.group.height(),
+                3 => self.middle = self.group.height(),
+                _ => {}
+            }
+            self.group = Group::default();
+        }
         self.present = page_just;
-        match before {
-            2 => self.top = ended,
-            3 => self.middle = ended,
-            _ => {}
-        }
         *most = room_for(self.present, self.top, self.middle, height);
         true
     }

@@ -6,7 +6,7 @@ ghost use Rattle.multi_judge.specs.Prelude.{start, spread, CountedLine, PlacesCh
 use crate::area::Area;
 use crate::attributes::Attributes;
 use crate::table::CountedLine;
-use multi_meaning::Place;
+use multi_meaning::{Place, Rectangle};
 
 /// Where a character with these attributes in force stands whose cell has this width in pixels, the last item of its area so far;
 /// `lines` are the counted lines of its group.
@@ -16,20 +16,20 @@ pub fn place_at(attributes: &Attributes, area: &Area, lines: &[CountedLine], wid
     ensures low { (result.column ≤ 2 ^ 62) × (result.row ≤ 2 ^ 62) }
 {
     let just = attributes.line_just.number();
-    let within = attributes.rectangle;
+    let Rectangle { top, height, .. } = attributes.rectangle;
     let line = line_at(lines, area.group.ended);
     let part = &area.group.line.part;
     let size = line.width(just);
-    let spare = u64::from(within.width).saturating_sub(size);
+    let spare = u64::from(attributes.rectangle.width).saturating_sub(size);
     let before = part.count.saturating_sub(1);
-    let height = u64::from(lines.last().copied().unwrap_or_default().bottom);
+    let bottom = u64::from(lines.last().copied().unwrap_or_default().bottom);
     Place {
-        column: u64::from(within.left)
-            + start(just, within.width, size)
+        column: u64::from(attributes.rectangle.left)
+            + start(just, attributes.rectangle.width, size)
             + part.width.saturating_sub(u64::from(width))
             + moved(just, before, u64::from(line.characters), spare),
-        row: u64::from(within.top)
-            + start(attributes.page_just.number(), within.height, height)
+        row: u64::from(top)
+            + start(attributes.page_just.number(), height, bottom)
             + u64::from(line.bottom).saturating_sub(u64::from(attributes.font.height)),
     }
 }
