@@ -2,6 +2,7 @@
 use Rattle.multi_judge.proofs.Common.{nat_lt, ◌≡◌, ℕ, ◌*◌, ◌≤◌, true, false, List, [], ◌∷◌, ◌++◌, length, Option, Some, None, Result, Ok, Err, refl, sym, ap, subst, ◌∙◌, arith, append-nil, ◌&&◌, rules, Bool, cond, not, ◌||◌, ◌==◌, after_last, list_any, cases_eq, le-leb, length-append, Tag, NewPage, NewLine, Rect, page_number, LineFill, Off, Words, SignData, CellData, cell_in, cell_numbered, SyntaxError, Break, Spot, Standing, in_area, in_group, is_break, spots, standing, Glyph, area_of, group_of, filled, is_space, line_fits, area_fits, too_big, laid_items, Meaning, Does, Shows, conflicts, offence, clashes, first_code, never_big, unsized_offence, present_area, largest, in_group_other, own_group, placing_group, area_placing, nothing_fits, largest_laid, are_laid, offence-break, no_conflict, standing_push, present_area-new, present_area-placing, offence-character, largest_push, SizedCell, page_number_known, area_sum, IsBelow, IsCharacter, line_sum, Area, Pass, State, IsFilledOf, begins_line, order_sum, split_sum, IsSplitBelow, EndsLine, AreaFits, IsJudged, IsPassOf, IsFilledOn, IsPlacing, All, IsLimited, IsStateOf, attributes_of, Split, Character, Line, Attributes, is_within, FitsBefore, Limits, filled_break, offends_as_laid, laid_tag, fits_next, after_last_push}
 use Rattle.multi_judge.proofs.Sums.{area_stays, split_more, cell_found, cell_missing, no_back, empty_area, both_fit, no_clash, present_glyphs}
 use Rattle.multi_meaning.specs.Codes.{code_of}
+use Rattle.multi_meaning.proofs.LaidItemLemmas.{groups_laid, same_fill}
 use Rattle.multi_meaning.specs.kept.FillOpen.{AllOpenFit}
 use Rattle.multi_judge.proofs.LimitLemmas.{limited_none, area_told, open_told, groups_fit_before}
 use Rattle.multi_judge.proofs.FilledStateLemmas.{area_with, conflicts_by, doesn't_fit, goes_behind, offends_by, offends_without, present_is, shown, no_clash_filled}
@@ -14,6 +15,13 @@ present_laid sign items state st =
     let (here, are) = are_laid Words sign items items [] (sym (append-nil items)) in
     ap (λ (a : Area). a.present) st.area ∙ (λ i. largest (λ (t : Spot). page_number t.at.page_just) (in_area (here i).area (are i)))
     ∙ largest_laid Words (standing sign items).rectangle.width (standing sign items).area all all [] (sym (append-nil all))
+
+-- a group of its area is laid out as the group, filled
+pub group_laid : (sign : SignData) (items : List Meaning) (just : ℕ) → in_group just (present_area sign (laid_items Words sign items items)) ≡ filled (Some (standing sign items).rectangle.width) (in_group just (present_area sign items))
+group_laid sign items just =
+    let (here, are) = are_laid Words sign items items [] (sym (append-nil items)) in
+    (λ i. in_group just (in_area (here i).area (are i)))
+    ∙ groups_laid Words (standing sign items).rectangle.width (standing sign items).area (spots sign items) (record { at = standing sign items; put = Break None }) refl (same_fill Words sign items) just
 
 no_height : (height : ℕ) → area_fits height [] ≡ true
 no_height height = ap (λ b. b && true) (le-leb 0 height (omega arith))

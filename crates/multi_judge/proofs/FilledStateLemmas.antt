@@ -3,6 +3,8 @@ use Rattle.multi_judge.proofs.Common.{nat_lt, ◌≡◌, ℕ, ◌+◌, ◌*◌, 
 use Rattle.multi_judge.proofs.Sums.{cycle-stays, conflicts_kept, no_back, any_more, in_order, line_clashes}
 use Rattle.std.proofs.Math.Bool.{or_comm}
 use Rattle.multi_judge.proofs.RunLemmas.{not_full, or_same}
+use Rattle.multi_judge.specs.FilledState.{IsOrderedBy}
+use Rattle.multi_judge.proofs.Common.{IfSome, ◌≤◌, any_largest, cases_lt, false≢true, lt-ltb, inl, inr, split_sum, parts_sum, cut_at_last, is_space, is_cut, option_map}
 
 one_of : (b c : Bool) → cond {A = ℕ} b 1 0 ≡ cond c 1 0 → b ≡ c
 one_of true true e = refl
@@ -160,6 +162,36 @@ module _ (width : ℕ) where
   no_clash_filled g s placing apart =
       let (front, is) = end_of (length ((cut is_break g).open')) ((cut is_break g).open') in
       grind (arith, open_line_is width g placing, none_later_on (clashes s) front (open_line width g) (ap (list_any (clashes s)) (sym is ∙ sym (after_last_is is_break g)) ∙ apart))
+
+-- the justifications at the end of a line are among those of the line
+end_ordered : (front line : List Spot) → IsOrderedBy (order_sum (front ++ line)) (line_sum line)
+end_ordered front line =
+    let f : Spot → ℕ = λ t. line_number t.at.line_just in
+    let most = largest f (front ++ line) in
+    let parts : Spot → Bool = λ t. nat_lt (f t) 5 in
+    let least : largest f line ≤ most = elim (cases_lt most (largest f line)) [
+      | inl less ↦ absurd (false≢true (sym (none_later_on (λ t. nat_lt most (f t)) front line (any_largest f most (front ++ line) ∙ le-ltb most most (omega arith))) ∙ any_largest f most line ∙ lt-ltb most (largest f line) less))
+      | inr low ↦ low
+    ] in
+    (least, λ some. grind (arith, list_any-append parts front line, some))
+
+-- and so are those behind its last space
+behind_ordered : (front line : List Spot) (o : Option (CutAt Spot)) → cut_at_last is_space line ≡ o → IfSome (option_map parts_sum o) (λ s. IsOrderedBy (order_sum (front ++ line)) s.behind)
+behind_ordered front line None found = tt
+behind_ordered front line (Some c) found =
+    let whole : front ++ line ≡ (front ++ c.before ++ c.item ∷ []) ++ c.behind = grind (arith, (is_cut is_space line c found).parts, append_assoc) in
+    rw whole (end_ordered (front ++ c.before ++ c.item ∷ []) c.behind)
+
+-- those of an open line are among those since the hard break
+pub open_ordered : (width : ℕ) (g : List Spot) → All IsPlacing g →
+    let line = after_last is_break (filled (Some width) g) in
+    let order = order_sum (after_last is_break g) in
+    IsOrderedBy order (line_sum line) × IfSome (split_sum line) (λ s. IsOrderedBy order s.behind)
+open_ordered width g placing =
+    let (front, is) = end_of width (length ((cut is_break g).open')) ((cut is_break g).open') in
+    let line = open_line width g in
+    let whole : after_last is_break g ≡ front ++ line = after_last_is is_break g ∙ is in
+    rw (open_line_is width g placing, whole) (end_ordered front line, behind_ordered front line (cut_at_last is_space line) refl)
 
 -- the order with one more character, which isn't before the others
 pub order_more : (line : List Spot) (s : Spot) (just : ℕ) (parts : Bool) → line_number s.at.line_just ≡ just → list_any (clashes s) line ≡ false → parts ≡ list_any (λ (t : Spot). nat_lt (line_number t.at.line_just) 5) line

@@ -1,13 +1,15 @@
 -- What is kept behind one more character, where lines are filled.
 use Rattle.multi_judge.proofs.Common.{◌≡◌, ℕ, ◌+◌, ◌*◌, ◌≤◌, Bool, true, false, ◌==◌, inl, inr, List, [], ◌∷◌, ◌++◌, length, Option, Some, None, refl, sym, ap, subst, ◌∙◌, arith, append-nil, rules, ◌^◌, ◌<◌, drop, map, slice_get, append_assoc, Result, Ok, Err, not, after_last, list_any, All, and_parts, cases_eq, eq-eqb, eqb-true, false≢true, cases_lt, ne_eqb, length-append, length-drop, All-push, All-nil, sum_by-append, page_number, LineFill, Words, Off, SizedCell, SignData, CellData, cell_in, cell_numbered, Spot, Standing, group_of, in_group, is_break, spots, standing, filled, area_fits, line_fits, laid_item, laid_items, Meaning, Shows, meaning, clashes, conflicts, first_code, offence, unsized_offence, present_area, in_group_other, own_group, are_laid, standing_push, present_area-placing, each_after_length, none_more, Token, IsTokenOf, cycle, ended_times, pages_of, SyntaxError, some_after, Area, Attributes, Split, Pass, Character, Order, Limits, Line, IsFilledFor, IsFilledOf, IsFilledReady, EndsLine, IsSplitBelow, order_sum, split_sum, IsLimited, IsReady, IsStateOf, IsUnfilledOf, attributes_of, IsJudged, IsBelow, IsCharacter, area_sum, State, ReadSoFar, IsCellPut, IsPassOf, drop_all, map-append, slice_get-get_or, spaces_is, Item, IsItem, spelling, spell, HasNoItem, IsReading, item_of, Accepted, IsCycle, IsVerdict, Refused, broken, of_first, item_refused, length-meanings, offences_push, one_verdict, IsPassReady, fill_of}
 use Rattle.multi_judge.proofs.Sums.{both_fit, group_behind, no_back, no_clash, present_push, shown_free, ready, split_more, judged-undefined}
+use Rattle.multi_judge.proofs.Common.{line_in_force, placing_group, line_sum, IsReady}
 use Rattle.std.proofs.lemmas.List.Concat.{flat_map-append}
 use Rattle.multi_token.proofs.ReadingLemmas.{none_found, spelling_some}
+use Rattle.multi_meaning.proofs.GroupLemmas.{in_area_placing}
 use Rattle.multi_meaning.specs.Times.{page_times}
 use Rattle.multi_meaning.specs.Verdict.{verdict_on}
 use Rattle.multi_meaning.specs.Codes.{code_of}
-use Rattle.multi_judge.proofs.FilledStateLemmas.{area_with, doesn't_fit, goes_behind, offends_by, offends_without, present_is, shown, filled_state, pages_at, same_times}
-use Rattle.multi_judge.proofs.FilledJudgedLemmas.{Fills, IsTagJudged, attributes_here, filled_grown, filled_size, found_here, shown_character, filled_of, filled_undefined}
+use Rattle.multi_judge.proofs.FilledStateLemmas.{area_with, doesn't_fit, goes_behind, offends_by, offends_without, present_is, shown, filled_state, pages_at, same_times, open_ordered}
+use Rattle.multi_judge.proofs.FilledJudgedLemmas.{Fills, IsTagJudged, attributes_here, filled_grown, filled_size, found_here, shown_character, filled_of, filled_undefined, group_laid}
 
 none_of_both : (a b : Bool) → first_code ((a, 11) ∷ (b, 5) ∷ []) ≡ None → (a ≡ false) × (b ≡ false)
 none_of_both true b e = cc
@@ -211,7 +213,14 @@ module _ (sign : SignData) (octets : List ℕ) (at : ℕ) (state : State) (r : R
 module _ (sign : SignData) (items : List Meaning) (kept : Pass) (of : IsFilledOf sign items kept) where
   -- what is kept of few items is small enough
   pub filled_ready : length items ≤ 2 ^ 32 → IsFilledReady kept
-  filled_ready few = search (rules, laid_count, ready, split_more)
+  filled_ready few =
+      let present = kept.state.area.present in
+      let line : line_in_force kept.state ≡ line_sum (after_last is_break (filled (Some (standing sign items).rectangle.width) (in_group present (present_area sign items)))) =
+      ap (λ (a : Area). a.group.line) of.state_is.area ∙ ap (λ (a : Area). line_sum (after_last is_break (in_group a.present (present_area sign (laid_items Words sign items items))))) (sym of.state_is.area) ∙ ap (λ l. line_sum (after_last is_break l)) (group_laid sign items present) in
+      let (own, behind) = open_ordered (standing sign items).rectangle.width (in_group present (present_area sign items)) (placing_group present (present_area sign items) (in_area_placing (standing sign items).area (spots sign items))) in
+      let small : IsReady kept.state = search (rules, laid_count, ready) in
+      let parts : IsSplitBelow (2 ^ 62) kept.split = search (rules, split_more) in
+      record { state = small; split = parts; line = rw (of.order_is, line) own; behind = rw (of.order_is, of.split_is) behind }
 
   -- it has their pages and times
   pub kept_pages : kept.state.pages ≡ pages_of items

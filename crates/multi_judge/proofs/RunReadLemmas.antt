@@ -159,7 +159,7 @@ split_one here gap width true line split = Some (record { before = line; font = 
 split_one here gap width false line split = option_map (with_run_behind here gap (gap + width) 1) split
 
 module _ (here : Attributes) (gap width : ℕ) (gap_is : gap ≡ unwrap_or here.spacing here.font.char_spacing) where
-  pub split_more : (space : Bool) (split : Option Split) → GoesOnBehind here split → (line : Line) (open' : List Spot) (s : Spot) → AllPass is_glyph open' → IsCharacter s (character_of here width) → is_space s ≡ space
+  pub split_more : (space : Bool) (split : Option Split) → GoesOnBehind here.line_just here.font split → (line : Line) (open' : List Spot) (s : Spot) → AllPass is_glyph open' → IsCharacter s (character_of here width) → is_space s ≡ space
       → list_any (clashes s) open' ≡ false → line ≡ line_sum open' → split ≡ split_sum open' → split_one here gap width space line split ≡ split_sum (open' ++ s ∷ [])
   split_more true split on line open' s glyphs is space apart e o = split_space open' s (character_of here width) is space line (line_sum []) e refl
   split_more false None on line open' s glyphs is space apart e o = split_none open' s space o
@@ -167,7 +167,7 @@ module _ (here : Attributes) (gap width : ℕ) (gap_is : gap ≡ unwrap_or here.
       split_word open' s (character_of here width) glyphs is space apart parts (with_run here gap (gap + width) 1 parts.behind) o (λ l t glyphs is e apart. line_more here width gap gap_is parts.behind on l t glyphs is e)
 
   -- a character behind it would have these attributes too
-  pub split_goes_on : (space : Bool) (line : Line) (split : Option Split) → GoesOnBehind here split → GoesOnBehind here (split_one here gap width space line split)
+  pub split_goes_on : (space : Bool) (line : Line) (split : Option Split) → GoesOnBehind here.line_just here.font split → GoesOnBehind here.line_just here.font (split_one here gap width space line split)
   split_goes_on true line split on = λ some. absurd (false≢true some)
   split_goes_on false line None on = tt
   split_goes_on false line (Some parts) on = λ some. by_any parts.behind.any refl

@@ -2,27 +2,33 @@
 use Rattle.std.specs.Prelude.{◌≡◌, ℕ, ◌+◌, ◌-◌, true, ◌==◌, nat_lt, [], Option, Some, if◌then◌else◌}
 use Rattle.std.specs.Option.{IfSome, option_map}
 use Rattle.multi_tag.specs.Just.{line_number}
+use Rattle.multi_tag.specs.declared.just.LineJust.{LineJust}
+use Rattle.sign_font.specs.declared.font.FontInfo.{FontInfo}
 use Rattle.multi_judge.specs.declared.attributes.Attributes.{Attributes}
 use Rattle.multi_judge.specs.declared.fill.Split.{Split}
 use Rattle.multi_judge.specs.declared.pass.Pass.{Pass}
 use Rattle.multi_judge.specs.declared.pass.Order.{Order}
 use Rattle.multi_judge.specs.declared.line.Line.{Line}
 use Rattle.multi_judge.specs.Sums.{line_sum}
-use Rattle.multi_judge.specs.Run.{IsBehindCharacter, IsBehindOne, lengthened, lengthened_line, line_in_force}
+use Rattle.multi_judge.specs.Run.{IsBehindCharacter, IsBehindOne, IsOpen, lengthened, lengthened_line, line_in_force}
 
 -- the order is that of characters of which the last has this line justification (own)
 abbrev pub IsOrderOf : ℕ → Order → Type 0
 IsOrderOf just order = (order.largest ≡ just) × (order.has_parts ≡ nat_lt just 5)
 
+-- a character with a line justification may stand on the line, and behind its last space (own)
+abbrev pub IsOpenAround : LineJust → Line → Option Split → Type 0
+IsOpenAround just line split = (line.any ≡ true → IsOpen just line) × IfSome split (λ s. s.behind.any ≡ true → IsOpen just s.behind)
+
 -- the characters behind the last space of the line, if there are some, end with one of these attributes (own)
-abbrev pub GoesOnBehind : Attributes → Option Split → Type 0
-GoesOnBehind here split = IfSome split (λ s. s.behind.any ≡ true → IsBehindOne here.line_just here.font s.behind)
+abbrev pub GoesOnBehind : LineJust → FontInfo → Option Split → Type 0
+GoesOnBehind just font split = IfSome split (λ s. s.behind.any ≡ true → IsBehindOne just font s.behind)
 
 -- the last character was put into the present area with the attributes in force, and so a character here only lengthens what is kept (own)
 pub record IsFilledRun (kept : Pass) : Type 0 where
   pub behind : IsBehindCharacter kept.state
   pub order : IsOrderOf (line_number kept.state.attributes.line_just) kept.order
-  pub split : GoesOnBehind kept.state.attributes kept.split
+  pub split : GoesOnBehind kept.state.attributes.line_just kept.state.attributes.font kept.split
 
 -- a line whose present segment has so many more pixels and characters (own)
 abbrev pub longer_line : ℕ → ℕ → Line → Line

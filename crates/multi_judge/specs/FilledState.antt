@@ -1,6 +1,7 @@
 -- What is kept of the items that were read, where lines are filled (own).
-use Rattle.std.specs.Prelude.{◌≡◌, Bool, true, false, ◌*◌, ◌^◌, List, length, Some}
+use Rattle.std.specs.Prelude.{◌≡◌, ◌≤◌, Bool, true, false, ◌*◌, ◌^◌, List, length, Some}
 use Rattle.std.specs.List.{after_last}
+use Rattle.std.specs.Option.{IfSome}
 use Rattle.multi_tag.specs.declared.tag.Tag.{Tag}
 use Rattle.multi_tag.specs.declared.tag.Tag.TheVariants.{NewPage, NewLine, Rect}
 use Rattle.sign_font.specs.declared.parts.LineFill.TheVariants.{Words}
@@ -11,7 +12,10 @@ use Rattle.multi_meaning.specs.kept.FillOpen.{AllOpenFit}
 use Rattle.multi_meaning.specs.Laid.{laid_items}
 use Rattle.multi_meaning.specs.Meaning.{Meaning}
 use Rattle.multi_meaning.specs.kept.Present.{present_area}
+use Rattle.multi_judge.specs.declared.line.Line.{Line}
+use Rattle.multi_judge.specs.declared.pass.Order.{Order}
 use Rattle.multi_judge.specs.declared.pass.Pass.{Pass}
+use Rattle.multi_judge.specs.Run.{line_in_force}
 use Rattle.multi_judge.specs.FillSums.{IsSplitBelow, order_sum, split_sum}
 use Rattle.multi_judge.specs.State.{AreaFits, IsLimited, IsReady, IsStateOf}
 
@@ -36,10 +40,16 @@ pub record IsFilledFor (sign : SignData) (kept : Pass) (items : List Meaning) : 
   pub words : sign.line_fill ≡ Words
   pub of : IsFilledOf sign items kept
 
--- it is small enough that no sum overflows (own)
+-- the justifications of a line's characters are among those that the order is judged by (own)
+abbrev pub IsOrderedBy : Order → Line → Type 0
+IsOrderedBy order line = (line.present ≤ order.largest) × (line.has_parts ≡ true → order.has_parts ≡ true)
+
+-- it is small enough that no sum overflows, and what clashes with the present line clashes with those that the order is judged by (own)
 pub record IsFilledReady (kept : Pass) : Type 0 where
   pub state : IsReady kept.state
   pub split : IsSplitBelow (2 ^ 62) kept.split
+  pub line : IsOrderedBy kept.order (line_in_force kept.state)
+  pub behind : IfSome kept.split (λ s. IsOrderedBy kept.order s.behind)
 
 -- a line begins behind what this tag says (NTCIP 1203 v03, MULTI tags 'nl', 'np' and 'tr')
 abbrev pub begins_line : Tag → Bool

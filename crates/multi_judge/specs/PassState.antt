@@ -6,7 +6,8 @@ use Rattle.sign_font.specs.Sign.{SignData}
 use Rattle.multi_meaning.specs.Meaning.{Meaning}
 use Rattle.multi_judge.specs.declared.pass.Pass.{Pass}
 use Rattle.multi_judge.specs.FilledState.{IsFilledFor, IsFilledReady}
-use Rattle.multi_judge.specs.Run.{IsBehindCharacter, is_within}
+use Rattle.multi_judge.specs.FilledRun.{IsFilledRun}
+use Rattle.multi_judge.specs.Run.{line_in_force, IsBehindCharacter, is_within}
 use Rattle.multi_judge.specs.State.{IsReady, IsUnfilledOf}
 
 -- whether lines are filled, as a sign says it (own)
@@ -24,7 +25,9 @@ abbrev pub IsPassReady : Bool → Pass → Type 0
 IsPassReady true pass = IsFilledReady pass
 IsPassReady false pass = IsReady pass.state
 
--- a pass over lines of this kind is behind a character, as far as it knows, and what is there is within its limits (own)
+-- a pass over lines of this kind is behind a character, unless that is a space that was dropped, and what is there is within its
+-- limits (own)
 pub record IsPassBehind (words : Bool) (pass : Pass) : Type 0 where
   pub within : is_within pass.state ≡ true
   pub behind : words ≡ false → IsBehindCharacter pass.state
+  pub filled : words ≡ true → (line_in_force pass.state).any ≡ true → IsFilledRun pass

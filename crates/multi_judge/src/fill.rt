@@ -1,7 +1,7 @@
 //! Lines that are filled by words: the open line is broken at its last space, which is dropped.
 
-ghost use Rattle.std.specs.Prelude.{◌≡◌, ℕ, ◌+◌, ◌^◌};
-ghost use Rattle.multi_judge.specs.Prelude.{FillsGroup, IsSplitBelow, IsMost, IsGroupBelow};
+ghost use Rattle.std.specs.Prelude.{◌≡◌, ℕ, ◌+◌, ◌^◌, true};
+ghost use Rattle.multi_judge.specs.Prelude.{FillsGroup, GoesOnBehind, IsBehindOne, IsOpenAround, IsSplitBelow, IsMost, IsGroupBelow};
 
 use crate::area::Group;
 use crate::line::{Character, Line, room_for};
@@ -34,9 +34,12 @@ impl Group {
     ) -> Option<Line>
         requires below { IsGroupBelow (2 ^ 62) self.old }
         requires parts { IsSplitBelow (2 ^ 62) split.old }
+        requires open { IsOpenAround character.now.just self.old.line split.old }
         ensures sum { IsMost width self.old.line most.old
             → FillsGroup width self.old split.old character.now space self.new split.new result }
         ensures most { IsMost width self.old.line most.old → IsMost width self.new.line most.new }
+        ensures behind { self.new.line.any ≡ true → IsBehindOne character.now.just character.now.font self.new.line }
+        ensures goes_on { GoesOnBehind character.now.just character.now.font split.new }
         ensures grows { (k : ℕ) → IsGroupBelow k self.old → IsSplitBelow k split.old
             → IsGroupBelow (k + 1024) self.new × IsSplitBelow (k + 1024) split.new }
     {

@@ -108,6 +108,7 @@ impl Line {
         requires below { IsLineBelow (2 ^ 62) self.old }
         ensures apart { (line : List Spot) (s : Spot) → AllPass is_glyph line → self.old ≡ line_sum line
             → s.at.line_just ≡ character.now.just → not result ≡ list_any (clashes s) line }
+        ensures open { (self.old.any ≡ true → IsOpen character.now.just self.old) → result ≡ true }
         ensures put { result ≡ true → PutsCharacter self.old character.now self.new }
         ensures grows { (k : ℕ) → IsLineBelow k self.old → IsLineBelow (k + 1024) self.new }
         ensures most { IsMost width self.old most.old → IsMost width self.new most.new }

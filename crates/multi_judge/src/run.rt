@@ -9,9 +9,8 @@ use crate::line::Line;
 use crate::pass::Pass;
 use crate::state::State;
 use crate::terms::Terms;
-use multi_tag::LineJust;
 use multi_token::{Run, Source};
-use sign_font::{FontCells, FontInfo};
+use sign_font::FontCells;
 
 impl State {
     /// The octets from an offset on that go on behind the last character in the font of these cells: none is a bracket nor, if they are
@@ -61,40 +60,7 @@ impl State {
     }
 }
 
-impl Line {
-    /// Whether the last character can have been one with this line justification and font.
-    pub(crate) fn is_behind_one(&self, just: LineJust, font: &FontInfo) -> bool
-        ensures { result ≡ true → IsBehindOne just font.now self.now }
-    {
-        let just = just.number();
-        (self.present == just)
-            & (self.has_parts == (just < 5))
-            & self.any
-            & (font.height <= self.height)
-            & (font.line_spacing <= self.spacing)
-            & (self.part.last == Some(font.char_spacing))
-    }
-}
-
 impl Pass {
-    /// Whether a character here has the attributes of the one before it, so that it only lengthens what is kept.
-    fn goes_on(&self) -> bool
-        ensures { result ≡ true → IsFilledRun self.now }
-    {
-        let (here, line) = (&self.state.attributes, &self.state.area.group.line);
-        let just = here.line_just.number();
-        self.state.area.present == here.page_just.number()
-            && self.order.largest == just
-            && self.order.has_parts == (just < 5)
-            && line.is_behind_one(here.line_just, &here.font)
-            && match &self.split {
-                Some(Split { behind, .. }) => {
-                    !behind.any || behind.is_behind_one(here.line_just, &here.font)
-                }
-                None => true,
-            }
-    }
-
     /// Adds so many characters of a word, of so many pixels with the gap before each: where nothing is behind the last space, the first one
     /// has none there.
     fn take(&mut self, gap: u8, pixels: u64, count: u64)
@@ -147,7 +113,7 @@ impl Pass {
 }
 
 /// Judges the characters behind one that only lengthen its line: the offset behind them, and the octet read there. It is a bracket, has no
-/// cell or doesn't fit, or is the end. Where lines are filled, a character there may also not have the attributes of the one before it.
+/// cell or doesn't fit, or is the end. Where lines are filled, it may also be behind a space that was dropped.
 #[inline(always)]
 pub fn judge_run<const WORDS: bool>(
     sign: &Terms<'_>,
@@ -166,7 +132,7 @@ pub fn judge_run<const WORDS: bool>(
     if !WORDS {
         return go_along(sign, cells, &mut pass.state, source, at);
     }
-    if !pass.goes_on() {
+    if !pass.state.area.group.line.any {
         return (at, source.read(at));
     }
     let gap = pass.state.attributes.gap();

@@ -35,10 +35,10 @@ returns-then-not-this-clause-at g c =
 pub loop-pass-init : goal.loop-pass-init
 loop-pass-init g c =
     let filled : not (g.row.WORDS == 0) ≡ true = search rules in
-    let goes : c.goes_on.result ≡ true = search rules in (
+    let some : c.args.pass.now.state.area.group.line.any ≡ true = search rules in (
       record {
         behind = subst (λ w. IsBehind c.args.sign.now c.args.source.now.octets c.args.at (IsPassOf w c.args.sign.now c.args.pass.now) c.args.source.now) filled c.requires.behind;
-        fits = c.goes_on.ensures goes;
+        fits = c.requires.character.filled filled some;
         within = c.requires.character.within;
         gap_is = c.gap-gap.ensures;
         widths = c.requires.cells;

@@ -1,4 +1,6 @@
-use Rattle.multi_judge.proofs.Lemmas.{◌≡◌, None, Some, after_last, filled, is_break, ◌+◌, sym, rules, ◌∙◌, subst, arith, le-leb, lt-leb, IsSplitBelow, Joins, breaks_there, drops_there, present_line, put_line, stands_there, stays_there, split_none, split_space, split_word, lined_below, split_more}
+use Rattle.multi_judge.proofs.Lemmas.{◌≡◌, true, IfSome, None, Some, after_last, filled, is_break, ◌+◌, sym, rules, ◌∙◌, subst, arith, le-leb, lt-leb, IsSplitBelow, Joins, breaks_there, drops_there, present_line, put_line, stands_there, stays_there, split_none, split_space, split_word, lined_below, split_more}
+use Rattle.multi_judge.proofs.Common.{Split}
+use Rattle.multi_judge.specs.Run.{IsOpen}
 use Rattle.multi_judge.proofs.FillGroupLemmas.{present_glyphs}
 use Rattle.multi_judge.proofs.area.Group.fill_character.Goals as goal
 
@@ -72,3 +74,9 @@ returns-in_err-parts-clause-sum c most group s placing is space fits apart e o =
 pub returns-in_err-parts-clause-grows : goal.returns-in_err-parts-clause-grows
 returns-in_err-parts-clause-grows c k below split =
     (lined_below k c.args.self.now c.put.new.self below (c.put.ensures.grows k below.line), split_more k (k + 1024) c.args.split.now (omega arith) split)
+
+pub returns-in_err-parts-clause-behind : goal.returns-in_err-parts-clause-behind
+returns-in_err-parts-clause-behind c = λ any. (c.put.ensures.put (c.put.ensures.open c.requires.open.0)).behind
+
+pub returns-clause-behind : goal.returns-clause-behind
+returns-clause-behind c = λ any. c.add-2.ensures.behind (subst (λ o. IfSome o (λ (s : Split). s.behind.any ≡ true → IsOpen c.args.character.now.just s.behind)) c.in_ok-parts.was c.requires.open.1)
