@@ -60,14 +60,13 @@ pub use Rattle.multi_judge.specs.PassState.{IsPassOf, IsPassReady, fill_of}
 pub use Rattle.multi_judge.specs.Passed.{IsCellPut, IsItemJudged, IsItemPassed, JudgesCell, PutsCell, next_group}
 pub use Rattle.multi_judge.specs.Run.{FitsBefore, gap_here, is_within, lengthened_line, kept_height, kept_width, IsBehindCharacter, kept_fits, IsRun, lengthened, lengthened_area, line_in_force, IsBehindOne}
 pub use Rattle.multi_judge.specs.State.{IsMost, group_room, segment_room, AreaFits, IsJudged, IsLimited, IsStateOf, attributes_of, IsReady, IsUnfilledOf, IsSimple, JudgesTag}
-pub use Rattle.multi_judge.specs.Sums.{group_sum, area_sum, area_sum_in, line_sum, IsBelow, IsGroupBelow, IsCharacter, IsBreak, IsLineBelow, segment_sum, width_before, height_before, ended_sum, IsSegmentBelow}
+pub use Rattle.multi_judge.specs.Sums.{Character, group_sum, area_sum, area_sum_in, line_sum, IsBelow, IsGroupBelow, IsCharacter, IsBreak, IsLineBelow, segment_sum, width_before, height_before, ended_sum, IsSegmentBelow}
 pub use Rattle.multi_judge.specs.Table.{counted_line, TableLines, split_lines, line_entry, table_of, column_in, IsOrdered, group_lines}
 pub use Rattle.multi_judge.specs.Text.{IsInText, TakesSpace}
 pub use Rattle.multi_judge.specs.declared.area.Area.{Area}
 pub use Rattle.multi_judge.specs.declared.area.Group.{Group}
 pub use Rattle.multi_judge.specs.declared.attributes.Attributes.{Attributes}
 pub use Rattle.multi_judge.specs.declared.fill.Split.{Split}
-pub use Rattle.multi_judge.specs.declared.line.Character.{Character}
 pub use Rattle.multi_judge.specs.declared.line.Line.{Line}
 pub use Rattle.multi_judge.specs.declared.line.Segment.{Segment}
 pub use Rattle.multi_judge.specs.declared.pass.Order.{Order}

@@ -7,12 +7,11 @@ use Rattle.multi_meaning.specs.Offence.{clashes}
 use Rattle.multi_meaning.specs.kept.Present.{IsPlacing}
 use Rattle.multi_judge.specs.declared.area.Area.{Area}
 use Rattle.multi_judge.specs.declared.attributes.Attributes.{Attributes}
-use Rattle.multi_judge.specs.declared.line.Character.{Character}
 use Rattle.multi_judge.specs.declared.line.Line.{Line}
 use Rattle.multi_judge.specs.declared.state.State.{State}
 use Rattle.multi_judge.specs.Run.{IsBehindOne}
 use Rattle.multi_judge.specs.State.{IsLimited, group_room}
-use Rattle.multi_judge.specs.Sums.{IsBelow, IsBreak, IsCharacter, IsGroupBelow, area_sum, area_sum_in, line_sum}
+use Rattle.multi_judge.specs.Sums.{Character, IsBelow, IsBreak, IsCharacter, IsGroupBelow, area_sum, area_sum_in, line_sum}
 
 -- a line has the present segment of another, and the same segments before it (own)
 pub record IsSameBefore (old new : Line) : Type 0 where

@@ -13,10 +13,9 @@ use Rattle.multi_meaning.specs.kept.Present.{IsPlacing, ended_lines}
 use Rattle.multi_judge.specs.declared.area.Group.{Group}
 use Rattle.multi_judge.specs.declared.fill.Split.{Split}
 use Rattle.multi_judge.specs.declared.pass.Order.{Order}
-use Rattle.multi_judge.specs.declared.line.Character.{Character}
 use Rattle.multi_judge.specs.declared.line.Line.{Line}
 use Rattle.multi_judge.specs.Run.{FitsBefore}
-use Rattle.multi_judge.specs.Sums.{IsCharacter, IsLineBelow, group_sum, line_sum}
+use Rattle.multi_judge.specs.Sums.{Character, IsCharacter, IsLineBelow, group_sum, line_sum}
 
 -- the sums around a space of a line: of the characters before it, its font, and of those behind it (own)
 abbrev pub parts_sum : CutAt Spot → Split

@@ -9,7 +9,7 @@ use Rattle.multi_meaning.specs.Address.{Spot, Break, is_glyph, is_break, segment
 use Rattle.multi_meaning.specs.Line.{line_height, line_spacing, given_gap, glyph_width, width_of, height_of}
 use Rattle.multi_meaning.specs.Words.{largest}
 use Rattle.multi_meaning.specs.kept.Present.{ended_lines}
-use Rattle.multi_judge.specs.declared.line.Character.{Character}
+use Rattle.multi_tag.specs.declared.just.LineJust.{LineJust}
 use Rattle.multi_judge.specs.declared.line.Segment.{Segment}
 use Rattle.multi_judge.specs.declared.line.Line.{Line}
 use Rattle.multi_judge.specs.declared.area.Ended.{Ended}
@@ -76,6 +76,13 @@ area_sum_in present area = record {
 -- the sums of an area, whose present group is that with the largest page justification of its items (own)
 abbrev pub area_sum : List Spot → Area
 area_sum area = area_sum_in (largest (λ t. page_number t.at.page_just) area) area
+
+-- a character, as its line sees it: what is in force for it, and the columns of its cell (own)
+pub record Character : Type 0 where
+  pub just : LineJust
+  pub spacing : Option ℕ
+  pub width : ℕ
+  pub font : FontInfo
 
 -- these are the numbers of a character that its line is judged by (own)
 pub record IsCharacter (s : Spot) (character : Character) : Type 0 where

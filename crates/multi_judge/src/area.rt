@@ -3,6 +3,7 @@
 ghost use Rattle.std.specs.Prelude.{◌≡◌, ◌≢◌, ℕ, ◌+◌, ◌^◌, ◌<◌, ◌≤◌, ◌&&◌, true, false, List, [], ◌∷◌, ◌++◌};
 ghost use Rattle.multi_judge.specs.Prelude.{All, page_number, Spot, in_group, lines_of, height_of, IsPlacing, ReachesGroup, kept_height, group_sum, area_sum, IsBreak, IsGroupBelow, IsBelow};
 
+use crate::attributes::Attributes;
 use crate::line::{Line, gap_or_average, room_for};
 use multi_tag::PageJust;
 use sign_font::FontInfo;
@@ -88,14 +89,14 @@ impl Group {
 }
 
 impl Area {
-    /// Goes on to the group with a page justification, unless it is before that of the present one, and works out the most that the group
-    /// may have then within a height in pixels. The answer is whether it isn't before.
+    /// Goes on to the group in force, unless it is before the present one, and works out the most that it may have then in its rectangle.
+    /// The answer is whether it isn't before.
     #[inline(always)]
-    pub(crate) fn reach(&mut self, page_just: PageJust, height: u16, most: &mut u64) -> bool
+    pub(crate) fn reach(&mut self, here: &Attributes, most: &mut u64) -> bool
         requires below { IsBelow (2 ^ 62) self.old }
-        ensures reached { ReachesGroup (page_number page_just) height self.old most.old result self.new most.new }
+        ensures reached { ReachesGroup (page_number here.now.page_just) here.now.rectangle.height self.old most.old result self.new most.new }
     {
-        let page_just = page_just.number();
+        let page_just = here.page_just.number();
         if page_just <= self.present {
             return page_just == self.present;
         }
@@ -108,7 +109,7 @@ impl Area {
             self.group = Group::default();
         }
         self.present = page_just;
-        *most = room_for(self.present, self.top, self.middle, height);
+        *most = room_for(self.present, self.top, self.middle, here.rectangle.height);
         true
     }
 

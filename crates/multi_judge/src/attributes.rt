@@ -1,9 +1,8 @@
 //! The attributes in force.
 
 ghost use Rattle.std.specs.Prelude.{◌≡◌};
-ghost use Rattle.multi_judge.specs.Prelude.{unwrap_or, Standing, whole_sign, Does, standing_behind, character_of, IsSimple, attributes_of};
+ghost use Rattle.multi_judge.specs.Prelude.{unwrap_or, Standing, whole_sign, Does, standing_behind, IsSimple, attributes_of};
 
-use crate::line::Character;
 use crate::terms::Terms;
 use multi_meaning::{FlashTimes, Rectangle};
 use multi_tag::{LineJust, PageJust, Tag};
@@ -40,18 +39,6 @@ pub(crate) fn whole_sign(sign: &Terms<'_>) -> Rectangle
 }
 
 impl Attributes {
-    /// A character of this width in pixels, as its line sees it.
-    pub(crate) fn character(&self, width: u8) -> Character
-        ensures { result ≡ character_of self.now width }
-    {
-        Character {
-            just: self.line_just,
-            spacing: self.spacing,
-            width,
-            font: self.font,
-        }
-    }
-
     /// The pixels between two characters with these attributes.
     pub fn gap(&self) -> u8
         ensures { result ≡ unwrap_or self.now.spacing self.now.font.char_spacing }

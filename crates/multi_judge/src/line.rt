@@ -1,23 +1,9 @@
 //! The running sums of a line's characters.
 
 ghost use Rattle.std.specs.Prelude.{◌≡◌, ℕ, ◌+◌, ◌^◌, ◌<◌, ◌≤◌, true, false, not, Some, List, [], ◌∷◌, ◌++◌};
-ghost use Rattle.multi_judge.specs.Prelude.{AllPass, list_any, unwrap_or, line_number, Spot, is_glyph, room_for, average, clashes, IsSameBefore, PutsCharacter, IsBehindOne, IsOpen, kept_width, IsMost, line_sum, IsCharacter, IsLineBelow};
+ghost use Rattle.multi_judge.specs.Prelude.{AllPass, list_any, unwrap_or, line_number, Spot, is_glyph, room_for, average, clashes, IsSameBefore, PutsCharacter, IsBehindOne, IsOpen, kept_width, IsMost, line_sum, IsCharacter, IsLineBelow, character_of};
 
-use multi_tag::LineJust;
-use sign_font::FontInfo;
-
-/// A character, as its line sees it.
-#[derive(Clone, Copy)]
-pub(crate) struct Character {
-    /// The line justification in force.
-    pub(crate) just: LineJust,
-    /// The character spacing in force, in pixels, if a tag gave one.
-    pub(crate) spacing: Option<u8>,
-    /// The columns of its cell.
-    pub(crate) width: u8,
-    /// Its font.
-    pub(crate) font: FontInfo,
-}
+use crate::attributes::Attributes;
 
 /// The characters of a line with one line justification.
 #[derive(Clone, Copy, Default)]
@@ -53,28 +39,29 @@ pub struct Line {
 }
 
 impl Line {
-    /// Adds a character, whose line justification isn't before that of an earlier one.
+    /// Adds a character with these attributes, whose cell has this width in pixels and whose line justification isn't before that of an
+    /// earlier one.
     #[inline(always)]
-    pub(crate) fn add(&mut self, character: &Character)
+    pub(crate) fn add(&mut self, here: &Attributes, cell_width: u8)
         requires below { IsLineBelow (2 ^ 62) self.old }
-        ensures sum { (line : List Spot) (s : Spot) → AllPass is_glyph line → IsCharacter s character.now → self.old ≡ line_sum line
+        ensures sum { (line : List Spot) (s : Spot) → AllPass is_glyph line → IsCharacter s (character_of here.now cell_width) → self.old ≡ line_sum line
             → list_any (clashes s) line ≡ false → self.new ≡ line_sum (line ++ s ∷ []) }
         ensures grows { (k : ℕ) → IsLineBelow k self.old → IsLineBelow (k + 1024) self.new }
-        ensures behind { (self.old.any ≡ true → IsOpen character.now.just self.old)
-            → IsBehindOne character.now.just character.now.font self.new }
+        ensures behind { (self.old.any ≡ true → IsOpen here.now.line_just self.old)
+            → IsBehindOne here.now.line_just here.now.font self.new }
         ensures before { self.old.any ≡ false → (self.new.left ≡ 0) × (self.new.centre ≡ 0) }
-        ensures same { self.old.any ≡ true → line_number character.now.just ≡ self.old.present → IsSameBefore self.old self.new }
+        ensures same { self.old.any ≡ true → line_number here.now.line_just ≡ self.old.present → IsSameBefore self.old self.new }
     {
-        let just = character.just.number();
-        let spacing = character.font.char_spacing;
+        let just = here.line_just.number();
+        let spacing = here.font.char_spacing;
         if !self.any {
             (self.present, self.left, self.centre) = (just, 0, 0);
-            self.part.width = u64::from(character.width);
+            self.part.width = u64::from(cell_width);
             self.part.count = 1;
             self.part.last = Some(spacing);
             self.has_parts = just < 5;
-            self.height = character.font.height;
-            self.spacing = character.font.line_spacing;
+            self.height = here.font.height;
+            self.spacing = here.font.line_spacing;
             self.any = true;
             return;
         }
@@ -90,43 +77,43 @@ impl Line {
             }
         }
         let gap = match self.part.last {
-            Some(earlier) => gap_or_average(character.spacing, earlier, spacing),
+            Some(earlier) => gap_or_average(here.spacing, earlier, spacing),
             None => 0,
         };
-        self.part.width += u64::from(gap) + u64::from(character.width);
+        self.part.width += u64::from(gap) + u64::from(cell_width);
         self.part.count += 1;
         self.part.last = Some(spacing);
         self.has_parts |= just < 5;
-        self.height = self.height.max(character.font.height);
-        self.spacing = self.spacing.max(character.font.line_spacing);
+        self.height = self.height.max(here.font.height);
+        self.spacing = self.spacing.max(here.font.line_spacing);
     }
 
-    /// Puts a character on the line, which has this width in pixels, and works out the most that the present segment may have then. If
-    /// it clashes, nothing changes, and the answer is false.
+    /// Puts a character with these attributes, whose cell has this width in pixels, on the line, and works out the most that the present
+    /// segment may have then. If it clashes, nothing changes, and the answer is false.
     #[inline(always)]
-    pub(crate) fn put(&mut self, character: &Character, width: u16, most: &mut u64) -> bool
+    pub(crate) fn put(&mut self, here: &Attributes, cell_width: u8, most: &mut u64) -> bool
         requires below { IsLineBelow (2 ^ 62) self.old }
         ensures apart { (line : List Spot) (s : Spot) → AllPass is_glyph line → self.old ≡ line_sum line
-            → s.at.line_just ≡ character.now.just → not result ≡ list_any (clashes s) line }
-        ensures open { (self.old.any ≡ true → IsOpen character.now.just self.old) → result ≡ true }
-        ensures put { result ≡ true → PutsCharacter self.old character.now self.new }
+            → s.at.line_just ≡ here.now.line_just → not result ≡ list_any (clashes s) line }
+        ensures open { (self.old.any ≡ true → IsOpen here.now.line_just self.old) → result ≡ true }
+        ensures put { result ≡ true → PutsCharacter self.old (character_of here.now cell_width) self.new }
         ensures grows { (k : ℕ) → IsLineBelow k self.old → IsLineBelow (k + 1024) self.new }
-        ensures most { IsMost width self.old most.old → IsMost width self.new most.new }
+        ensures most { IsMost here.now.rectangle.width self.old most.old → IsMost here.now.rectangle.width self.new most.new }
     {
         if !self.any {
-            self.add(character);
-            *most = u64::from(width);
+            self.add(here, cell_width);
+            *most = u64::from(here.rectangle.width);
             return true;
         }
-        let just = character.just.number();
+        let just = here.line_just.number();
         // its segment is before that of an earlier one, or one of them is full and the other isn't
         if (just < self.present) | ((just == 5) & self.has_parts) {
             return false;
         }
         let stays = just == self.present;
-        self.add(character);
+        self.add(here, cell_width);
         if !stays {
-            *most = room_for(self.present, self.left, self.centre, width);
+            *most = room_for(self.present, self.left, self.centre, here.rectangle.width);
         }
         true
     }

@@ -9,7 +9,7 @@ use crate::judge::judge_tag;
 use crate::line::Line;
 use crate::state::State;
 use crate::terms::Terms;
-use multi_meaning::{Rectangle, SyntaxError};
+use multi_meaning::SyntaxError;
 use multi_tag::Tag;
 use multi_token::Source;
 use sign_font::FontCells;
@@ -150,7 +150,7 @@ impl Pass {
         ensures same { self.new.state.attributes ≡ self.old.state.attributes }
     {
         let Pass { state, split, .. } = self;
-        let here = state.attributes;
+        let here = &state.attributes;
         let (page, present) = (here.page_just.number(), state.area.present);
         let just = here.line_just.number();
         // as `Line::put` has it, but of the characters before a soft break too
@@ -165,11 +165,8 @@ impl Pass {
         if page > present {
             *split = None;
         }
-        let Rectangle { width, height, .. } = here.rectangle;
-        let character = here.character(cell_width);
-        let limits = &mut state.limits;
-        state.area.reach(here.page_just, height, &mut limits.height);
-        let group = &mut state.area.group;
-        Ok(group.fill_character(split, width, &mut limits.width, &character, number == 32))
+        state.area.reach(here, &mut state.limits.height);
+        let (group, most) = (&mut state.area.group, &mut state.limits.width);
+        Ok(group.fill_character(here, cell_width, number == 32, split, most))
     }
 }

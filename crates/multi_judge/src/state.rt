@@ -6,7 +6,6 @@ ghost use Rattle.multi_judge.specs.Prelude.{IsSound, Spot, area_of, is_glyph, co
 use crate::area::Area;
 use crate::attributes::{Attributes, whole_sign};
 use crate::terms::Terms;
-use multi_meaning::Rectangle;
 
 /// The running state behind some items of a string.
 #[derive(Clone, Copy)]
@@ -67,16 +66,14 @@ impl State {
         ensures added { result ≡ true → AddsCharacter self.old cell_width self.new }
         ensures limited { IsLimited self.old → IsLimited self.new }
     {
-        let Rectangle { width, height, .. } = self.attributes.rectangle;
-        let page_just = self.attributes.page_just;
-        if !self.area.reach(page_just, height, &mut self.limits.height) {
+        let (here, limits) = (&self.attributes, &mut self.limits);
+        if !self.area.reach(here, &mut limits.height) {
             return false;
         }
-        let character = self.attributes.character(cell_width);
         self.area
             .group
             .line
-            .put(&character, width, &mut self.limits.width)
+            .put(here, cell_width, &mut limits.width)
     }
 
     /// Puts an `nl` with the gap that it gives, if it doesn't conflict with the items before it: whether it doesn't.
@@ -88,12 +85,11 @@ impl State {
         ensures added { result ≡ true → AddsBreak self.old gap self.new }
         ensures limited { IsLimited self.old → IsLimited self.new }
     {
-        let height = self.attributes.rectangle.height;
-        let page_just = self.attributes.page_just;
-        if !self.area.reach(page_just, height, &mut self.limits.height) {
+        let here = &self.attributes;
+        if !self.area.reach(here, &mut self.limits.height) {
             return false;
         }
-        self.area.group.add_break(gap, &self.attributes.font);
+        self.area.group.add_break(gap, &here.font);
         true
     }
 

@@ -15,7 +15,7 @@ pub returns : goal.returns
 returns c =
     let area = c.args.self.now in
     let new = c.if-self-gt0.self in
-    let page = page_number c.args.page_just in
+    let page = page_number c.args.here.now.page_just in
     let is_page = c.number-page_just.ensures.number in
     let below = c.requires.below in
     let later : area.present < page = omega (arith, c.if-page_just-self.false, is_page) in

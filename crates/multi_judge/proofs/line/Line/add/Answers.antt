@@ -1,4 +1,4 @@
-use Rattle.multi_judge.proofs.Lemmas.{◌≡◌, ◌<◌, [], rules, nat_tests, option_map_or, unwrap_or, average, ◌≤◌, ◌||◌, max, ap, ◌∙◌, refl, arith, nat_lt, line_number, segment_sum, kept_width, in_order, segment_own, line_with, no_character, turned}
+use Rattle.multi_judge.proofs.Lemmas.{character_of, ◌≡◌, ◌<◌, [], rules, nat_tests, option_map_or, unwrap_or, average, ◌≤◌, ◌||◌, max, ap, ◌∙◌, refl, arith, nat_lt, line_number, segment_sum, kept_width, in_order, segment_own, line_with, no_character, turned}
 use Rattle.multi_judge.proofs.line.Line.add.Goals as goal
 use Rattle.multi_judge.proofs.line.Line.add.Goals.{in-Some, in-None, then-just-self+in-2, then-just-self+in-3, then-just-self+in-4, then-just-self+in_default, else-just-self}
 
@@ -11,7 +11,7 @@ pub returns-clause-sum : goal.returns-clause-sum
 returns-clause-sum c line s glyphs is e none =
     let old = c.args.self.now in
     let now = c.if-just-self.self in
-    let new = c.args.character.now in
+    let new = character_of c.args.here.now c.args.cell_width in
     let is_just = c.number-just.ensures.number in
     let just = line_number new.just in
     let order : old.present ≤ just = let o = in_order line s old e none in omega (arith, o, ap line_number is.just) in

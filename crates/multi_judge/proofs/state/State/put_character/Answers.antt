@@ -13,7 +13,7 @@ returns-clause-conflicts c before s e g page just =
     let here = page_number c.args.self.now.attributes.page_just in
     let placing = area_placing before s in
     let on = (c.reach.ensures.reached.goes c.if-not-reach.false).sum (area_of s before) placing e in
-    c.put.ensures.apart (after_last is_break (in_group here (area_of s before))) s (present_glyphs here (area_of s before) placing) (ap (λ (a : Area). a.group.line) on) (just ∙ sym (ap (λ (k : Character). k.just) c.character-character.ensures))
+    c.put.ensures.apart (after_last is_break (in_group here (area_of s before))) s (present_glyphs here (area_of s before) placing) (ap (λ (a : Area). a.group.line) on) just
     ∙ sym (reached_conflicts c.reach.ensures.reached (page_number_known c.args.self.now.attributes.page_just) before s e (ap page_number page) ∙ rw (c.if-not-reach.false, g) refl)
 
 pub returns-clause-limited : goal.returns-clause-limited
@@ -31,8 +31,7 @@ returns-clause-added c = λ is.
     let state = c.args.self.now in
     let here = page_number state.attributes.page_just in
     let goes = c.reach.ensures.reached.goes c.if-not-reach.false in
-    let put : PutsCharacter c.reach.new.self.group.line (character_of state.attributes c.args.cell_width) c.put.new.self =
-    subst (λ k. PutsCharacter c.reach.new.self.group.line k c.put.new.self) c.character-character.ensures (c.put.ensures.put is) in
+    let put : PutsCharacter c.reach.new.self.group.line (character_of state.attributes c.args.cell_width) c.put.new.self = c.put.ensures.put is in
     record {
       sum = λ area s placing e own page order apart.
           let on = goes.sum area placing e in
