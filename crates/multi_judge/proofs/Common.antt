@@ -52,7 +52,7 @@ pub use Rattle.sign_font.specs.declared.font.FontInfo.{FontInfo}
 pub use Rattle.sign_font.specs.declared.parts.LineFill.{LineFill}
 pub use Rattle.sign_font.specs.declared.parts.LineFill.TheVariants.{Off, Words}
 pub use Rattle.multi_judge.specs.Adding.{PutsCharacter, AddsCharacter, character_of, AddsBreak, ReachesGroup}
-pub use Rattle.multi_judge.specs.FillSums.{split_sum, EndsLine, order_sum, IsSplitBelow, FillsGroup, parts_sum}
+pub use Rattle.multi_judge.specs.FillSums.{Order, order_of, split_sum, EndsLine, order_sum, IsSplitBelow, FillsGroup, parts_sum}
 pub use Rattle.multi_judge.specs.FilledRun.{IsFilledRun, even_line, longer_line, with_run, with_run_behind, with_word, with_space, GoesOnBehind}
 pub use Rattle.multi_judge.specs.FilledState.{IsFilledOf, begins_line, IsFilledFor, IsFilledReady}
 pub use Rattle.multi_judge.specs.Judging.{ReadSoFar, IsAt, IsBehind}
@@ -69,7 +69,6 @@ pub use Rattle.multi_judge.specs.declared.attributes.Attributes.{Attributes}
 pub use Rattle.multi_judge.specs.declared.fill.Split.{Split}
 pub use Rattle.multi_judge.specs.declared.line.Line.{Line}
 pub use Rattle.multi_judge.specs.declared.line.Segment.{Segment}
-pub use Rattle.multi_judge.specs.declared.pass.Order.{Order}
 pub use Rattle.multi_judge.specs.declared.pass.Pass.{Pass}
 pub use Rattle.multi_judge.specs.declared.state.Limits.{Limits}
 pub use Rattle.multi_judge.specs.declared.state.State.{State}

@@ -1,5 +1,5 @@
 -- What is kept behind one more tag, where lines are filled.
-use Rattle.multi_judge.proofs.Common.{nat_lt, ◌≡◌, ℕ, ◌*◌, ◌≤◌, true, false, List, [], ◌∷◌, ◌++◌, length, Option, Some, None, Result, Ok, Err, refl, sym, ap, subst, ◌∙◌, arith, append-nil, ◌&&◌, rules, Bool, cond, not, ◌||◌, ◌==◌, after_last, list_any, cases_eq, le-leb, length-append, Tag, NewPage, NewLine, Rect, page_number, LineFill, Off, Words, SignData, CellData, cell_in, cell_numbered, SyntaxError, Break, Spot, Standing, in_area, in_group, is_break, spots, standing, Glyph, area_of, group_of, filled, is_space, line_fits, area_fits, too_big, laid_items, Meaning, Does, Shows, conflicts, offence, clashes, first_code, never_big, unsized_offence, present_area, largest, in_group_other, own_group, placing_group, area_placing, nothing_fits, largest_laid, are_laid, offence-break, no_conflict, standing_push, present_area-new, present_area-placing, offence-character, largest_push, SizedCell, page_number_known, area_sum, IsBelow, IsCharacter, line_sum, Area, Pass, State, IsFilledOf, begins_line, order_sum, split_sum, IsSplitBelow, EndsLine, AreaFits, IsJudged, IsPassOf, IsFilledOn, IsPlacing, All, IsLimited, IsStateOf, attributes_of, Split, Character, Line, Attributes, is_within, FitsBefore, Limits, filled_break, offends_as_laid, laid_tag, fits_next, after_last_push}
+use Rattle.multi_judge.proofs.Common.{order_of, inl, inr, nat_lt, ◌≡◌, ℕ, ◌*◌, ◌≤◌, true, false, List, [], ◌∷◌, ◌++◌, length, Option, Some, None, Result, Ok, Err, refl, sym, ap, subst, ◌∙◌, arith, append-nil, ◌&&◌, rules, Bool, cond, not, ◌||◌, ◌==◌, after_last, list_any, cases_eq, le-leb, length-append, Tag, NewPage, NewLine, Rect, page_number, LineFill, Off, Words, SignData, CellData, cell_in, cell_numbered, SyntaxError, Break, Spot, Standing, in_area, in_group, is_break, spots, standing, Glyph, area_of, group_of, filled, is_space, line_fits, area_fits, too_big, laid_items, Meaning, Does, Shows, conflicts, offence, clashes, first_code, never_big, unsized_offence, present_area, largest, in_group_other, own_group, placing_group, area_placing, nothing_fits, largest_laid, are_laid, offence-break, no_conflict, standing_push, present_area-new, present_area-placing, offence-character, largest_push, SizedCell, page_number_known, area_sum, IsBelow, IsCharacter, line_sum, Area, Pass, State, IsFilledOf, begins_line, order_sum, split_sum, IsSplitBelow, EndsLine, AreaFits, IsJudged, IsPassOf, IsFilledOn, IsPlacing, All, IsLimited, IsStateOf, attributes_of, Split, Character, Line, Attributes, is_within, FitsBefore, Limits, filled_break, offends_as_laid, laid_tag, fits_next, after_last_push}
 use Rattle.multi_judge.proofs.Sums.{area_stays, split_more, cell_found, cell_missing, no_back, empty_area, both_fit, no_clash, present_glyphs}
 use Rattle.multi_meaning.specs.Codes.{code_of}
 use Rattle.multi_meaning.proofs.LaidItemLemmas.{groups_laid, same_fill}
@@ -28,7 +28,7 @@ no_height height = ap (λ b. b && true) (le-leb 0 height (omega arith))
 
 -- what is kept where an area begins
 pub filled_start : (sign : SignData) (items : List Meaning) (state : State) → IsStateOf sign (laid_items Words sign items items) state → present_area sign items ≡ []
-    → IsFilledOf sign items (record { state = state; split = None; order = order_sum [] })
+    → IsFilledOf sign items (record { state = state; split = None; order = 0 })
 filled_start sign items state st none =
     let width = (standing sign items).rectangle.width in
     let laid = laid_items Words sign items items in
@@ -49,9 +49,22 @@ pub filled_of : (sign : SignData) (items more : List Meaning) (old new : Pass) �
     → AreaFits sign (laid_items Words sign more more) → IsSplitBelow (1024 * length more) new.split → (standing sign more).rectangle.width ≡ (standing sign items).rectangle.width
     → (page : ℕ) → new.state.area.present ≡ page → ((j : ℕ) → (page ≡ j → ⊥) → in_group j (present_area sign more) ≡ in_group j (present_area sign items))
     → (group : List Spot) → in_group page (present_area sign more) ≡ group → new.split ≡ split_sum (after_last is_break (filled (Some (standing sign items).rectangle.width) group))
-    → new.order ≡ order_sum (after_last is_break group) → line_fits (standing sign items).rectangle.width (after_last is_break (filled (Some (standing sign items).rectangle.width) group)) ≡ true → IsFilledOf sign more new
-filled_of sign items more old new of st limited area_fits below width page present others group own split order fits =
-    grind (arith, cases_eq)
+    → order_of new.order ≡ order_sum (after_last is_break group) → line_fits (standing sign items).rectangle.width (after_last is_break (filled (Some (standing sign items).rectangle.width) group)) ≡ true → IsFilledOf sign more new
+filled_of sign items more old new of st limited high below width page present others group own split order fits =
+    let here : group ≡ in_group new.state.area.present (present_area sign more) = sym (ap (λ j. in_group j (present_area sign more)) present ∙ own) in
+    let all : AllOpenFit (Some (standing sign more).rectangle.width) (present_area sign more) = λ just. elim (cases_eq page just) [
+      | inl same ↦ (λ i. line_fits (width i) (after_last is_break (filled (Some (width i)) ((ap (λ j. in_group j (present_area sign more)) (sym same) ∙ own) i)))) ∙ fits
+      | inr differ ↦ (λ i. line_fits (width i) (after_last is_break (filled (Some (width i)) (others just differ i)))) ∙ of.fits just
+    ] in
+    record {
+      state_is = st;
+      split_is = split ∙ (λ i. split_sum (after_last is_break (filled (Some (sym width i)) (here i))));
+      order_is = order ∙ ap (λ g. order_sum (after_last is_break g)) here;
+      split_below = below;
+      limited = limited;
+      area_fits = high;
+      fits = all;
+    }
 
 module _ (sign : SignData) (items : List Meaning) (kept : Pass) (of : IsFilledOf sign items kept) (tag : Tag) (state : State)
     (st : IsStateOf sign (laid_items Words sign items items ++ Does tag ∷ []) state) (limited : IsLimited state) (fine : offence Off sign (laid_items Words sign items items) (Does tag) ≡ None) where
@@ -115,14 +128,14 @@ module _ (sign : SignData) (items : List Meaning) (kept : Pass) (of : IsFilledOf
   own = ap (in_group (page_number nl.at.page_just)) area_is ∙ own_group (page_number nl.at.page_just) (present_area sign items) nl refl
 
   -- nothing stands on the line behind it
-  ends : IsFilledOf sign behind (record { state = state; split = None; order = order_sum [] })
+  ends : IsFilledOf sign behind (record { state = state; split = None; order = 0 })
   ends =
       let page = page_number nl.at.page_just in
       let group = in_group page (present_area sign items) in
       let w = nl.at.rectangle.width in
       let hard = after_last_push is_break group nl in
       let soft = ap (after_last is_break) (filled_break w group nl (placing_group page (present_area sign items) (area_placing (spots sign items) nl)) refl) ∙ after_last_push is_break (filled (Some w) group) nl in
-      filled_of sign items behind kept (record { state = state; split = None; order = order_sum [] }) of (laid_state sign items kept of (NewLine gap) state st limited fine) limited
+      filled_of sign items behind kept (record { state = state; split = None; order = 0 }) of (laid_state sign items kept of (NewLine gap) state st limited fine) limited
       (still_fits sign items kept of (NewLine gap) state st limited fine) tt width page present
       (λ j differ. ap (in_group j) area_is ∙ in_group_other j (present_area sign items) nl differ) (group ++ nl ∷ []) own
       (sym (ap split_sum soft)) (sym (ap order_sum hard)) (ap (line_fits w) soft ∙ nothing_fits w)
@@ -149,18 +162,18 @@ module _ (sign : SignData) (items : List Meaning) (kept : Pass) (of : IsFilledOf
   judged-stays words tag (Ok done) state e limited j = (as_laid words tag ∙ j.0, record { words = words; of = stays sign items kept of tag state j.1 limited j.0 (area_stays sign items tag e) (width_stays tag e) })
 
   begins : (tag : Tag) (state : State) → IsStateOf sign (laid ++ Does tag ∷ []) state → present_area sign (items ++ Does tag ∷ []) ≡ []
-      → IsFilledOf sign (items ++ Does tag ∷ []) (record { state = state; split = None; order = order_sum [] })
+      → IsFilledOf sign (items ++ Does tag ∷ []) (record { state = state; split = None; order = 0 })
   begins tag state st none = filled_start sign (items ++ Does tag ∷ []) state (subst (λ l. IsStateOf sign l state) (sym (laid_tag Words sign items tag)) st) none
 
   begins_of : (tag : Tag) (state : State) → begins_line tag ≡ true → IsLimited state → offence Off sign laid (Does tag) ≡ None → IsStateOf sign (laid ++ Does tag ∷ []) state
-      → IsFilledOf sign (items ++ Does tag ∷ []) (record { state = state; split = None; order = order_sum [] })
+      → IsFilledOf sign (items ++ Does tag ∷ []) (record { state = state; split = None; order = 0 })
   begins_of NewPage state e limited fine st = begins NewPage state st (present_area-new sign items (Does NewPage) refl)
   begins_of (NewLine gap) state e limited fine st = ends sign items kept of gap fine state st limited
   begins_of (Rect x y w h) state e limited fine st = begins (Rect x y w h) state st (present_area-new sign items (Does (Rect x y w h)) refl)
   begins_of tag state e limited fine st = cc
 
   pub judged-begins : sign.line_fill ≡ Words → (tag : Tag) (result : Result (Unit {0}) SyntaxError) (state : State) → begins_line tag ≡ true → IsLimited state → IsJudged sign laid (Does tag) result state
-      → IsTagJudged true sign items (Does tag) result (record { state = state; split = None; order = order_sum [] })
+      → IsTagJudged true sign items (Does tag) result (record { state = state; split = None; order = 0 })
   judged-begins words tag (Err error) state e limited j = as_laid words tag ∙ j
   judged-begins words tag (Ok done) state e limited j = (as_laid words tag ∙ j.0, record { words = words; of = begins_of tag state e limited j.0 j.1 })
 
@@ -195,7 +208,7 @@ module _ (sign : SignData) (items : List Meaning) (kept : Pass) (of : IsFilledOf
   filled_undefined number none = first_of (search (rules, cell_missing, here, offends_without), grind (arith, cell_missing, here, offends_without))
 
   module _ (number : ℕ) (c : SizedCell) (some : cell_in sign kept.state.attributes.font.number number ≡ Some c) (clash : Bool)
-      (clashing : (line : List Spot) (s : Spot) → kept.order ≡ order_sum line → s.at.line_just ≡ kept.state.attributes.line_just → clash ≡ list_any (clashes s) line) where
+      (clashing : (line : List Spot) (s : Spot) → order_of kept.order ≡ order_sum line → s.at.line_just ≡ kept.state.attributes.line_just → clash ≡ list_any (clashes s) line) where
     -- whether it conflicts is told by what is kept
     conflict_is : (cell : CellData) (found : cell_numbered (standing sign items).font number ≡ Some cell) → conflicts (spots sign items) (shown sign items number cell found)
         ≡ (nat_lt (page_number kept.state.attributes.page_just) kept.state.area.present || ((page_number kept.state.attributes.page_just == kept.state.area.present) && clash))

@@ -1,5 +1,5 @@
 -- One more item is passed: the group that it joins, and the line that it ends.
-use Rattle.multi_judge.proofs.Common.{nat_lt, line_number, ◌||◌, ◌&&◌, LineJust, width_in, rules, common_steps, ◌≡◌, ℕ, ◌+◌, ◌*◌, ◌≤◌, ◌<◌, ◌==◌, Bool, true, false, cond, List, [], ◌∷◌, ◌++◌, length, Option, Some, None, Result, Ok, Err, refl, sym, ap, subst, ◌∙◌, arith, inl, inr, cases_lt, after_last, list_any, le-leb, false≢true, page_number, page_number_known, Off, Words, SignData, cell_in, Spot, clashes, is_break, in_group, filled, laid_items, Tag, Does, Meaning, Shows, begins_area, has_place, offence, unsized_offence, area_fits_always, begins_line, LineFill, SyntaxError, JudgesTag, offends_as_laid, laid_plain, laid_tag, unsized_if, present_area, ended_lines, Area, Attributes, Character, Group, Line, Order, Pass, Split, State, ReachesGroup, character_of, EndsLine, FillsGroup, IsSplitBelow, order_sum, split_sum, IsFilledFor, IsPassOf, fill_of, IsCellPut, IsItemJudged, IsItemPassed, next_group, IsLimited, IsMost, IsStateOf, IsBelow, IsGroupBelow, area_sum, group_sum, area_of, is_glyph, conflicts, AddsCharacter, PutsCell, not}
+use Rattle.multi_judge.proofs.Common.{order_of, eq-eqb, or_parts, lt-ltb, line_number_known, nat_lt, line_number, ◌||◌, ◌&&◌, LineJust, width_in, rules, common_steps, ◌≡◌, ℕ, ◌+◌, ◌*◌, ◌≤◌, ◌<◌, ◌==◌, Bool, true, false, cond, List, [], ◌∷◌, ◌++◌, length, Option, Some, None, Result, Ok, Err, refl, sym, ap, subst, ◌∙◌, arith, inl, inr, cases_lt, after_last, list_any, le-leb, false≢true, page_number, page_number_known, Off, Words, SignData, cell_in, Spot, clashes, is_break, in_group, filled, laid_items, Tag, Does, Meaning, Shows, begins_area, has_place, offence, unsized_offence, area_fits_always, begins_line, LineFill, SyntaxError, JudgesTag, offends_as_laid, laid_plain, laid_tag, unsized_if, present_area, ended_lines, Area, Attributes, Character, Group, Line, Order, Pass, Split, State, ReachesGroup, character_of, EndsLine, FillsGroup, IsSplitBelow, order_sum, split_sum, IsFilledFor, IsPassOf, fill_of, IsCellPut, IsItemJudged, IsItemPassed, next_group, IsLimited, IsMost, IsStateOf, IsBelow, IsGroupBelow, area_sum, group_sum, area_of, is_glyph, conflicts, AddsCharacter, PutsCell, not}
 use Rattle.multi_meaning.specs.Codes.{code_of}
 use Rattle.multi_judge.specs.KnownItem.{ends_line}
 use Rattle.multi_judge.proofs.Sums.{area_filled, line_clashes, nothing_yet, reached_below, reached_group, reached_line, regrouped_below}
@@ -27,11 +27,10 @@ tag_unsized false sign kept ms of tag fine =
 
 -- one that is judged behind the items as they are laid out, and begins a line
 pub tag_begun : (words : Bool) (sign : SignData) (items : List Meaning) (old : Pass) (tag : Tag) (result : Result (Unit {0}) SyntaxError) (state : State) → IsPassOf words sign old items → (IsLimited old.state → IsLimited state)
-    → JudgesTag sign old.state (Does tag) result state → words ≡ true → begins_line tag ≡ true → (order : Order) → order ≡ order_sum [] → IsTagJudged words sign items (Does tag) result (record { state = state; split = None; order = order })
-tag_begun true sign items old tag result state of limited judged w begins order empty =
-    subst (λ (o : Order). IsTagJudged true sign items (Does tag) result (record { state = state; split = None; order = o })) (sym empty)
-    (judged-begins sign items old of.of of.words tag result state begins (limited of.of.limited) (judged (laid_items Words sign items items) of.of.state_is (λ place. (of.of.limited, of.of.area_fits))))
-tag_begun false sign items old tag result state of limited judged w begins order empty = absurd (false≢true w)
+    → JudgesTag sign old.state (Does tag) result state → words ≡ true → begins_line tag ≡ true → IsTagJudged words sign items (Does tag) result (record { state = state; split = None; order = 0 })
+tag_begun true sign items old tag result state of limited judged w begins =
+    judged-begins sign items old of.of of.words tag result state begins (limited of.of.limited) (judged (laid_items Words sign items items) of.of.state_is (λ place. (of.of.limited, of.of.area_fits)))
+tag_begun false sign items old tag result state of limited judged w begins = absurd (false≢true w)
 
 -- or that doesn't
 pub tag_kept : (words : Bool) (sign : SignData) (items : List Meaning) (old : Pass) (tag : Tag) (result : Result (Unit {0}) SyntaxError) (state : State) → IsPassOf words sign old items → (IsLimited old.state → IsLimited state)
@@ -122,10 +121,27 @@ plain_put old new number width result conflicts added limited is sign own items 
 pub clash_by : (order : Order) (just : LineJust) (n : ℕ) → n ≡ line_number just → (line : List Spot) (s : Spot) → order ≡ order_sum line → s.at.line_just ≡ just → (nat_lt n order.largest || ((n == 5) && order.has_parts)) ≡ list_any (clashes s) line
 clash_by order just n is line s e j = rw (e, is, ← j) (sym (line_clashes line s))
 
+-- where a character isn't full it doesn't clash with another that isn't, and where it is none of the others is
+even : (n : ℕ) (known : (2 ≤ n) × (n ≤ 5)) (others : Bool) → (n ≡ 5 → others ≡ false) → (nat_lt 0 n && nat_lt n 5) ≡ (nat_lt n 5 || others)
+even n known others full = elim (cases_lt n 5) [
+  | inl less ↦ rw (lt-ltb 0 n (omega (arith, known.0)), lt-ltb n 5 less) refl
+  | inr least ↦ let is : n ≡ 5 = omega (arith, least, known.1) in rw (full is, is) refl
+]
+
 -- the order with one more character, which doesn't clash with those before it; these are none where its group doesn't go on
-order_with : (order : Order) (just : LineJust) (n : ℕ) (goes_on : Bool) → n ≡ line_number just → (line : List Spot) (s : Spot) → s.at.line_just ≡ just → list_any (clashes s) line ≡ false
-    → (goes_on ≡ true → order ≡ order_sum line) → (goes_on ≡ false → line ≡ []) → ◌≡◌ {A = Order} (record { largest = n; has_parts = nat_lt n 5 || (goes_on && order.has_parts) }) (order_sum (line ++ s ∷ []))
-order_with order just n goes_on is line s at apart goes stops = first_of (search (rules, order_more), grind (arith, common_steps, order_more))
+order_with : (order : ℕ) (just : LineJust) (n : ℕ) (goes_on : Bool) → n ≡ line_number just → (line : List Spot) (s : Spot) → s.at.line_just ≡ just → list_any (clashes s) line ≡ false
+    → (goes_on ≡ true → order_of order ≡ order_sum line) → (goes_on ≡ false → line ≡ []) → order_of n ≡ order_sum (line ++ s ∷ [])
+order_with order just n goes_on is line s at apart goes stops =
+    let own : n ≡ line_number s.at.line_just = is ∙ ap line_number (sym at) in
+    let old : (goes_on && (order_of order).has_parts) ≡ list_any (λ (t : Spot). nat_lt (line_number t.at.line_just) 5) line = by goes_on goes stops in
+    let full : n ≡ 5 → (goes_on && (order_of order).has_parts) ≡ false = λ five.
+    old ∙ ap (λ b. b && list_any (λ (t : Spot). nat_lt (line_number t.at.line_just) 5) line) (sym (eq-eqb (line_number s.at.line_just) 5 (sym own ∙ five))) ∙ (or_parts _ _ (sym (line_clashes line s) ∙ apart)).1 in
+    (λ i. let o : Order = record { largest = n; has_parts = even n (rw is (line_number_known just)) (goes_on && (order_of order).has_parts) full i } in o)
+    ∙ order_more line s n (goes_on && (order_of order).has_parts) (sym own) apart old
+  where
+    by : (b : Bool) → (b ≡ true → order_of order ≡ order_sum line) → (b ≡ false → line ≡ []) → (b && (order_of order).has_parts) ≡ list_any (λ (t : Spot). nat_lt (line_number t.at.line_just) 5) line
+    by true goes stops = ap (λ (o : Order). o.has_parts) (goes refl)
+    by false goes stops = rw (stops refl) refl
 
 -- the parts of the present line, which are none where the group behind the present one is reached
 abbrev pub IsSplitReached : Pass → Option Split → Type 0
@@ -149,12 +165,12 @@ module _ (kept : Pass) (reached : Bool) (area : Area) (height : ℕ) (r : Reache
         (regrouped_below r (page_number_known at.page_just) k below group (λ g. (grows k g (split_small k small)).0), (grows k (reached_below r (page_number_known at.page_just) k below).2 (split_small k small)).1)
 
     module _ (sign : SignData) (items : List Meaning) (is : IsFilledFor sign kept items) (number width : ℕ) (own : width_in sign at.font.number number ≡ Some width)
-        (page n : ℕ) (page_is : page ≡ page_number at.page_just) (n_is : n ≡ line_number at.line_just) (free : (nat_lt page kept.state.area.present || ((page == kept.state.area.present) && (nat_lt n kept.order.largest || ((n == 5) && kept.order.has_parts)))) ≡ false)
+        (page n : ℕ) (page_is : page ≡ page_number at.page_just) (n_is : n ≡ line_number at.line_just) (free : (nat_lt page kept.state.area.present || ((page == kept.state.area.present) && (nat_lt n kept.order || ((n == 5) && (order_of kept.order).has_parts)))) ≡ false)
         (most : ℕ) (room : IsMost at.rectangle.width area.group.line kept.state.limits.width → IsMost at.rectangle.width group.line most) (ended : Option Line) (character : Character) (is_character : character ≡ character_of at width)
         (fills : IsMost at.rectangle.width area.group.line kept.state.limits.width → FillsGroup at.rectangle.width area.group split character (number == 32) group split' ended) where
       abbrev new : Pass
       new =
-          record { state = record kept.state { area = record area { group = group }; limits = record { width = most; height = height } }; split = split'; order = record { largest = n; has_parts = nat_lt n 5 || ((page == kept.state.area.present) && kept.order.has_parts) } }
+          record { state = record kept.state { area = record area { group = group }; limits = record { width = most; height = height } }; split = split'; order = n }
 
       line_room : IsMost at.rectangle.width area.group.line kept.state.limits.width
       line_room = reached_line r (page_number_known at.page_just) at.rectangle.width kept.state.limits.width is.of.limited.width
@@ -174,7 +190,7 @@ module _ (kept : Pass) (reached : Bool) (area : Area) (height : ℕ) (r : Reache
       cell_put =
           let (c, some, wide) = cell_of_width (cell_in sign at.font.number number) width (sym own) in
           let (below, small) = cell_below (1024 * length items) (subst (λ n. IsBelow (1024 * n) kept.state.area) (laid_count sign items) is.of.state_is.below) is.of.split_below in
-          filled_put sign items kept is number c some (filled_free sign items kept is.of number c some _ (clash_by kept.order at.line_just n n_is) (rw page_is at free)) (page == kept.state.area.present) (ap (λ n. n == kept.state.area.present) page_is)
+          filled_put sign items kept is number c some (filled_free sign items kept is.of number c some _ (clash_by (order_of kept.order) at.line_just n n_is) (rw page_is at free)) (page == kept.state.area.present) (ap (λ n. n == kept.state.area.present) page_is)
           (character_of at width) refl refl wide refl (record area { group = group }) split' ended (λ cell found. area_fills)
           new.state.limits (record { width = room line_room; height = λ some. reached_group r (page_number_known at.page_just) is.of.limited.height })
           new.order (order_with kept.order at.line_just n (page == kept.state.area.present) n_is) below small

@@ -1,7 +1,8 @@
 -- What is kept behind one more character, where lines are filled.
-use Rattle.multi_judge.proofs.Common.{◌≡◌, ℕ, ◌+◌, ◌*◌, ◌≤◌, Bool, true, false, ◌==◌, inl, inr, List, [], ◌∷◌, ◌++◌, length, Option, Some, None, refl, sym, ap, subst, ◌∙◌, arith, append-nil, rules, ◌^◌, ◌<◌, drop, map, slice_get, append_assoc, Result, Ok, Err, not, after_last, list_any, All, and_parts, cases_eq, eq-eqb, eqb-true, false≢true, cases_lt, ne_eqb, length-append, length-drop, All-push, All-nil, sum_by-append, page_number, LineFill, Words, Off, SizedCell, SignData, CellData, cell_in, cell_numbered, Spot, Standing, group_of, in_group, is_break, spots, standing, filled, area_fits, line_fits, laid_item, laid_items, Meaning, Shows, meaning, clashes, conflicts, first_code, offence, unsized_offence, present_area, in_group_other, own_group, are_laid, standing_push, present_area-placing, each_after_length, none_more, Token, IsTokenOf, cycle, ended_times, pages_of, SyntaxError, some_after, Area, Attributes, Split, Pass, Character, Order, Limits, Line, IsFilledFor, IsFilledOf, IsFilledReady, EndsLine, IsSplitBelow, order_sum, split_sum, IsLimited, IsReady, IsStateOf, IsUnfilledOf, attributes_of, IsJudged, IsBelow, IsCharacter, area_sum, State, ReadSoFar, IsCellPut, IsPassOf, drop_all, map-append, slice_get-get_or, spaces_is, Item, IsItem, spelling, spell, HasNoItem, IsReading, item_of, Accepted, IsCycle, IsVerdict, Refused, broken, of_first, item_refused, length-meanings, offences_push, one_verdict, IsPassReady, fill_of}
+use Rattle.multi_judge.proofs.Common.{order_of, ◌≡◌, ℕ, ◌+◌, ◌*◌, ◌≤◌, Bool, true, false, ◌==◌, inl, inr, List, [], ◌∷◌, ◌++◌, length, Option, Some, None, refl, sym, ap, subst, ◌∙◌, arith, append-nil, rules, ◌^◌, ◌<◌, drop, map, slice_get, append_assoc, Result, Ok, Err, not, after_last, list_any, All, and_parts, cases_eq, eq-eqb, eqb-true, false≢true, cases_lt, ne_eqb, length-append, length-drop, All-push, All-nil, sum_by-append, page_number, LineFill, Words, Off, SizedCell, SignData, CellData, cell_in, cell_numbered, Spot, Standing, group_of, in_group, is_break, spots, standing, filled, area_fits, line_fits, laid_item, laid_items, Meaning, Shows, meaning, clashes, conflicts, first_code, offence, unsized_offence, present_area, in_group_other, own_group, are_laid, standing_push, present_area-placing, each_after_length, none_more, Token, IsTokenOf, cycle, ended_times, pages_of, SyntaxError, some_after, Area, Attributes, Split, Pass, Character, Order, Limits, Line, IsFilledFor, IsFilledOf, IsFilledReady, EndsLine, IsSplitBelow, order_sum, split_sum, IsLimited, IsReady, IsStateOf, IsUnfilledOf, attributes_of, IsJudged, IsBelow, IsCharacter, area_sum, State, ReadSoFar, IsCellPut, IsPassOf, drop_all, map-append, slice_get-get_or, spaces_is, Item, IsItem, spelling, spell, HasNoItem, IsReading, item_of, Accepted, IsCycle, IsVerdict, Refused, broken, of_first, item_refused, length-meanings, offences_push, one_verdict, IsPassReady, fill_of}
 use Rattle.multi_judge.proofs.Sums.{both_fit, group_behind, no_back, no_clash, present_push, shown_free, ready, split_more, judged-undefined}
-use Rattle.multi_judge.proofs.Common.{line_in_force, placing_group, line_sum, IsReady}
+use Rattle.multi_judge.proofs.Common.{line_in_force, placing_group, line_sum, IsReady, Order, IfSome}
+use Rattle.multi_judge.specs.FilledState.{IsOrderedBy}
 use Rattle.std.proofs.lemmas.List.Concat.{flat_map-append}
 use Rattle.multi_token.proofs.ReadingLemmas.{none_found, spelling_some}
 use Rattle.multi_meaning.proofs.GroupLemmas.{in_area_placing}
@@ -47,10 +48,10 @@ module _ (sign : SignData) (items : List Meaning) (number : ℕ) (cell : CellDat
 
     -- the order of the characters since the hard break
     pub order_with : (goes_on : Bool) → goes_on ≡ (page_number kept.state.attributes.page_just == kept.state.area.present) → kept.state.attributes.page_just ≡ s.at.page_just
-        → (character : Character) → IsCharacter s character → (order' : Order)
+        → (character : Character) → IsCharacter s character → (order' : ℕ)
         → ((line : List Spot) (s : Spot) → s.at.line_just ≡ character.just → list_any (clashes s) line ≡ false
-        → (goes_on ≡ true → kept.order ≡ order_sum line) → (goes_on ≡ false → line ≡ []) → order' ≡ order_sum (line ++ s ∷ []))
-        → order' ≡ order_sum (after_last is_break (in_group (page_number s.at.page_just) (present_area sign more)))
+        → (goes_on ≡ true → order_of kept.order ≡ order_sum line) → (goes_on ≡ false → line ≡ []) → order_of order' ≡ order_sum (line ++ s ∷ []))
+        → order_of order' ≡ order_sum (after_last is_break (in_group (page_number s.at.page_just) (present_area sign more)))
     order_with goes_on goes at character is order' sum =
         let all = spots sign items in
         let just = page_number s.at.page_just in
@@ -64,9 +65,9 @@ module _ (sign : SignData) (items : List Meaning) (number : ℕ) (cell : CellDat
         ∙ ap order_sum (sym (present_push (group_of s all) s refl) ∙ ap (after_last is_break) (sym own))
 
     -- what is kept is that of the items with it
-    pub kept_with : (area' : Area) (limits' : Limits) (split' : Option Split) (order' : Order) → area' ≡ area_sum (area_with sign items number cell found)
+    pub kept_with : (area' : Area) (limits' : Limits) (split' : Option Split) (order' : ℕ) → area' ≡ area_sum (area_with sign items number cell found)
         → split' ≡ split_sum (after_last is_break (filled (Some s.at.rectangle.width) (group_of s (spots sign items) ++ s ∷ [])))
-        → order' ≡ order_sum (after_last is_break (in_group (page_number s.at.page_just) (present_area sign more)))
+        → order_of order' ≡ order_sum (after_last is_break (in_group (page_number s.at.page_just) (present_area sign more)))
         → IsBelow (1024 * length items + 1024) area' → IsSplitBelow (1024 * length items + 1024) split'
         → line_fits s.at.rectangle.width (after_last is_break (filled (Some s.at.rectangle.width) (group_of s (spots sign items) ++ s ∷ []))) ≡ true
         → area_fits s.at.rectangle.height (area_with sign items number cell found) ≡ true → IsLimited (record kept.state { area = area'; limits = limits' })
@@ -100,8 +101,8 @@ module _ (sign : SignData) (items : List Meaning) (kept : Pass) (is : IsFilledFo
     (font : character.font ≡ kept.state.attributes.font) (area' : Area) (split' : Option Split) (ended : Option Line)
     (fills : (cell : CellData) (found : cell_numbered (standing sign items).font number ≡ Some cell) → Fills sign items kept is.of number c some character (number == 32) area' split' ended (page_number kept.state.attributes.page_just) kept.state.attributes.rectangle.width)
     (limits' : Limits) (limited : IsLimited (record kept.state { area = area'; limits = limits' }))
-    (order' : Order) (sum : (line : List Spot) (s : Spot) → s.at.line_just ≡ character.just → list_any (clashes s) line ≡ false
-    → (goes_on ≡ true → kept.order ≡ order_sum line) → (goes_on ≡ false → line ≡ []) → order' ≡ order_sum (line ++ s ∷ []))
+    (order' : ℕ) (sum : (line : List Spot) (s : Spot) → s.at.line_just ≡ character.just → list_any (clashes s) line ≡ false
+    → (goes_on ≡ true → order_of kept.order ≡ order_sum line) → (goes_on ≡ false → line ≡ []) → order_of order' ≡ order_sum (line ++ s ∷ []))
     (below : IsBelow (1024 * length items + 1024) area') (split_below : IsSplitBelow (1024 * length items + 1024) split') where
   pub filled_put : IsCellPut true sign items number kept (Ok ended) (record { state = record kept.state { area = area'; limits = limits' }; split = split'; order = order' })
   filled_put =
@@ -220,7 +221,13 @@ module _ (sign : SignData) (items : List Meaning) (kept : Pass) (of : IsFilledOf
       let (own, behind) = open_ordered (standing sign items).rectangle.width (in_group present (present_area sign items)) (placing_group present (present_area sign items) (in_area_placing (standing sign items).area (spots sign items))) in
       let small : IsReady kept.state = search (rules, laid_count, ready) in
       let parts : IsSplitBelow (2 ^ 62) kept.split = search (rules, split_more) in
-      record { state = small; split = parts; line = rw (of.order_is, line) own; behind = rw (of.order_is, of.split_is) behind }
+      let order = order_sum (after_last is_break (in_group present (present_area sign items))) in
+      record {
+        state = small;
+        split = parts;
+        line = subst (λ (o : Order). IsOrderedBy o (line_in_force kept.state)) (sym of.order_is) (subst (IsOrderedBy order) (sym line) own);
+        behind = subst (λ (o : Order). IfSome kept.split (λ s. IsOrderedBy o s.behind)) (sym of.order_is) (subst (λ o. IfSome o (λ s. IsOrderedBy order s.behind)) (sym of.split_is) behind);
+      }
 
   -- it has their pages and times
   pub kept_pages : kept.state.pages ≡ pages_of items

@@ -1,5 +1,5 @@
 -- One more octet of a run, in the string that is read.
-use Rattle.multi_judge.proofs.Common.{◌≡◌, ℕ, suc, ◌+◌, ◌^◌, ◌<◌, ◌≤◌, List, [], ◌∷◌, ◌++◌, length, map, drop, take, slice_get, Option, Some, None, refl, sym, ◌∙◌, arith, true, false, ◌&&◌, ◌||◌, ◌==◌, ap, ◌-◌, ◌*◌, Bool, cond, subst, rules, nat_le, nat_lt, All, after_last, AllPass, list_any, and_from, and_right, le-leb, le-ltb, eq-eqb, false≢true, option_map, unwrap_or, length-drop, All-head, All-tail, sum_by-append, line_number, page_number, Off, IsPlain, Token, IsTokenOf, SizedCell, SignData, cell_in, IsWithin, HasWidth, width_in, Spot, area_of, is_break, is_glyph, in_group, Meaning, Shows, meaning, conflicts, offence, clashes, some_after, none_mapped, filled, is_space, line_number_known, Area, Line, State, ReadSoFar, IsRun, is_within, kept_height, lengthened, line_in_force, lengthened_area, lengthened_line, IsStateOf, IsUnfilledOf, area_sum, line_sum, IsBelow, IsCharacter, IsLineBelow, area_sum_in, group_sum, AddsCharacter, character_of, order_sum, IsSplitBelow, split_sum, Attributes, Split, Pass, IsFilledRun, even_line, longer_line, with_run, with_run_behind, IsFilledFor, sum_by, length-take-le, take-append-drop, IsBehindOne, GoesOnBehind}
+use Rattle.multi_judge.proofs.Common.{order_of, ◌≡◌, ℕ, suc, ◌+◌, ◌^◌, ◌<◌, ◌≤◌, List, [], ◌∷◌, ◌++◌, length, map, drop, take, slice_get, Option, Some, None, refl, sym, ◌∙◌, arith, true, false, ◌&&◌, ◌||◌, ◌==◌, ap, ◌-◌, ◌*◌, Bool, cond, subst, rules, nat_le, nat_lt, All, after_last, AllPass, list_any, and_from, and_right, le-leb, le-ltb, eq-eqb, false≢true, option_map, unwrap_or, length-drop, All-head, All-tail, sum_by-append, line_number, page_number, Off, IsPlain, Token, IsTokenOf, SizedCell, SignData, cell_in, IsWithin, HasWidth, width_in, Spot, area_of, is_break, is_glyph, in_group, Meaning, Shows, meaning, conflicts, offence, clashes, some_after, none_mapped, filled, is_space, line_number_known, Area, Line, State, ReadSoFar, IsRun, is_within, kept_height, lengthened, line_in_force, lengthened_area, lengthened_line, IsStateOf, IsUnfilledOf, area_sum, line_sum, IsBelow, IsCharacter, IsLineBelow, area_sum_in, group_sum, AddsCharacter, character_of, order_sum, IsSplitBelow, split_sum, Attributes, Split, Pass, IsFilledRun, even_line, longer_line, with_run, with_run_behind, IsFilledFor, sum_by, length-take-le, take-append-drop, IsBehindOne, GoesOnBehind}
 use Rattle.multi_judge.proofs.Sums.{conflicts_kept, own_line, area_filled, group_of_own, some_mapped, part_below, no_character}
 use Rattle.multi_token.proofs.PlaceLemmas.{drop_read, read_drop, single_token}
 use Rattle.multi_judge.proofs.LimitLemmas.{character_judged}
@@ -252,13 +252,13 @@ module _ (sign : SignData) (octets : List ℕ) (at : ℕ) (kept : Pass) (r : Rea
       let area : Area = lengthened_area (line.part.width + (gap + wide)) (line.part.count + 1) kept.state.area in
       let put = filled_put sign items kept r.is octet cell found
       (filled_free sign items kept of octet cell found false
-      (λ line s e just. sym (order_apart line s kept.order e (run.order.0 ∙ ap line_number (sym just)) (run.order.1 ∙ ap (λ j. nat_lt (line_number j) 5) (sym just))))
+      (λ line s e just. sym (order_apart line s (order_of kept.order) e (run.order.0 ∙ ap line_number (sym just)) (run.order.1 ∙ ap (λ j. nat_lt (line_number j) 5) (sym just))))
       (ap (λ b. b || ((page_number attributes.page_just == kept.state.area.present) && false)) (le-ltb (page_number attributes.page_just) kept.state.area.present (omega (arith, run.behind.group))) ∙ and_right (page_number attributes.page_just == kept.state.area.present) false refl))
       true (sym (eq-eqb (page_number attributes.page_just) kept.state.area.present (sym run.behind.group)))
       (character_of attributes wide) refl refl is refl area (split_one attributes gap wide (octet == 32) line kept.split) None
       (λ cell found. fills_one kept run gap runs wide fits (octet == 32))
       kept.state.limits (record { width = of.limited.width; height = of.limited.height })
-      kept.order (λ line s just apart goes stays. order_stays line s kept.order (goes refl) (run.order.0 ∙ ap line_number (sym just)) (run.order.1 ∙ ap (λ j. nat_lt (line_number j) 5) (sym just)))
+      kept.order (λ line s just apart goes stays. order_stays line s (order_of kept.order) (goes refl) (run.order.0 ∙ ap line_number (sym just)) (run.order.1 ∙ ap (λ j. nat_lt (line_number j) 5) (sym just)))
       (longer_below (1024 * length items) (line.part.width + (gap + wide)) (line.part.count + 1) kept.state.area below (omega (arith, below.group.line.part.width, runs.narrow, small)) (omega (arith, below.group.line.part.count)))
       (split_grows attributes gap wide runs.gap_is (1024 * length items) (octet == 32) line kept.split runs.narrow small below.group.line of.split_below) in
       let fits' = and_from (nat_le one_longer.part.width kept.state.limits.width) (nat_le (kept_height area.group) kept.state.limits.height) (still_fits kept run gap runs wide fits (octet == 32)) runs.height in

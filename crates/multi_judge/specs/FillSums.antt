@@ -1,5 +1,5 @@
 -- What is kept of an open line where lines are filled: the sums around its last space.
-use Rattle.std.specs.Prelude.{◌≡◌, ℕ, Bool, true, false, nat_lt, List, [], ◌∷◌, ◌++◌, Option, None, Some}
+use Rattle.std.specs.Prelude.{◌≡◌, ◌&&◌, ℕ, Bool, true, false, nat_lt, List, [], ◌∷◌, ◌++◌, Option, None, Some}
 use Rattle.std.specs.List.{All, after_last, list_any}
 use Rattle.std.specs.Option.{IfSome, option_map}
 use Rattle.multi_tag.specs.Just.{line_number}
@@ -12,7 +12,6 @@ use Rattle.multi_meaning.specs.Words.{largest}
 use Rattle.multi_meaning.specs.kept.Present.{IsPlacing, ended_lines}
 use Rattle.multi_judge.specs.declared.area.Group.{Group}
 use Rattle.multi_judge.specs.declared.fill.Split.{Split}
-use Rattle.multi_judge.specs.declared.pass.Order.{Order}
 use Rattle.multi_judge.specs.declared.line.Line.{Line}
 use Rattle.multi_judge.specs.Run.{FitsBefore}
 use Rattle.multi_judge.specs.Sums.{Character, IsCharacter, IsLineBelow, group_sum, line_sum}
@@ -25,7 +24,16 @@ parts_sum cut = record { before = line_sum cut.before; font = info_of cut.item.a
 abbrev pub split_sum : List Spot → Option Split
 split_sum line = option_map parts_sum (cut_at_last is_space line)
 
--- what the order of the justifications of these characters is judged by: the largest, and whether a character isn't full (own)
+-- what the order of line justifications is judged by: the largest of the characters, and whether a character isn't full (own)
+pub record Order : Type 0 where
+  pub largest : ℕ
+  pub has_parts : Bool
+
+-- that of characters without a conflict, of which this is the largest: where it isn't full, none is; 0 where there is none (own)
+abbrev pub order_of : ℕ → Order
+order_of just = record { largest = just; has_parts = nat_lt 0 just && nat_lt just 5 }
+
+-- that of these characters (own)
 abbrev pub order_sum : List Spot → Order
 order_sum line = record {
   largest = largest (λ t. line_number t.at.line_just) line;

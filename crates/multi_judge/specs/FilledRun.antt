@@ -7,7 +7,7 @@ use Rattle.sign_font.specs.declared.font.FontInfo.{FontInfo}
 use Rattle.multi_judge.specs.declared.attributes.Attributes.{Attributes}
 use Rattle.multi_judge.specs.declared.fill.Split.{Split}
 use Rattle.multi_judge.specs.declared.pass.Pass.{Pass}
-use Rattle.multi_judge.specs.declared.pass.Order.{Order}
+use Rattle.multi_judge.specs.FillSums.{Order, order_of}
 use Rattle.multi_judge.specs.declared.line.Line.{Line}
 use Rattle.multi_judge.specs.Sums.{line_sum}
 use Rattle.multi_judge.specs.Run.{IsBehindCharacter, IsBehindOne, IsOpen, lengthened, lengthened_line, line_in_force}
@@ -27,7 +27,7 @@ GoesOnBehind just font split = IfSome split (λ s. s.behind.any ≡ true → IsB
 -- the last character was put into the present area with the attributes in force, and so a character here only lengthens what is kept (own)
 pub record IsFilledRun (kept : Pass) : Type 0 where
   pub behind : IsBehindCharacter kept.state
-  pub order : IsOrderOf (line_number kept.state.attributes.line_just) kept.order
+  pub order : IsOrderOf (line_number kept.state.attributes.line_just) (order_of kept.order)
   pub split : GoesOnBehind kept.state.attributes.line_just kept.state.attributes.font kept.split
 
 -- a line whose present segment has so many more pixels and characters (own)

@@ -13,10 +13,9 @@ use Rattle.multi_meaning.specs.Laid.{laid_items}
 use Rattle.multi_meaning.specs.Meaning.{Meaning}
 use Rattle.multi_meaning.specs.kept.Present.{present_area}
 use Rattle.multi_judge.specs.declared.line.Line.{Line}
-use Rattle.multi_judge.specs.declared.pass.Order.{Order}
 use Rattle.multi_judge.specs.declared.pass.Pass.{Pass}
 use Rattle.multi_judge.specs.Run.{line_in_force}
-use Rattle.multi_judge.specs.FillSums.{IsSplitBelow, order_sum, split_sum}
+use Rattle.multi_judge.specs.FillSums.{IsSplitBelow, Order, order_of, order_sum, split_sum}
 use Rattle.multi_judge.specs.State.{AreaFits, IsLimited, IsReady, IsStateOf}
 
 -- it is what is kept of these items: the state of the items as they are laid out, the parts of the present line around its last
@@ -29,7 +28,7 @@ pub record IsFilledOf (sign : SignData) (items : List Meaning) (kept : Pass) : T
       ≡ split_sum
       (after_last is_break
       (filled (Some (standing sign items).rectangle.width) (in_group kept.state.area.present (present_area sign items))))
-  pub order_is : kept.order ≡ order_sum (after_last is_break (in_group kept.state.area.present (present_area sign items)))
+  pub order_is : order_of kept.order ≡ order_sum (after_last is_break (in_group kept.state.area.present (present_area sign items)))
   pub split_below : IsSplitBelow (1024 * length items) kept.split
   pub limited : IsLimited kept.state
   pub area_fits : AreaFits sign (laid_items Words sign items items)
@@ -48,8 +47,8 @@ IsOrderedBy order line = (line.present ≤ order.largest) × (line.has_parts ≡
 pub record IsFilledReady (kept : Pass) : Type 0 where
   pub state : IsReady kept.state
   pub split : IsSplitBelow (2 ^ 62) kept.split
-  pub line : IsOrderedBy kept.order (line_in_force kept.state)
-  pub behind : IfSome kept.split (λ s. IsOrderedBy kept.order s.behind)
+  pub line : IsOrderedBy (order_of kept.order) (line_in_force kept.state)
+  pub behind : IfSome kept.split (λ s. IsOrderedBy (order_of kept.order) s.behind)
 
 -- a line begins behind what this tag says (NTCIP 1203 v03, MULTI tags 'nl', 'np' and 'tr')
 abbrev pub begins_line : Tag → Bool

@@ -23,17 +23,8 @@ pub struct Pass {
     pub state: State,
     /// The parts of the present line around its last space.
     pub(crate) split: Option<Split>,
-    /// That of the characters of the present group since the last `nl`, dropped spaces too.
-    pub(crate) order: Order,
-}
-
-/// What the order of line justifications is judged by.
-#[derive(Clone, Copy, Default)]
-pub(crate) struct Order {
-    /// The largest line justification of the characters; 0 where there is none.
-    pub(crate) largest: u8,
-    /// Whether a character isn't full.
-    pub(crate) has_parts: bool,
+    /// The largest line justification of the present group's characters since the last `nl`, dropped spaces too; 0 where there is none.
+    pub(crate) order: u8,
 }
 
 impl Pass {
@@ -46,7 +37,7 @@ impl Pass {
         Pass {
             state,
             split: None,
-            order: Order::default(),
+            order: 0,
         }
     }
 
@@ -83,7 +74,7 @@ impl Pass {
                 judge_tag(sign, &mut self.state, source, tag)?;
                 if WORDS && matches!(tag, Tag::NewPage | Tag::NewLine(_) | Tag::Rect { .. }) {
                     self.split = None;
-                    self.order = Order::default();
+                    self.order = 0;
                 }
                 Ok(ended)
             }
@@ -153,15 +144,13 @@ impl Pass {
         let here = &state.attributes;
         let (page, present) = (here.page_just.number(), state.area.present);
         let just = here.line_just.number();
-        // as `Line::put` has it, but of the characters before a soft break too
-        let clashes = (just < self.order.largest) | ((just == 5) & self.order.has_parts);
+        // as `Line::put` has it, but of the characters before a soft break too: where the largest isn't full, none is
+        let has_parts = (self.order > 0) & (self.order < 5);
+        let clashes = (just < self.order) | ((just == 5) & has_parts);
         if (page < present) | ((page == present) & clashes) {
             return Err(SyntaxError::TagConflict);
         }
-        self.order = Order {
-            largest: just,
-            has_parts: (just < 5) | ((page == present) & self.order.has_parts),
-        };
+        self.order = just;
         if page > present {
             *split = None;
         }

@@ -1,4 +1,5 @@
 use Rattle.multi_judge.proofs.Lemmas.{refl, character_of, rules, ◌^◌, page_number_known, ap, arith, sym, ◌∙◌, LineFill, cell_in, Shows, offence, filled_conflict, cell_below, cell_of_width, cell_put, clash_by, reached_below}
+use Rattle.multi_judge.proofs.Common.{order_of}
 use Rattle.multi_judge.proofs.PassedLemmas.{IsSplitReached}
 use Rattle.multi_judge.proofs.pass.Pass.fill_cell.Goals as goal
 use Rattle.multi_judge.proofs.pass.Pass.fill_cell.Goals.{then-page-present-2, else-page-present-2}
@@ -8,7 +9,7 @@ returns-then-page-present-clause-put c = λ sign own items is.
     let kept = c.args.self.now in
     let (cell, some, wide) = cell_of_width (cell_in sign kept.state.attributes.font.number c.args.number) c.args.cell_width (sym own) in
     ap (λ (setting : LineFill). offence setting sign items (Shows c.args.number)) is.words
-    ∙ filled_conflict sign items kept is.of c.args.number cell some _ (clash_by kept.order kept.state.attributes.line_just c.number-just.result c.number-just.ensures.number) (rw c.number-page.ensures.number at c.if-page-present.true)
+    ∙ filled_conflict sign items kept is.of c.args.number cell some _ (clash_by (order_of kept.order) kept.state.attributes.line_just c.number-just.result c.number-just.ensures.number) (rw c.number-page.ensures.number at c.if-page-present.true)
 
 pub fill_character-requires-clause-below : goal.fill_character-requires-clause-below
 fill_character-requires-clause-below c =
