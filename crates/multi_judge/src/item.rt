@@ -46,11 +46,7 @@ impl KnownItem {
     pub fn is_setting(self) -> bool
         ensures { result ≡ is_setting (meant_by self) }
     {
-        !matches!(
-            self,
-            KnownItem::Char(_)
-                | KnownItem::Tag(Tag::NewPage | Tag::NewLine(_) | Tag::Rect { .. } | Tag::Back(_))
-        )
+        !self.has_place() && !self.begins_area() && !matches!(self, KnownItem::Tag(Tag::Back(_)))
     }
 
     /// Whether the item is a character whose number is that of an octet.

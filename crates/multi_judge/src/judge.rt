@@ -109,15 +109,11 @@ fn part_of(whole: u16, from: u32, length: u32) -> Option<(u16, u16)>
         × (part.1 ≡ (if length == 0 then whole - (from - 1) else length))) }
     ensures outside { IfNone result (1 ≤ from → from ≤ whole → from - 1 + length ≤ whole → ⊥) }
 {
-    let whole = u64::from(whole);
-    let (from, length) = (u64::from(from), u64::from(length));
-    if from == 0 || from > whole || from - 1 + length > whole {
+    let first = u64::from(from).checked_sub(1)?;
+    let rest = u64::from(whole).saturating_sub(first);
+    if rest == 0 || u64::from(length) > rest {
         return None;
     }
-    let first = from - 1;
-    if length == 0 {
-        Some((first as u16, (whole - first) as u16))
-    } else {
-        Some((first as u16, length as u16))
-    }
+    let length = if length == 0 { rest } else { u64::from(length) };
+    Some((first as u16, length as u16))
 }

@@ -122,10 +122,8 @@ impl Line {
     pub(crate) fn width(&self, just: u8) -> u64
         ensures { result ≡ kept_width just self.now }
     {
-        if just == self.present {
-            return self.part.width;
-        }
         match just {
+            _ if just == self.present => self.part.width,
             2 => self.left,
             3 => self.centre,
             4 => self.right,

@@ -64,11 +64,9 @@ impl Pass {
                 }
             }
             KnownItem::Tag(tag) => {
+                let here = self.state.attributes.page_just;
                 let ended = match tag {
-                    Tag::NewLine(_) => {
-                        let area = &self.state.area;
-                        Some(area.group_for(self.state.attributes.page_just).line)
-                    }
+                    Tag::NewLine(_) => Some(self.state.area.group_for(here).line),
                     _ => None,
                 };
                 judge_tag(sign, &mut self.state, source, tag)?;
@@ -121,8 +119,7 @@ impl Pass {
         } else {
             return Err(SyntaxError::TagConflict);
         };
-        let State { area, limits, .. } = &self.state;
-        let group = &area.group;
+        let (group, limits) = (&self.state.area.group, &self.state.limits);
         // only the present segment and the present group can have grown too large
         if (group.line.part.width <= limits.width) & (group.height() <= limits.height) {
             Ok(ended)
