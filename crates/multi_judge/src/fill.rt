@@ -67,14 +67,10 @@ impl Group {
         let parts = (*split)?;
         self.line = parts.before;
         self.add_break(None, &parts.font);
-        self.line = parts.behind;
-        self.line.add(here, cell_width);
-        *most = room_for(
-            self.line.present,
-            self.line.left,
-            self.line.centre,
-            here.rectangle.width,
-        );
+        let mut line = parts.behind;
+        line.add(here, cell_width);
+        *most = room_for(line.present, line.left, line.centre, here.rectangle.width);
+        self.line = line;
         *split = None;
         Some(parts.before)
     }
