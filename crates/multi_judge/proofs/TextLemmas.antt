@@ -1,5 +1,5 @@
 -- A word behind a character with the same attributes, where lines are filled: what is kept with it.
-use Rattle.multi_judge.proofs.Common.{◌≡◌, ℕ, ◌+◌, ◌-◌, ◌^◌, ◌<◌, ◌≤◌, false, List, length, take, drop, slice_get, Option, Some, None, refl, ap, subst, ◌∙◌, arith, rules, ◌*◌, true, sym, All, option_map, cases_eq, ne_eqb, IsPlain, SignData, FontData, IsWithin, HasWidth, width_in, Counted, RisesBetween, charged, Attributes, Split, Pass, Line, IsFilledRun, even_line, with_run, with_run_behind, with_word, IsFilledFor, IsFilledReady, ReadSoFar, IsAt, IsRun, line_in_force, IsInText, AreWidthsOf, IsNoSpace, TakesSpace, gap_here, is_within, and_from, le-leb, nat_le, kept_height}
+use Rattle.multi_judge.proofs.Common.{State, lengthened, ◌≡◌, ℕ, ◌+◌, ◌-◌, ◌^◌, ◌<◌, ◌≤◌, false, List, length, take, drop, slice_get, Option, Some, None, refl, ap, subst, ◌∙◌, arith, rules, ◌*◌, true, sym, All, option_map, cases_eq, ne_eqb, IsPlain, SignData, FontData, IsWithin, HasWidth, width_in, Counted, RisesBetween, charged, Attributes, Split, Pass, Line, IsFilledRun, even_line, with_run, with_run_behind, with_word, IsFilledFor, IsFilledReady, ReadSoFar, IsAt, IsRun, line_in_force, IsInText, AreWidthsOf, IsNoSpace, TakesSpace, gap_here, is_within, and_from, le-leb, nat_le, kept_height}
 use Rattle.multi_token.proofs.StepLemmas.{rises_then}
 use Rattle.multi_judge.proofs.RunReadLemmas.{one_goes_on, one_taken, run_some, with_one, front_taken}
 use Rattle.multi_judge.proofs.RunLemmas.{run_stays}
@@ -138,3 +138,8 @@ with_look old read looked len rises step =
 
 pub without_look : (old read same : Counted) (len : ℕ) → RisesBetween old read (2 * len + 1) (2 * len + 2) → same ≡ read → RisesBetween old same (2 * len + 1) (2 * len + 3)
 without_look old read same len rises is = (rises.0, rises.1, omega (arith, rises.2), is ∙ rises.3)
+
+-- what is kept, once a word was gone along and taken
+pub taken_word : (pass : Pass) (len : ℕ) {new : Pass} {state : State} {gap gap' pixels pixels' : ℕ} → state ≡ lengthened ((line_in_force pass.state).part.width + pixels) ((line_in_force pass.state).part.count + len) pass.state
+    → new ≡ record pass { state = state; split = option_map (with_run_behind state.attributes gap pixels' len) pass.split } → gap ≡ gap' → pixels' ≡ pixels → new ≡ with_word gap' pixels len pass
+taken_word pass len along put gaps wide = put ∙ (λ i. record pass { state = along i; split = option_map (with_run_behind (along i).attributes (gaps i) (wide i) len) pass.split })

@@ -22,7 +22,7 @@ pub use Rattle.multi_meaning.specs.Place.{start, spread}
 pub use Rattle.multi_meaning.specs.kept.Present.{IsPlacing, standing_behind, present_area, IsNarrow}
 pub use Rattle.multi_judge.specs.Adding.{ReachesGroup, character_of, IsSameBefore, PutsCharacter, AddsBreak, AddsCharacter}
 pub use Rattle.multi_judge.specs.FillSums.{FillsGroup, IsSplitBelow}
-pub use Rattle.multi_judge.specs.FilledRun.{GoesOnBehind, IsFilledRun, IsOpenAround, with_word}
+pub use Rattle.multi_judge.specs.FilledRun.{GoesOnBehind, IsFilledRun, IsOpenAround, with_run_behind}
 pub use Rattle.multi_judge.specs.FilledState.{IsFilledReady, IsFilledOf}
 pub use Rattle.multi_judge.specs.Judging.{IsAt, IsBehind}
 pub use Rattle.multi_judge.specs.KnownItem.{IsOctet, is_setting, meant_by}

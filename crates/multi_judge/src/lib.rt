@@ -25,7 +25,7 @@ pub use judge::judge_tag;
 pub use line::Line;
 pub use pass::Pass;
 pub use place::{is_full, place_at};
-pub use run::{go_along, judge_run};
+pub use run::judge_run;
 pub use state::State;
 pub use table::{CountedLine, LineTable};
 pub use terms::Terms;

@@ -1,8 +1,8 @@
 //! Characters behind one with the same attributes: each only lengthens the line that they share. Where lines are filled, each word and
 //! each space does so, as long as it stays on its line.
 
-ghost use Rattle.std.specs.Prelude.{All, ◌≡◌, ◌+◌, ◌-◌, ◌*◌, ◌^◌, ◌<◌, ◌≤◌, ℕ, true, false, drop, length, slice_get, take};
-ghost use Rattle.multi_judge.specs.Prelude.{charged, RisesBetween, IsPlain, SignData, AreWidthsOf, HasWidth, IsNoSpace, width_in, IsFilledRun, with_word, IsFilledReady, IsPassBehind, IsPassOf, IsAt, IsBehind, IsBehindCharacter, IsBehindOne, IsRun, IsRunPassed, gap_here, is_within, lengthened, line_in_force, IsLimited, IsReady, TakesSpace};
+ghost use Rattle.std.specs.Prelude.{All, ◌≡◌, ◌+◌, ◌-◌, ◌*◌, ◌^◌, ◌<◌, ◌≤◌, ℕ, true, false, drop, length, option_map, slice_get, take};
+ghost use Rattle.multi_judge.specs.Prelude.{charged, RisesBetween, IsPlain, SignData, AreWidthsOf, HasWidth, IsNoSpace, width_in, IsSplitBelow, with_run_behind, IsFilledReady, IsPassBehind, IsPassOf, IsAt, IsBehind, IsBehindCharacter, IsRun, gap_here, is_within, lengthened, line_in_force, IsLimited, IsReady, TakesSpace};
 
 use crate::fill::Split;
 use crate::line::Line;
@@ -13,30 +13,32 @@ use multi_token::{Run, Source};
 use sign_font::FontCells;
 
 impl State {
-    /// The octets from an offset on that go on behind the last character in the font of these cells: none is a bracket nor, if they are
-    /// to be a word, a space, each has a cell, and together they go into what the line has left. Each of these octets takes two steps, and
-    /// so does the octet behind them; the end takes one.
-    pub(crate) fn read_on(
-        &self,
+    /// Goes along the octets from an offset on that only lengthen the line of the last character, in the font of these cells: none is a
+    /// bracket nor, if they are to be a word, a space, each has a cell, and together they go into what the line has left. Each of these
+    /// octets takes two steps, and so does the octet behind them; the end takes one.
+    pub fn go_along(
+        &mut self,
         cells: &FontCells<'_>,
         source: &mut Source<'_>,
         at: usize,
         word: bool,
     ) -> Run
-        requires behind { IsBehindCharacter self.now }
-        requires limited { IsLimited self.now }
-        requires at { at ≤ length source.old.octets }
+        requires character { IsBehindCharacter self.old }
+        requires limited { IsLimited self.old }
+        requires small { (IsReady self.old) × (length source.old.octets < 2 ^ 32) }
+        requires within { at ≤ length source.old.octets }
         ensures within { at + result.len ≤ length source.old.octets }
         ensures plain { All IsPlain (take result.len (drop at source.old.octets)) }
         ensures word { word ≡ true → All IsNoSpace (take result.len (drop at source.old.octets)) }
         ensures width { (sign : SignData) (font : ℕ) → AreWidthsOf sign font cells.now
-            → HasWidth (width_in sign font) (gap_here self.now) (take result.len (drop at source.old.octets)) result.width }
-        ensures narrow { gap_here self.now ≤ 255 }
-        ensures run { is_within self.now ≡ true → IsRun self.now (gap_here self.now)
-            × ((line_in_force self.now).part.width + result.width ≤ self.now.limits.width) }
+            → HasWidth (width_in sign font) (gap_here self.old) (take result.len (drop at source.old.octets)) result.width }
+        ensures narrow { gap_here self.old ≤ 255 }
+        ensures run { is_within self.old ≡ true → IsRun self.old (gap_here self.old)
+            × ((line_in_force self.old).part.width + result.width ≤ self.old.limits.width) }
+        ensures is { self.new ≡ lengthened ((line_in_force self.old).part.width + result.width)
+            ((line_in_force self.old).part.count + result.len) self.old }
         ensures next { result.next ≡ slice_get source.old.octets (at + result.len) }
         ensures steps { RisesBetween source.old source.new (2 * result.len + 1) (2 * result.len + 2) }
-        ensures room { length source.old.octets < 2 ^ 63 }
     {
         let left = self
             .limits
@@ -45,7 +47,9 @@ impl State {
         // no line has as many pixels
         let room = left.min(0x7fff) as u32;
         let gap = u32::from(self.attributes.gap());
-        source.read_run(at, cells.advances(word), gap, 0, room)
+        let run = source.read_run(at, cells.advances(word), gap, 0, room);
+        self.lengthen(u64::from(run.width), run.len as u64);
+        run
     }
 
     /// Adds a width and a number of characters to the present segment.
@@ -61,14 +65,14 @@ impl State {
 }
 
 impl Pass {
-    /// Adds so many characters of a word, of so many pixels with the gap before each: where nothing is behind the last space, the first one
-    /// has none there.
+    /// Adds behind the last space so many characters of a word, of so many pixels with the gap before each: where nothing is there, the
+    /// first one has none.
     fn take(&mut self, gap: u8, pixels: u64, count: u64)
-        requires ready { IsFilledReady self.old }
+        requires parts { IsSplitBelow (2 ^ 62) self.old.split }
         requires narrow { (pixels < 2 ^ 32) × (count < 2 ^ 32) }
-        ensures { self.new ≡ with_word gap pixels count self.old }
+        ensures { self.new ≡ record self.old { split = option_map (with_run_behind self.old.state.attributes gap pixels count) self.old.split } }
     {
-        let here = self.state.attributes;
+        let here = &self.state.attributes;
         if let Some(Split { behind, .. }) = &mut self.split {
             if behind.any {
                 behind.part.width += pixels;
@@ -84,7 +88,6 @@ impl Pass {
                 behind.any = true;
             }
         }
-        self.state.lengthen(pixels, count);
     }
 
     /// Takes a space, if it has a cell and fits the present line, which may be broken there then. Looking for the cell is one step.
@@ -130,7 +133,8 @@ pub fn judge_run<const WORDS: bool>(
     ensures at { IsAt sign.now source.old.octets result.0 result.1 (IsPassOf WORDS sign.now pass.new) source.new }
 {
     if !WORDS {
-        return go_along(sign, cells, &mut pass.state, source, at);
+        let run = pass.state.go_along(cells, source, at, false);
+        return (at + run.len, run.next);
     }
     if !pass.state.area.group.line.any {
         return (at, source.read(at));
@@ -138,7 +142,7 @@ pub fn judge_run<const WORDS: bool>(
     let gap = pass.state.attributes.gap();
     let mut at = at;
     loop {
-        let word = pass.state.read_on(cells, source, at, true);
+        let word = pass.state.go_along(cells, source, at, true);
         pass.take(gap, u64::from(word.width), word.len as u64);
         at += word.len;
         if word.next != Some(b' ') || !pass.take_space(cells, source, gap) {
@@ -146,28 +150,4 @@ pub fn judge_run<const WORDS: bool>(
         }
         at += 1;
     }
-}
-
-/// Goes behind the characters from an offset on that only lengthen the line of the one before them: the offset behind them, and the
-/// octet read there.
-#[inline(always)]
-pub fn go_along(
-    sign: &Terms<'_>,
-    cells: &FontCells<'_>,
-    state: &mut State,
-    source: &mut Source<'_>,
-    at: usize,
-) -> (usize, Option<u8>)
-    requires character { IsBehindCharacter state.old }
-    requires limited { IsLimited state.old }
-    requires small { (IsReady state.old) × (length source.old.octets < 2 ^ 32) }
-    requires within { at ≤ length source.old.octets }
-    requires cells { AreWidthsOf sign.now state.old.attributes.font.number cells.now }
-    ensures run { IsRunPassed sign.now source.old.octets at state.old result.0 state.new }
-    ensures next { result.1 ≡ slice_get source.old.octets result.0 }
-    ensures steps { RisesBetween source.old source.new (2 * (result.0 - at) + 1) (2 * (result.0 - at) + 2) }
-{
-    let run = state.read_on(cells, source, at, false);
-    state.lengthen(u64::from(run.width), run.len as u64);
-    (at + run.len, run.next)
 }
