@@ -1,5 +1,5 @@
 -- The first reading of an area: the table of its lines, item by item.
-use Rattle.multi_layout.proofs.Common.{◌≡◌, ℕ, Bool, true, ◌+◌, ◌-◌, ◌<◌, ◌≤◌, false, cond, ◌⊎◌, inl, inr, slice_get, None, length, map, List, [], ◌∷◌, ◌++◌, Some, Option, refl, sym, ap, subst, ◌∙◌, arith, append_assoc, append-nil, rules, suc, ◌^◌, drop, map-append, length-drop, length-take-le, take-append-drop, All-head, All-tail, All, unwrap_or, sum_by-append, Item, IsPlain, spelling_some, page_number, LineFill, Words, SignData, cell_in, IsSound, Standing, in_area, spots, standing, laid_items, Does, EndsArea, Meaning, begins_area, meaning, Shows, present_area, fault_at, offences, are_laid, laid_plain, area_ends, standing_push, left_nil, some_after-append, Area, NextItem, Pass, State, LineTable, laid_area, IsFilledOf, meant_by, IsPassOf, fill_of, IsPassReady, IsStateOf, IsReady, group_lines, table_of, at_end, drop_read, read_drop, width_in, unsized_if, IsBehindCharacter, lengthened, line_in_force, behind_stays, state_beside, behind_first, cell_of_width, Cursor, Setting, AreaLines, IsNextRead, IsReadOf, BeginsNoArea, HasCounted, HasKnown, IsInArea, next_group, whole_area, IsBetween, IsFirst, IsItemRead, IsPlaced, items_of, laid_meanings, meant, LaidItem, spell_of, IsMet, IsNextAt, Layer, BitPlane, IsPageDrawn, IsAreaDrawn, spelling}
+use Rattle.multi_layout.proofs.Common.{IsDrawnUpTo, is_setting, IsItemAt, ◌≡◌, ℕ, Bool, true, ◌+◌, ◌-◌, ◌<◌, ◌≤◌, false, cond, ◌⊎◌, inl, inr, slice_get, None, length, map, List, [], ◌∷◌, ◌++◌, Some, Option, refl, sym, ap, subst, ◌∙◌, arith, append_assoc, append-nil, rules, suc, ◌^◌, drop, map-append, length-drop, length-take-le, take-append-drop, All-head, All-tail, All, unwrap_or, sum_by-append, Item, IsPlain, spelling_some, LineFill, Words, SignData, cell_in, IsSound, Standing, in_area, spots, standing, laid_items, EndsArea, Meaning, begins_area, meaning, Shows, present_area, fault_at, offences, are_laid, laid_plain, area_ends, standing_push, left_nil, some_after-append, Area, NextItem, Pass, State, LineTable, laid_area, IsFilledOf, meant_by, IsPassOf, fill_of, IsPassReady, IsStateOf, IsReady, group_lines, table_of, at_end, drop_read, read_drop, width_in, unsized_if, IsBehindCharacter, lengthened, line_in_force, behind_stays, state_beside, behind_first, cell_of_width, Cursor, AreaLines, IsNextRead, IsReadOf, BeginsNoArea, HasCounted, HasKnown, IsInArea, whole_area, IsBetween, IsFirst, IsItemRead, IsPlaced, items_of, laid_meanings, meant, LaidItem, spell_of, Layer, BitPlane, IsPageDrawn, IsAreaDrawn, spelling}
 use Rattle.std.proofs.Common.{length-append}
 use Rattle.std.proofs.lemmas.List.Elements.{All-nil, All-push}
 use Rattle.std.specs.Prelude.{slice_range}
@@ -11,12 +11,12 @@ use Rattle.multi_judge.specs.Run.{IsRunPassed}
 use Rattle.multi_judge.proofs.PlacingLemmas.{plain_passed}
 use Rattle.multi_layout.specs.kept.AreaReading.{EndsGroup, ReadsOn}
 use Rattle.multi_layout.proofs.AreaReadLemmas.{next_fine, present_placing, read_state, step_stays}
-use Rattle.multi_judge.proofs.PassedLemmas.{tag_stays}
-use Rattle.multi_layout.proofs.FilledLemmas.{area_empty, laid_empty, state_begins, counted_whole}
+use Rattle.multi_layout.proofs.FilledLemmas.{state_among, area_empty, laid_empty, state_begins, counted_whole}
 use Rattle.multi_layout.proofs.KnownLinesLemmas.{counted_at_end, known_none}
-use Rattle.multi_layout.proofs.PieceLemmas.{ends_laid, first_piece, laid_front, plain_laid}
-use Rattle.multi_layout.proofs.AreaDrawLemmas.{setting_drawn, setting_is, setting_passed}
-use Rattle.multi_layout.proofs.WalkLemmas.{map_split, few_placed, fine_items, none_at_end, placed_more, spell_of-append, within, octet_next}
+use Rattle.multi_layout.proofs.PieceLemmas.{read_unplaced, ends_laid, first_piece, laid_front, plain_laid}
+use Rattle.multi_layout.proofs.DrawLemmas.{same_drawn}
+use Rattle.multi_layout.proofs.AreaDrawLemmas.{drawn_more, setting_is}
+use Rattle.multi_layout.proofs.WalkLemmas.{between_more, item_is, map_split, few_placed, fine_items, none_at_end, placed_more, spell_of-append, within, octet_item}
 use Rattle.multi_judge.specs.declared.item.KnownItem.TheVariants as known
 
 abbrev item_at : LaidItem → Item
@@ -32,6 +32,15 @@ pub record SoFar (words : Bool) (sign : SignData) (octets : List ℕ) (before be
   pub laid : map meant ((before ++ pieces) ++ left) ≡ laid_meanings sign (items_of ((before ++ pieces) ++ left))
   pub placed : IsPlaced sign octets (items_of (before ++ pieces)) (items_of left) at
   pub read : IsReadOf words sign (items_of (before ++ pieces)) kept.state.area.present kept lines
+
+-- where an area begins behind pieces, the state laid out among all items is that laid out among those so far
+state_laid : (words : Bool) {sign : SignData} (kind : sign.line_fill ≡ fill_of words) (before behind : List LaidItem) → map meant (before ++ behind) ≡ laid_meanings sign (items_of (before ++ behind)) → present_area sign (map meant before) ≡ []
+    → (state : State) → IsStateOf sign (laid_items (fill_of words) sign (map meaning (items_of before)) (map meaning (items_of before))) state → IsStateOf sign (map meant before) state
+state_laid words {sign} kind before behind laid begins state st =
+    let ms = map meaning (items_of before) in
+    let rest = map meaning (items_of behind) in
+    let front = laid_front sign before behind laid ∙ ap (λ (setting : LineFill). laid_items setting sign (ms ++ rest) ms) kind in
+    subst (λ l. IsStateOf sign l state) (sym front) (state_among (fill_of words) sign ms rest state (ap (present_area sign) (sym front) ∙ begins) st)
 
 -- before the first item
 module _ (words : Bool) {sign : SignData} (kind : sign.line_fill ≡ fill_of words) {octets : List ℕ} {before behind : List LaidItem} {cursor : Cursor} (b : IsBetween sign octets before behind cursor)
@@ -110,8 +119,8 @@ module _ {words : Bool} {sign : SignData} {octets : List ℕ} {before behind : L
   pub placed_in : {octets' : List ℕ} → octets' ≡ octets → IsPlaced sign octets' (items_of done) (items_of so.left) at
   placed_in same = subst (λ o. IsPlaced sign o (items_of done) (items_of so.left) at) (sym same) so.placed
 
-  pub so_read : {octets' : List ℕ} → octets' ≡ octets → (next : NextItem) → IsNextAt sign octets' at next → NextSo next
-  so_read same next is = so_first next (is (items_of done) (items_of so.left) (placed_in same))
+  pub so_read : {octets' : List ℕ} → octets' ≡ octets → (next : NextItem) → IsItemAt octets' at next.len (meant_by next.item) → NextSo next
+  so_read {octets'} same next is = so_first next (item_is sign octets' (items_of done) (items_of so.left) at (placed_in same) next is)
 
   module _ {next : NextItem} (n : NextSo next) where
     placed_here : IsPlaced sign octets (items_of done) (n.piece.item ∷ items_of n.rest) at
@@ -152,25 +161,6 @@ module _ {words : Bool} {sign : SignData} {octets : List ℕ} {before behind : L
           placed = subst (λ l. IsPlaced sign octets l (items_of n.rest) new) items (placed_then new to);
           read = subst (λ l. IsReadOf words sign l kept'.state.area.present kept' lines') items read;
         }
-
-  -- an item that is no setting was met
-  pub met_stays : (state : State) → state ≡ kept.state → SoFar words sign octets before behind at (record kept { state = state }) lines
-  met_stays found same = subst (λ (s : State). SoFar words sign octets before behind at (record kept { state = s }) lines) (sym same) so
-
-  -- a setting is passed
-  pub setting_read : IsSound sign → {octets' : List ℕ} → octets' ≡ octets → (len : ℕ) (state : State) → IsMet sign octets' at kept.state (Setting len) state → SoFar words sign octets before behind (at + len) (record kept { state = state }) lines
-  setting_read sound same len state (tag, puts, is) =
-      let next : NextItem = record { item = known.Tag tag; len = len } in
-      let n = so_read same next is in
-      let it = so_next n in
-      let ms = map meaning (items_of done) in
-      let new : Pass = record kept { state = state } in
-      let (plain, closed, placed, line, unput) = setting_is tag puts.setting in
-      let of = setting_passed words sign ms kept state tag so.read.of puts in
-      let passed = tag_stays words sign ms kept new tag so.read.of (next_fine it) of plain closed in
-      let present : next_group kept.state (Does tag) ≡ kept.state.area.present = ap (λ b. cond b (page_number kept.state.attributes.page_just) kept.state.area.present) placed in
-      let r = subst (λ p. IsReadOf words sign (items_of done) p kept lines) (sym present) so.read in
-      read_on n (at + len) refl plain new lines (step_stays sound r it passed refl)
 
   -- at the end of the string no item is left
   pub no_more : slice_get octets at ≡ None → items_of so.left ≡ []
@@ -220,12 +210,6 @@ module _ {words : Bool} {sign : SignData} {octets : List ℕ} {before behind : L
         counted = subst (λ a. HasCounted a read.lines) (sym whole) (counted_among words sign ms rest ends read.lines counted);
       }
 
--- the first of the items that are left was met, and is no setting
-pub so_met : {words : Bool} {sign : SignData} {octets : List ℕ} {before behind : List LaidItem} {at : ℕ} {kept : Pass} {lines : LineTable} (so : SoFar words sign octets before behind at kept lines)
-    → {octets' : List ℕ} → octets' ≡ octets → (next : NextItem) (state : State) → (state ≡ kept.state) × IsNextAt sign octets' at next
-    → (so' : SoFar words sign octets before behind at (record kept { state = state }) lines) × NextSo so' next
-so_met so same next state met = (met_stays so state met.0, so_read (met_stays so state met.0) same next met.1)
-
 -- pieces that are spelled as the first of them are that one
 one_piece : (pieces left rest : List LaidItem) (item : LaidItem) → pieces ++ left ≡ item ∷ rest → length (spell_of pieces) ≡ length (spelling item.item) → (pieces ≡ item ∷ []) × (left ≡ rest)
 one_piece [] left rest item split long = absurd (omega (arith, long, spelling_some item.item))
@@ -239,72 +223,76 @@ pub record IsReadFrom (words : Bool) (sign : SignData) (octets : List ℕ) (laye
   pub drawn : IsPageDrawn sign octets layer page cursor plane
   pub so : SoFar words sign octets drawn.before drawn.behind at kept lines
 
--- with a setting at an offset a cursor goes behind it, if it stands there (own)
-abbrev pub GoesBehind : Cursor → ℕ → ℕ → State → Cursor → Type 0
-GoesBehind cursor at len state cursor' =
-    ((cursor.at ≡ at) × (cursor' ≡ record { at = cursor.at + len; state = state })) ⊎ ((cursor.at ≡ at → ⊥) × (cursor' ≡ cursor))
+-- behind a setting before which nothing else was read the cursor stands behind it, and else where it was (own)
+abbrev pub GoesOn : Cursor → ℕ → NextItem → State → Cursor → Type 0
+GoesOn cursor at next state cursor' =
+    ((cursor.at ≡ at) × (is_setting (meant_by next.item) ≡ true) × (cursor' ≡ record { at = cursor.at + next.len; state = state })) ⊎ (cursor' ≡ cursor)
 
--- a setting is passed, and the cursor stays, or goes behind it if nothing else was read
+-- it isn't behind what was read
+pub goes_within : {cursor cursor' : Cursor} {at : ℕ} (next : NextItem) {state : State} → GoesOn cursor at next state cursor' → cursor.at ≤ at → (cursor.at ≤ cursor'.at) × (cursor'.at ≤ at + next.len)
+goes_within next goes on = grind (arith)
+
+-- an item is passed that begins no area
 module _ {words : Bool} {sign : SignData} {octets : List ℕ} {layer : Layer} {page : ℕ} {plane : BitPlane} {cursor : Cursor} {at : ℕ} {kept : Pass} {lines : LineTable} (r : IsReadFrom words sign octets layer page plane cursor at kept lines)
-    (sound : IsSound sign) {octets' : List ℕ} (same : octets' ≡ octets) (len : ℕ) (state : State) (met : IsMet sign octets' at kept.state (Setting len) state) where
-  pub set_behind : IsReadFrom words sign octets layer page plane cursor (at + len) (record kept { state = state }) lines
-  set_behind = record { drawn = r.drawn; so = setting_read r.so sound same len state met }
+    {octets' : List ℕ} (same : octets' ≡ octets) (next : NextItem) (is : IsItemAt octets' at next.len (meant_by next.item)) (plain : begins_area (meant_by next.item) ≡ false) (kept' : Pass) (lines' : LineTable)
+    (reads : ReadsOn words sign kept.state.area.present next.item kept lines kept' lines') where
+  pub so_then : SoFar words sign octets r.drawn.before r.drawn.behind (at + next.len) kept' lines'
+  so_then = let n = so_read r.so same next is in read_on r.so n (at + next.len) refl plain kept' lines' (reads (items_of (r.drawn.before ++ r.so.pieces)) n.piece.item r.so.read (so_next r.so n))
 
-  pub set_before : cursor.at ≡ at → kept.state ≡ cursor.state → IsReadFrom words sign octets layer page plane (record { at = cursor.at + len; state = state }) (at + len) (record kept { state = state }) lines
-  set_before here stays =
-      let met' = subst (λ (x : List ℕ × ℕ × State). IsMet sign x.0 x.1 x.2 (Setting len) state) (λ i. (same i, sym here i, stays i)) met in
-      let s = setting_drawn len state met' r.drawn.up_to in
-      let so = setting_read r.so sound same len state met in
-      let area = ap begins_area s.means ∙ (setting_is s.tag s.setting).0 in
-      let front = r.drawn.before ++ s.item ∷ [] in
-      let page = r.drawn.up_to.between in
-      let long : length (spell_of so.pieces) ≡ length (spelling s.item.item) = omega (arith, so.placed.place, here, page.placed.place, ap length (spell_of-append r.drawn.before so.pieces), length-append (spell_of r.drawn.before) (spell_of so.pieces)) in
-      let (one, left) = one_piece so.pieces so.left s.rest s.item (sym so.split ∙ s.split) long in
+  abbrev pub item_read : IsReadFrom words sign octets layer page plane cursor (at + next.len) kept' lines'
+  item_read = record { drawn = r.drawn; so = so_then }
+
+  -- with a setting, where nothing else was read, the cursor goes behind it
+  pub set_before : IsSound sign → sign.line_fill ≡ fill_of words → cursor.at ≡ at → is_setting (meant_by next.item) ≡ true
+      → IsReadFrom words sign octets layer page plane (record { at = cursor.at + next.len; state = kept'.state }) (at + next.len) kept' lines'
+  set_before sound kind here setting =
+      let new : Cursor = record { at = cursor.at + next.len; state = kept'.state } in
+      let u = r.drawn.up_to in
+      let (item, rest, split, raw) = first_piece r.drawn.behind next (item_is sign octets (items_of r.drawn.before) (items_of r.drawn.behind) cursor.at u.between.placed next (subst (λ (x : List ℕ × ℕ). IsItemAt x.0 x.1 next.len (meant_by next.item)) (λ i. (same i, sym here i)) is)) in
+      let here' = subst (λ l. IsDrawnUpTo sign octets layer page r.drawn.before l cursor plane) split u in
+      let (placed, turns, puts) = setting_is (meant_by next.item) setting in
+      let read = read_unplaced here'.between placed raw in
+      let to = ap (λ n. cursor.at + n) read.len in
+      let so = so_then in
+      let front = r.drawn.before ++ item ∷ [] in
+      let long : length (spell_of so.pieces) ≡ length (spelling item.item) = omega (arith, so.placed.place, here, u.between.placed.place, read.len, ap length (spell_of-append r.drawn.before so.pieces), length-append (spell_of r.drawn.before) (spell_of so.pieces)) in
+      let (one, left) = one_piece so.pieces so.left rest item (sym so.split ∙ split) long in
       let all : r.drawn.before ++ so.pieces ≡ front ++ [] = ap (λ l. r.drawn.before ++ l) one ∙ sym (append-nil front) in
+      let with = map_split r.drawn.before [] item (meant_by next.item) read.meant in
+      let begins = ap (present_area sign) with ∙ present_area-nothing sign (map meant r.drawn.before) (meant_by next.item) plain (puts sign.defaults (standing sign (map meant r.drawn.before))) ∙ r.drawn.begins in
+      let laid = subst (λ (x : List LaidItem × List LaidItem). map meant (x.0 ++ x.1) ≡ laid_meanings sign (items_of (x.0 ++ x.1))) (λ i. (all i, left i)) so.laid in
+      let now : IsReadOf words sign (items_of (front ++ [])) kept'.state.area.present kept' lines' = subst (λ l. IsReadOf words sign (items_of l) kept'.state.area.present kept' lines') all so.read in
+      let st : IsStateOf sign (map meant front) kept'.state = state_laid words kind front rest (subst (λ l. map meant (l ++ rest) ≡ laid_meanings sign (items_of (l ++ rest))) (append-nil front) laid) begins kept'.state
+      (subst (λ l. IsStateOf sign (laid_items (fill_of words) sign (map meaning (items_of l)) (map meaning (items_of l))) kept'.state) (append-nil front) (read_state sound now)) in
+      let between = between_more sign octets r.drawn.before rest item cursor here'.between new to (subst (λ l. IsStateOf sign l kept'.state) (map-append meant r.drawn.before (item ∷ [])) st) in
       record {
         drawn = record {
           before = front;
-          behind = s.rest;
-          up_to = s.up_to;
-          begins = ap (present_area sign) (map_split r.drawn.before [] s.item (Does s.tag) s.means)
-              ∙ present_area-nothing sign (map meant r.drawn.before) (Does s.tag) (setting_is s.tag s.setting).0 ((setting_is s.tag s.setting).4 sign.defaults (standing sign (map meant r.drawn.before)))
-              ∙ r.drawn.begins;
+          behind = rest;
+          up_to = drawn_more here' (meant_by next.item) read.meant turns new plane between (same_drawn sign layer (map meant r.drawn.before) (map meant rest) (meant_by next.item) plane turns (inl (puts sign.defaults (standing sign (map meant r.drawn.before)))));
+          begins = begins;
         };
         so = record {
           pieces = [];
-          left = s.rest;
+          left = rest;
           split = refl;
           plain = All-nil (λ item. begins_area (meant item) ≡ false);
           same_area = ap (λ l. (standing sign (map meaning (items_of l))).area) (sym all) ∙ so.same_area
-              ∙ sym (ap (λ l. (standing sign l).area) (map-append meant r.drawn.before (s.item ∷ [])) ∙ same_area sign (map meant r.drawn.before) (meant s.item) area);
-          laid = subst (λ (x : List LaidItem × List LaidItem). map meant (x.0 ++ x.1) ≡ laid_meanings sign (items_of (x.0 ++ x.1))) (λ i. (all i, left i)) so.laid;
-          placed = subst (λ (x : List LaidItem × List LaidItem). IsPlaced sign octets (items_of x.0) (items_of x.1) (at + len)) (λ i. (all i, left i)) so.placed;
-          read = subst (λ l. IsReadOf words sign (items_of l) state.area.present (record kept { state = state }) lines) all so.read;
+              ∙ sym (ap (λ l. (standing sign l).area) (map-append meant r.drawn.before (item ∷ [])) ∙ same_area sign (map meant r.drawn.before) (meant item) (ap begins_area read.meant ∙ plain));
+          laid = laid;
+          placed = subst (λ (x : List LaidItem × List LaidItem). IsPlaced sign octets (items_of x.0) (items_of x.1) (at + next.len)) (λ i. (all i, left i)) so.placed;
+          read = now;
         };
       }
 
-  -- whichever it does
-  pub set_passed : (cursor' : Cursor) → (cursor.at ≡ at → kept.state ≡ cursor.state) → GoesBehind cursor at len state cursor' → IsReadFrom words sign octets layer page plane cursor' (at + len) (record kept { state = state }) lines
-  set_passed cursor' stays (inl (here, is)) = subst (λ c. IsReadFrom words sign octets layer page plane c (at + len) (record kept { state = state }) lines) (sym is) (set_before here (stays here))
-  set_passed cursor' stays (inr (further, is)) = subst (λ c. IsReadFrom words sign octets layer page plane c (at + len) (record kept { state = state }) lines) (sym is) set_behind
-
--- the cursor isn't behind what was read
-pub moved_on : (cursor cursor' : Cursor) (at len : ℕ) (state : State) → GoesBehind cursor at len state cursor' → cursor.at ≤ at → 1 ≤ len
-    → (cursor'.at ≡ at + len → state ≡ cursor'.state) × (cursor.at ≤ cursor'.at) × (cursor'.at ≤ at + len)
-moved_on cursor cursor' at len state goes on some = grind (arith)
+  pub passed : IsSound sign → sign.line_fill ≡ fill_of words → (cursor' : Cursor) → GoesOn cursor at next kept'.state cursor' → IsReadFrom words sign octets layer page plane cursor' (at + next.len) kept' lines'
+  passed sound kind cursor' (inl (here, setting, is)) = subst (λ c. IsReadFrom words sign octets layer page plane c (at + next.len) kept' lines') (sym is) (set_before sound kind here setting)
+  passed sound kind cursor' (inr is) = subst (λ c. IsReadFrom words sign octets layer page plane c (at + next.len) kept' lines') (sym is) item_read
 
 -- what was read is not past the end
 pub read_within : {words : Bool} {sign : SignData} {octets : List ℕ} {layer : Layer} {page : ℕ} {plane : BitPlane} {cursor : Cursor} {at : ℕ} {kept : Pass} {lines : LineTable} → IsReadFrom words sign octets layer page plane cursor at kept lines
     → (at ≤ length octets) × (length octets < 2 ^ 32)
 read_within {sign = sign} {octets} {at = at} r = (within sign octets _ _ at r.so.placed, r.so.placed.accepted.short)
-
--- an item is passed that begins no area
-pub item_read : {words : Bool} {sign : SignData} {octets : List ℕ} {layer : Layer} {page : ℕ} {plane : BitPlane} {cursor : Cursor} {at : ℕ} {kept : Pass} {lines : LineTable} → IsReadFrom words sign octets layer page plane cursor at kept lines
-    → {octets' : List ℕ} → octets' ≡ octets → (next : NextItem) (state : State) → (state ≡ kept.state) × IsNextAt sign octets' at next → begins_area (meant_by next.item) ≡ false → (kept' : Pass) (lines' : LineTable)
-    → ReadsOn words sign state.area.present next.item (record kept { state = state }) lines kept' lines' → IsReadFrom words sign octets layer page plane cursor (at + next.len) kept' lines'
-item_read {at = at} r same next state met plain kept' lines' reads =
-    let (so, n) = so_met r.so same next state met in
-    record { drawn = r.drawn; so = read_on so n (at + next.len) refl plain kept' lines' (reads (items_of (r.drawn.before ++ so.pieces)) n.piece.item so.read (so_next so n)) }
 
 -- the reading of an area is over, and this was read of the item that ends it
 pub record IsReadTo (words : Bool) (sign : SignData) (octets : List ℕ) (layer : Layer) (page : ℕ) (plane : BitPlane) (cursor : Cursor) (at : ℕ) (kept : Pass) (lines : LineTable) (next : Option NextItem) : Type 0 where
@@ -316,12 +304,11 @@ module _ {words : Bool} {sign : SignData} {octets : List ℕ} {layer : Layer} {p
   pub ends_string : slice_get octets at ≡ None → IsReadTo words sign octets layer page plane cursor at kept lines None
   ends_string none = let left = no_more r.so none in record { from = r; first = left; ends = none_ends r.so left }
 
-  pub ends_at : {octets' : List ℕ} → octets' ≡ octets → (next : NextItem) (state : State) → (state ≡ kept.state) × IsNextAt sign octets' at next → begins_area (meant_by next.item) ≡ true
-      → IsReadTo words sign octets layer page plane cursor at (record kept { state = state }) lines (Some next)
-  ends_at same next state met begins =
-      let so = met_stays r.so state met.0 in
-      let first = met.1 (items_of (r.drawn.before ++ so.pieces)) (items_of so.left) (placed_in so same) in
-      record { from = record { drawn = r.drawn; so = so }; first = first; ends = area_ended so next first begins }
+  pub ends_at : {octets' : List ℕ} → octets' ≡ octets → (next : NextItem) → IsItemAt octets' at next.len (meant_by next.item) → begins_area (meant_by next.item) ≡ true
+      → IsReadTo words sign octets layer page plane cursor at kept lines (Some next)
+  ends_at {octets'} same next is begins =
+      let first = item_is sign octets' (items_of (r.drawn.before ++ r.so.pieces)) (items_of r.so.left) at (placed_in r.so same) next is in
+      record { from = r; first = first; ends = area_ended r.so next first begins }
 
 -- and its items are drawn on from there
 pub area_begins : {words : Bool} {sign : SignData} {octets : List ℕ} {layer : Layer} {page : ℕ} {plane : BitPlane} {cursor : Cursor} {at : ℕ} {kept : Pass} {lines : LineTable} (read : AreaLines)
@@ -350,7 +337,7 @@ module _ {sign : SignData} (sound : IsSound sign) {octets : List ℕ} (short : l
   octet_passed : (at width count : ℕ) → SoFar false sign octets before behind at (longer kept width count) lines → (octet : ℕ) → slice_get octets at ≡ Some octet → IsPlain octet
       → (w : ℕ) → Some w ≡ width_in sign kept.state.attributes.font.number octet → w ≤ 64 → SoFar false sign octets before behind (at + 1) (longer kept (width + (gap + w)) (count + 1)) lines
   octet_passed at width count so octet here plain w w_is small =
-      let n = so_read so refl (record { item = known.Char octet; len = 1 }) (octet_next sign octets at octet short here plain) in
+      let n = so_read so refl (record { item = known.Char octet; len = 1 }) (octet_item octets at octet short here plain) in
       let it = so_next so n in
       let items = map meaning (items_of (before ++ so.pieces)) in
       let of = so.read.of in

@@ -1,6 +1,6 @@
 -- What begins at an offset, whose first octet was read: how it is refused, and what is judged and read behind it.
-use Rattle.multi_layout.proofs.Common.{◌≡◌, ℕ, ◌+◌, ◌-◌, ◌^◌, ◌<◌, ◌≤◌, ◌*◌, inl, inr, List, [], ◌∷◌, ◌++◌, length, map, slice_get, Option, Some, None, refl, sym, ap, subst, ◌∙◌, arith, Bool, rules, slice_get_within, Counted, RisesBetween, charged, IsPlain, Token, single_token, spelling_some, SignData, SyntaxError, code_of, IsFaultAt, IsItemAt, too_big, Meaning, Shows, meaning, offence, IsVerdict, pages_of, offence-faulty, IsTold, IsAt, at_end, Pass, IsPassOf, attributes_of, standing, cycle, ended_times}
-use Rattle.multi_token.specs.declared.token.Kind.TheVariants as kinds
+use Rattle.multi_layout.proofs.Common.{◌≡◌, ℕ, ◌+◌, ◌-◌, ◌^◌, ◌<◌, ◌≤◌, ◌*◌, inl, inr, List, [], ◌∷◌, ◌++◌, length, map, slice_get, Option, Some, None, refl, sym, ap, subst, ◌∙◌, arith, Bool, rules, slice_get_within, Counted, RisesBetween, charged, IsPlain, spelling_some, SignData, SyntaxError, code_of, IsFaultAt, IsItemAt, too_big, Meaning, Shows, meaning, offence, IsVerdict, pages_of, offence-faulty, IsTold, IsAt, at_end, Pass, IsPassOf, attributes_of, standing, cycle, ended_times}
+use Rattle.multi_layout.proofs.WalkLemmas.{octet_item}
 use Rattle.multi_meaning.specs.Verdict.{Refused}
 use Rattle.multi_layout.specs.kept.Told.{IsRefused}
 use Rattle.multi_judge.specs.Judging.{IsBehind, ReadSoFar}
@@ -55,9 +55,7 @@ module _ (sign : SignData) (octets : List ℕ) (at first : ℕ) (IsKept : List M
   -- an octet that stands for itself, judged in two steps
   module _ (plain : IsPlain first) (judged : Counted) (step : judged ≡ charged source 2) where
     itself : IsItemAt octets at 1 (Shows first)
-    itself =
-        let token : Token = record { at = at; len = 1; kind = kinds.Char first } in
-        (token, refl, refl, single_token octets at first (omega (arith, short)) here plain, refl)
+    itself = octet_item octets at first (omega (arith, short)) here plain
 
     rises_two : RisesBetween source judged 0 8
     rises_two = (2, omega arith, omega arith, step)

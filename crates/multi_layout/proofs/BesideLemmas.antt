@@ -1,23 +1,26 @@
 -- A character stands beside the one before it, where both have the same attributes.
-use Rattle.multi_layout.proofs.Common.{◌≡◌, ℕ, ◌+◌, ◌-◌, ◌^◌, ◌<◌, ◌≤◌, Bool, true, false, cond, ◌==◌, List, [], ◌∷◌, ◌++◌, length, take, map, Some, None, slice_get, refl, sym, ap, subst, ◌∙◌, arith, append_assoc, rules, if◌then◌else◌, count_by, option_map, unwrap_or, eq-eqb, IsPlain, line_number, page_number, BitPlane, Off, SignData, CellData, cell_in, cell_numbered, Place, Glyph, Put, Spot, Standing, group_of, in_area, in_group, is_break, is_glyph, lines_of, segment, spots, standing, glyph_width, height_of, width_of, Meaning, Shows, unsized_offence, place_of, standing_push, Attributes, Cursor, NextItem, Layer, State, AreaLines, HasCounted, IsAreaDrawn, IsNextDrawn, IsRunDrawn, StandsAt, IsBetween, meant, IsBehindCharacter, lengthened, line_in_force, IsStateOf, PlacesCharacter, attributes_of, area_sum, group_lines, present_area, unsized-undefined, state_beside}
+use Rattle.multi_layout.proofs.Common.{not-false, ◌*◌, ◌⊎◌, inl, inr, IsBelow, below_more, state-limits, area_of, below_more, IsBelow, state-limits, IfSome, not, spelling_some, IsBeside, CountedLine, meant_by, Option, ◌≡◌, ℕ, ◌+◌, ◌-◌, ◌^◌, ◌≤◌, Bool, true, false, cond, ◌==◌, List, [], ◌∷◌, ◌++◌, length, take, map, Some, None, refl, sym, ap, subst, ◌∙◌, arith, append_assoc, rules, if◌then◌else◌, count_by, option_map, unwrap_or, eq-eqb, line_number, page_number, BitPlane, SignData, CellData, cell_in, cell_numbered, Place, Glyph, Put, Spot, Standing, group_of, in_area, in_group, is_break, is_glyph, lines_of, segment, spots, standing, glyph_width, height_of, width_of, Meaning, Shows, unsized_offence, place_of, standing_push, Attributes, Cursor, NextItem, Layer, State, AreaLines, HasCounted, IsAreaDrawn, IsNextDrawn, IsRunDrawn, StandsAt, IsBetween, meant, IsBehindCharacter, lengthened, line_in_force, IsStateOf, PlacesCharacter, attributes_of, area_sum, group_lines, unsized-undefined, state_beside}
+use Rattle.multi_meaning.specs.Offence.{conflicts}
+use Rattle.multi_judge.specs.Adding.{AddsCharacter, character_of}
+use Rattle.multi_judge.proofs.LimitLemmas.{behind_added}
+use Rattle.multi_judge.proofs.PlacingLemmas.{character-accepted, character-free}
 use Rattle.std.specs.Prelude.{slice_index_or}
 use Rattle.std.proofs.lemmas.List.Sums.{sum_by_push}
 use Rattle.multi_tag.specs.declared.just.LineJust.{LineJust}
 use Rattle.multi_tag.specs.declared.just.LineJust.TheVariants.{Full}
 use Rattle.sign_font.specs.Cell.{SizedCell}
-use Rattle.multi_meaning.specs.Address.{line_before}
+use Rattle.multi_meaning.specs.Address.{area_of, line_before}
 use Rattle.multi_meaning.specs.Place.{spread, start}
 use Rattle.multi_meaning.proofs.GroupLemmas.{glyph_put, own_group, filter_yes}
 use Rattle.multi_meaning.proofs.StandingLemmas.{width_push, spots_more}
 use Rattle.multi_meaning.proofs.WordLemmas.{last_or_push}
 use Rattle.multi_judge.specs.declared.item.KnownItem.TheVariants as known
 use Rattle.multi_layout.specs.kept.RunDrawing.{DrawsCharacter, NextStandsAt}
-use Rattle.multi_layout.proofs.AreaDrawLemmas.{area_more, next_here}
+use Rattle.multi_layout.proofs.AreaDrawLemmas.{area_more}
 use Rattle.multi_layout.proofs.DrawLemmas.{glyph_found, stands_at}
 use Rattle.multi_judge.proofs.LineSumLemmas.{present_push}
-use Rattle.multi_layout.proofs.PieceLemmas.{read_unfilled}
-use Rattle.multi_judge.proofs.RunLemmas.{average_same}
-use Rattle.multi_layout.proofs.WalkLemmas.{between_more, map_split, never_offends, octet_next}
+use Rattle.multi_judge.proofs.RunLemmas.{behind_stays, average_same}
+use Rattle.multi_layout.proofs.WalkLemmas.{few_between, between_more, map_split, never_offends}
 
 -- a value that is only there on a full line
 not_full : (b : Bool) (n : ℕ) → b ≡ false → cond b n 0 ≡ 0
@@ -127,81 +130,119 @@ beside_stands sign items state st number cell found all place gap apart gap_is s
 
 -- ONE MORE CHARACTER
 
-module _ {sign : SignData} {octets : List ℕ} {layer : Layer} {page : ℕ} {read : AreaLines} {next : NextItem} {cursor : Cursor} {plane : BitPlane} (n : IsNextDrawn sign octets layer page read next cursor plane)
-    (number : ℕ) (shows : meant n.item ≡ Shows number) (cursor' : Cursor) (between : IsBetween sign octets (n.before ++ n.item ∷ []) n.rest cursor') where
-  with : map meant (n.before ++ n.item ∷ []) ≡ map meant n.before ++ Shows number ∷ []
+module _ {sign : SignData} {octets : List ℕ} {layer : Layer} {page : ℕ} {read : AreaLines} {next : NextItem} {beside : Option Place} {cursor : Cursor} {plane : BitPlane}
+    (n : IsNextDrawn sign octets layer page read next beside cursor plane) {number : ℕ} (char : next.item ≡ known.Char number) where
+  abbrev items : List Meaning
+  items = map meant n.before
+
+  pub shows : meant n.item ≡ Shows number
+  shows = n.read_is.meant ∙ ap meant_by char
+
+  with : map meant (n.before ++ n.item ∷ []) ≡ items ++ Shows number ∷ []
   with = map_split n.before [] n.item (Shows number) shows
 
-  -- it leaves the attributes
-  pub same_attributes : cursor'.state.attributes ≡ cursor.state.attributes
-  same_attributes =
-      between.state_is.attributes ∙ ap (λ ms. attributes_of (standing sign ms)) with ∙ ap attributes_of (same_standing sign (map meant n.before) number) ∙ sym n.up_to.between.state_is.attributes
-
-  -- and stands at its place
-  pub next_stands_at : (cell : SizedCell) → cell_in sign cursor.state.attributes.font.number number ≡ Some cell → (place : Place)
-      → PlacesCharacter cursor.state.attributes cursor'.state.area (group_lines (page_number cursor.state.attributes.page_just) read.lines) cell.width place
-      → StandsAt sign (map meant n.before) number (map meant n.rest) place
-  next_stands_at cell found place placed =
-      let items = map meant n.before in
-      let b = n.up_to.between in
-      let lines = subst (λ (ms : List Meaning). HasCounted (in_area (standing sign items).area (spots sign ms)) read.lines) (map_split n.before n.rest n.item (Shows number) shows) n.left.counted in
-      stands_at sign items cursor.state b.state_is number cell found (map meant n.rest) read.lines lines place cursor'.state.area (between.state_is.area ∙ ap (λ ms. area_sum (present_area sign ms)) with) placed
-      (ap (unsized_offence sign items) (sym shows) ∙ never_offends sign octets n.before n.rest n.item cursor b)
-
--- it is drawn, and the next stands beside it where the line isn't full
-module _ {sign : SignData} {octets : List ℕ} {layer : Layer} {page : ℕ} {read : AreaLines} {next : NextItem} {cursor : Cursor} {plane : BitPlane} (n : IsNextDrawn sign octets layer page read next cursor plane)
-    (number : ℕ) (shows : meant n.item ≡ Shows number) (cursor' : Cursor) (between : IsBetween sign octets (n.before ++ n.item ∷ []) n.rest cursor') (to : cursor'.at ≡ cursor.at + next.len)
-    (cell : SizedCell) (found : cell_in sign cursor.state.attributes.font.number number ≡ Some cell) (place : Place) (stands : StandsAt sign (map meant n.before) number (map meant n.rest) place)
-    (plane' : BitPlane) (put : DrawsCharacter sign layer cursor.state.attributes cell place plane plane') where
-  abbrev pub character_drawn : IsAreaDrawn sign octets layer page read cursor' plane'
-  character_drawn = area_more n (Shows number) shows refl cursor' plane' between to (put (map meant n.before) (map meant n.rest) cursor.state number n.up_to.between.state_is refl found stands)
-
-  pub character_beside : (gap : ℕ) → (cursor.state.attributes.line_just ≡ Full → ⊥) → gap ≡ unwrap_or cursor.state.attributes.spacing cursor.state.attributes.font.char_spacing
-      → IsRunDrawn sign octets layer page read (record { column = place.column + (cell.width + gap); row = place.row }) cursor' plane'
-  character_beside gap apart gap_is =
-      let next_place : Place = record { column = place.column + (cell.width + gap); row = place.row } in
-      let all : map meant ((n.before ++ n.item ∷ []) ++ n.rest) ≡ map meant n.before ++ Shows number ∷ map meant n.rest = ap (map meant) (append_assoc n.before (n.item ∷ []) n.rest) ∙ map_split n.before n.rest n.item (Shows number) shows in
-      record {
-        so = character_drawn;
-        stands = subst (λ ms. NextStandsAt sign ms (map meant ((n.before ++ n.item ∷ []) ++ n.rest)) next_place) (sym (map_split n.before [] n.item (Shows number) shows))
-            (subst (λ ms. NextStandsAt sign (map meant n.before ++ Shows number ∷ []) ms next_place) (sym all)
-            (beside_stands sign (map meant n.before) cursor.state n.up_to.between.state_is number cell found (map meant n.before ++ Shows number ∷ map meant n.rest) place gap apart gap_is stands));
-      }
-
-pub run_in : {sign : SignData} {octets octets' : List ℕ} {layer : Layer} {page : ℕ} {read : AreaLines} {place : Place} {cursor : Cursor} {plane : BitPlane} → octets' ≡ octets
-    → IsRunDrawn sign octets layer page read place cursor plane → IsRunDrawn sign octets' layer page read place cursor plane
-run_in {sign} {octets} {octets'} {layer} {page} {read} {place} {cursor} {plane} same r = subst (λ o. IsRunDrawn sign o layer page read place cursor plane) (sym same) r
-
--- ONE MORE OF A RUN
-
-module _ {sign : SignData} {octets : List ℕ} {layer : Layer} {page : ℕ} {read : AreaLines} {place : Place} {cursor : Cursor} {plane : BitPlane} (r : IsRunDrawn sign octets layer page read place cursor plane)
-    (before_end : cursor.at < read.end) (off : sign.line_fill ≡ Off) (octet : ℕ) (room : length octets < 2 ^ 63) (here : slice_get octets cursor.at ≡ Some octet) (plain : IsPlain octet) where
-  -- it is the next item
-  one : (n : IsNextDrawn sign octets layer page read (record { item = known.Char octet; len = 1 }) cursor plane) × (n.before ≡ r.so.before) × (r.so.behind ≡ n.item ∷ n.rest)
-  one =
-      let next : NextItem = record { item = known.Char octet; len = 1 } in
-      next_here r.so before_end next next (octet_next sign octets cursor.at octet room here plain)
-      (λ before rest item b counted seen. read_unfilled b off seen)
-
-  fine : unsized_offence sign (map meant one.0.before) (Shows octet) ≡ None
-  fine = ap (unsized_offence sign (map meant one.0.before)) (sym one.0.read_is.meant) ∙ never_offends sign octets one.0.before one.0.rest one.0.item cursor one.0.up_to.between
+  fine : unsized_offence sign items (Shows number) ≡ None
+  fine = ap (unsized_offence sign items) (sym shows) ∙ never_offends sign octets n.before n.rest n.item cursor n.up_to.between
 
   -- it has a cell
-  pub has_cell : cell_in sign cursor.state.attributes.font.number octet ≡ None → ⊥
-  has_cell none = first_of (search (rules, fine, one, unsized-undefined), grind (arith, fine, one, unsized-undefined))
+  pub has_cell : cell_in sign cursor.state.attributes.font.number number ≡ None → ⊥
+  has_cell none =
+      let wrong : ◌≡◌ {A = Option ℕ} (Some 7) None = sym (unsized-undefined sign items cursor.state n.up_to.between.state_is number none) ∙ fine in
+      cc
 
-  -- it is drawn, and lengthens the run
-  pub run_more : IsBehindCharacter cursor.state → (cursor.state.attributes.line_just ≡ Full → ⊥) → (gap : ℕ) → gap ≡ unwrap_or cursor.state.attributes.spacing cursor.state.attributes.font.char_spacing → gap ≤ 255
-      → (cell : SizedCell) → cell_in sign cursor.state.attributes.font.number octet ≡ Some cell → cell.width ≤ 64 → (plane' : BitPlane) → DrawsCharacter sign layer cursor.state.attributes cell place plane plane'
-      → IsRunDrawn sign octets layer page read (record { column = place.column + (cell.width + gap); row = place.row })
-      (record { at = cursor.at + 1; state = lengthened ((line_in_force cursor.state).part.width + (gap + cell.width)) ((line_in_force cursor.state).part.count + 1) cursor.state }) plane'
-  run_more behind apart gap gap_is narrow cell found small plane' put =
-      let (n, same, split) = one in
-      let before = map meant n.before in
-      let cursor' : Cursor = record { at = cursor.at + 1; state = lengthened ((line_in_force cursor.state).part.width + (gap + cell.width)) ((line_in_force cursor.state).part.count + 1) cursor.state } in
-      let shows : meant n.item ≡ Shows octet = n.read_is.meant in
-      let st = state_beside cursor.state behind gap gap_is cell sign before n.up_to.between.state_is octet found narrow small fine in
-      let between = between_more sign octets n.before n.rest n.item cursor n.up_to.between cursor' (ap (λ k. cursor.at + k) n.read_is.len) (subst (λ (m : Meaning). IsStateOf sign (before ++ m ∷ []) cursor'.state) (sym shows) st) in
-      let all : map meant (r.so.before ++ r.so.behind) ≡ before ++ Shows octet ∷ map meant n.rest = (λ i. map meant (sym same i ++ split i)) ∙ map_split n.before n.rest n.item (Shows octet) shows in
-      let here : NextStandsAt sign before (before ++ Shows octet ∷ map meant n.rest) place = subst (λ l. NextStandsAt sign (map meant l) (before ++ Shows octet ∷ map meant n.rest) place) (sym same) (subst (λ ms. NextStandsAt sign (map meant r.so.before) ms place) all r.stands) in
-      character_beside n octet shows cursor' between refl cell found place (λ c numbered. sym (here (record { at = standing sign before; put = Glyph c }) refl refl)) plane' put gap apart gap_is
+  -- where this is its cell, and how far the next one stands from it
+  module _ {cell : SizedCell} (found : cell_in sign cursor.state.attributes.font.number number ≡ Some cell) (small : cell.width ≤ 64) {gap : ℕ} (gap_is : gap ≡ unwrap_or cursor.state.attributes.spacing cursor.state.attributes.font.char_spacing) (narrow : gap ≤ 255)
+      {advance : ℕ} (advance_is : advance ≡ cell.width + gap) where
+    -- it is put as a new one
+    pub record IsAdded (new : State) : Type 0 where
+      pub width : ℕ
+      pub wide : width ≡ cell.width
+      pub free : Bool
+      pub clash : (before : List Spot) (s : Spot) → cursor.state.area ≡ area_sum (area_of s before) → is_glyph s ≡ true → s.at.page_just ≡ cursor.state.attributes.page_just → s.at.line_just ≡ cursor.state.attributes.line_just → not free ≡ conflicts before s
+      pub added : free ≡ true → AddsCharacter cursor.state width new
+
+    -- it stands at this place, and this is the state behind it
+    pub record IsPut (place : Place) (new : State) : Type 0 where
+      pub state_is : IsStateOf sign (items ++ Shows number ∷ []) new
+      pub character : IsBehindCharacter new
+      pub stands : StandsAt sign items number (map meant n.rest) place
+      pub low : place.column ≤ 2 ^ 62 + 510 * cursor.at
+
+    module _ {new : State} (a : IsAdded new) where
+      adds : AddsCharacter cursor.state a.width new
+      adds = a.added (not-false a.free (character-free sign items cursor.state n.up_to.between.state_is number cell found (not a.free) a.clash fine))
+
+      state_added : IsStateOf sign (items ++ Shows number ∷ []) new
+      state_added =
+          let st = n.up_to.between.state_is in
+          state-limits sign (items ++ Shows number ∷ []) cursor.state new adds.same
+          (character-accepted sign items cursor.state st number cell found (character_of cursor.state.attributes a.width) refl refl a.wide refl new.area adds.sum (adds.grows (1024 * length items) st.below) fine)
+
+      pub low_added : IsBelow (2 ^ 43) new.area
+      low_added = below_more (1024 * length items + 1024) (2 ^ 43) new.area (omega (arith, few_between sign octets n.before (n.item ∷ n.rest) cursor n.up_to.between)) (adds.grows (1024 * length items) n.up_to.between.state_is.below)
+
+      added_put : {lines : List CountedLine} → lines ≡ group_lines (page_number new.attributes.page_just) read.lines → {place : Place} → PlacesCharacter new.attributes new.area lines a.width place → place.column ≤ 2 ^ 62 → IsPut place new
+      added_put {lines} lines_is {place} placed low =
+          let counted = subst (λ (ms : List Meaning). HasCounted (in_area (standing sign items).area (spots sign ms)) read.lines) (map_split n.before n.rest n.item (Shows number) shows) n.left.counted in
+          let same : new.attributes ≡ cursor.state.attributes = ap (λ (s : State). s.attributes) adds.same in
+          record {
+            state_is = state_added;
+            character = behind_added cursor.state new a.width adds;
+            stands = stands_at sign items cursor.state n.up_to.between.state_is number cell found (map meant n.rest) read.lines counted place new.area state_added.area
+                (subst (λ (x : Attributes × ℕ). PlacesCharacter x.0 new.area (group_lines (page_number x.0.page_just) read.lines) x.1 place) (λ i. (same i, a.wide i)) (subst (λ l. PlacesCharacter new.attributes new.area l a.width place) lines_is placed)) fine;
+            low = omega (arith, low);
+          }
+
+    -- beside the one before it, or by the lines of its area
+    abbrev pub IsPutSo : Place → State → Type 0
+    IsPutSo place new =
+        ((beside ≡ Some place) × (new ≡ lengthened ((line_in_force cursor.state).part.width + advance) ((line_in_force cursor.state).part.count + 1) cursor.state))
+        ⊎ ((a : IsAdded new) × (lines : List CountedLine) × (lines ≡ group_lines (page_number new.attributes.page_just) read.lines) × PlacesCharacter new.attributes new.area lines a.width place × (place.column ≤ 2 ^ 62))
+
+    is_put : {place : Place} {new : State} → IsPutSo place new → IsPut place new
+    is_put {place} {new} (inl (given, is)) =
+        let b : IsBeside sign n.before (n.item ∷ n.rest) cursor place = subst (λ o. IfSome o (IsBeside sign n.before (n.item ∷ n.rest) cursor)) given n.stands in
+        let longer : gap + cell.width ≡ advance = omega (arith, advance_is) in
+        subst (IsPut place) (sym is) (record {
+          state_is = subst (λ k. IsStateOf sign (items ++ Shows number ∷ []) (lengthened ((line_in_force cursor.state).part.width + k) ((line_in_force cursor.state).part.count + 1) cursor.state)) longer
+              (state_beside cursor.state b.character gap gap_is cell sign items n.up_to.between.state_is number found narrow small fine);
+          character = behind_stays cursor.state _ _ b.character;
+          stands = λ c numbered. sym (subst (λ ms. NextStandsAt sign items ms place) (map_split n.before n.rest n.item (Shows number) shows) b.stands (record { at = standing sign items; put = Glyph c }) refl refl);
+          low = b.low;
+        })
+    is_put (inr (a, counted, lines_is, placed, low)) = added_put a lines_is placed low
+
+    -- so it is drawn
+    module _ (place : Place) (new : State) (so : IsPutSo place new) where
+      pub is : IsPut place new
+      is = is_put so
+
+      abbrev cursor' : Cursor
+      cursor' = record { at = cursor.at + next.len; state = new }
+
+      pub between : IsBetween sign octets (n.before ++ n.item ∷ []) n.rest cursor'
+      between = between_more sign octets n.before n.rest n.item cursor n.up_to.between cursor' (ap (λ k. cursor.at + k) n.read_is.len) (subst (λ (m : Meaning). IsStateOf sign (items ++ m ∷ []) new) (sym shows) is.state_is)
+
+      pub same : new.attributes ≡ cursor.state.attributes
+      same = is.state_is.attributes ∙ ap attributes_of (same_standing sign items number) ∙ sym n.up_to.between.state_is.attributes
+
+      module _ {plane' : BitPlane} (put : DrawsCharacter sign layer new.attributes cell place plane plane') where
+        abbrev pub character_drawn : IsAreaDrawn sign octets layer page read cursor' plane'
+        character_drawn = area_more n (Shows number) shows refl cursor' plane' between refl
+            (subst (λ a. DrawsCharacter sign layer a cell place plane plane') same put items (map meant n.rest) cursor.state number n.up_to.between.state_is refl found is.stands)
+
+        -- and the next stands beside it where the line isn't full
+        pub drawn_beside : (new.attributes.line_just ≡ Full → ⊥) → IsRunDrawn sign octets layer page read (Some (record { column = place.column + advance; row = place.row })) cursor' plane'
+        drawn_beside apart =
+            let place' : Place = record { column = place.column + advance; row = place.row } in
+            let all : map meant ((n.before ++ n.item ∷ []) ++ n.rest) ≡ items ++ Shows number ∷ map meant n.rest = ap (map meant) (append_assoc n.before (n.item ∷ []) n.rest) ∙ map_split n.before n.rest n.item (Shows number) shows in
+            let there = beside_stands sign items cursor.state n.up_to.between.state_is number cell found (items ++ Shows number ∷ map meant n.rest) place gap (λ full. apart (ap (λ (a : Attributes). a.line_just) same ∙ full)) gap_is is.stands in
+            record {
+              so = character_drawn;
+              stands = record {
+                stands = subst (λ (x : List Meaning × List Meaning × ℕ). NextStandsAt sign x.0 x.1 (record { column = place.column + x.2; row = place.row })) (λ i. (sym with i, sym all i, sym advance_is i)) there;
+                character = is.character;
+                apart = apart;
+                low = omega (arith, is.low, narrow, small, advance_is, n.read_is.len, spelling_some n.item.item);
+              };
+            }

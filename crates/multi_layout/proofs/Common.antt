@@ -43,7 +43,7 @@ pub use Rattle.multi_meaning.proofs.LaidItemLemmas.{are_laid, laid_plain, offend
 pub use Rattle.multi_meaning.proofs.StandingLemmas.{area_ends, standing_push, last_fine, offence-faulty, same_page_behind, present_area-placing, present_area-new}
 pub use Rattle.multi_meaning.proofs.VerdictLemmas.{unsized_if, length-meanings, accepted_is}
 pub use Rattle.multi_meaning.proofs.WordLemmas.{left_nil, some_after-append, each_after_length, push_ind, each_after_push, each_after-append}
-pub use Rattle.multi_meaning.specs.Address.{in_area, Spot, Standing, put_at, Break, in_group, Glyph, Put, group_of, is_break, is_glyph, lines_of, segment}
+pub use Rattle.multi_meaning.specs.Address.{in_area, area_of, Spot, Standing, put_at, Break, in_group, Glyph, Put, group_of, is_break, is_glyph, lines_of, segment}
 unfoldable pub use Rattle.multi_meaning.specs.Address.{spots, standing}
 pub use Rattle.multi_meaning.specs.Codes.{code_of}
 pub use Rattle.multi_meaning.specs.Picture.{Lights, shown_colour, is_lit_at, picture}
@@ -88,14 +88,12 @@ pub use Rattle.sign_font.specs.declared.parts.LineFill.TheVariants.{Off, Words}
 pub use Rattle.multi_layout.specs.Limits.{plane_octets, reading_limit}
 pub use Rattle.multi_layout.specs.Pages.{IsSized, page_count}
 pub use Rattle.multi_layout.specs.declared.cursor.Cursor.{Cursor}
-pub use Rattle.multi_layout.specs.declared.cursor.Met.TheVariants.{Setting}
 pub use Rattle.multi_layout.specs.declared.paint.Layer.{Layer}
 pub use Rattle.multi_layout.specs.declared.read.AreaLines.{AreaLines}
 pub use Rattle.multi_layout.specs.kept.AreaDrawing.{BeginsNoArea, HasCounted, IsAreaDrawn, IsDrawnTo, IsDrawnUpTo, IsFilledBy, IsInArea, whole_area, IsPageDrawn, HasKnown, HasRoom}
-pub use Rattle.multi_layout.specs.kept.AreaReading.{IsNextRead, IsReadOf}
+pub use Rattle.multi_layout.specs.kept.AreaReading.{IsNextRead, IsReadOf, item_steps}
 pub use Rattle.multi_layout.specs.kept.Cursors.{IsBetween, IsFirst, IsItemRead, IsRead, items_of, meant, LaidItem, spell_of, IsPlaced, laid_meanings}
 pub use Rattle.multi_layout.specs.kept.PageDrawing.{IsFilledFew, IsPagePassed, IsPageStart, IsStartOf}
 pub use Rattle.multi_layout.specs.kept.Passing.{IsAtPage, IsOnTheWay, IsPageSkipped, IsPassing, unplaced}
-pub use Rattle.multi_layout.specs.kept.RunDrawing.{IsNextDrawn, IsReadBehind, octets_read, IsRunDrawn, StandsAt}
-pub use Rattle.multi_layout.specs.kept.Settings.{IsNextAt, IsMet, item_steps}
+pub use Rattle.multi_layout.specs.kept.RunDrawing.{IsBeside, IsNextDrawn, IsRunDrawn, StandsAt}
 pub use Rattle.multi_layout.specs.kept.Told.{IsTold}

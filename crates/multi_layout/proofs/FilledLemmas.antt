@@ -1,5 +1,5 @@
 -- What a character of an accepted string is laid out as: itself, or the end of its line, by the table of its area's lines.
-use Rattle.multi_layout.proofs.Common.{NextItem, Tag, Char, IsItemRead, IsRead, Off, meant_by, Cursor, ◌≡◌, ℕ, ◌≤◌, Bool, true, false, cond, ◌&&◌, ◌||◌, ◌==◌, inl, inr, ◌⊎◌, List, [], ◌∷◌, ◌++◌, map, Option, Some, None, refl, sym, ap, subst, ◌∙◌, not, append-nil, rules, arith, ◌+◌, length, append_assoc, All, after_last, option_map, eq-eqb, map-append, length-append, filter-append, NewLine, page_number, LineFill, SignData, CellData, cell_numbered, IsSound, Break, Glyph, Put, Spot, in_area, in_group, is_break, is_glyph, lines_of, put_at, spots, standing, Standing, laid_spot, too_big, laid_item, laid_of, laid_items, glyph_width, Does, Meaning, begins_area, Shows, has_place, meaning, Faulty, EndsArea, unsized_offence, first_code, offence, present_area, IsPlacing, IsNarrowArea, offends_as_laid, are_laid, laid_tag, present_area-placing, offence-faulty, standing_push, last_fine, area_ends, push_ind, each_after_length, each_after_push, page_number_known, Attributes, LineTable, TellsEnd, group_lines, table_of, Item, Tag, Words, offences, Pass, IsFilledOf, pages_at, same_times, State, IsStateOf, Cursor, HasCounted, whole_area, HasRoom, IsBetween, LaidItem, items_of, meant}
+use Rattle.multi_layout.proofs.Common.{pages_of, ended_times, NextItem, Tag, Char, IsItemRead, IsRead, Off, meant_by, Cursor, ◌≡◌, ℕ, ◌≤◌, Bool, true, false, cond, ◌&&◌, ◌||◌, ◌==◌, inl, inr, ◌⊎◌, List, [], ◌∷◌, ◌++◌, map, Option, Some, None, refl, sym, ap, subst, ◌∙◌, not, append-nil, rules, arith, ◌+◌, length, append_assoc, All, after_last, option_map, eq-eqb, map-append, length-append, filter-append, NewLine, page_number, LineFill, SignData, CellData, cell_numbered, IsSound, Break, Glyph, Put, Spot, in_area, in_group, is_break, is_glyph, lines_of, put_at, spots, standing, Standing, laid_spot, too_big, laid_item, laid_of, laid_items, glyph_width, Does, Meaning, begins_area, Shows, has_place, meaning, Faulty, EndsArea, unsized_offence, first_code, offence, present_area, IsPlacing, IsNarrowArea, offends_as_laid, are_laid, laid_tag, present_area-placing, offence-faulty, standing_push, last_fine, area_ends, push_ind, each_after_length, each_after_push, page_number_known, Attributes, LineTable, TellsEnd, group_lines, table_of, Item, Tag, Words, offences, Pass, IsFilledOf, pages_at, same_times, State, IsStateOf, Cursor, HasCounted, whole_area, HasRoom, IsBetween, LaidItem, items_of, meant}
 use Rattle.std.proofs.lemmas.List.Elements.{All-weaker}
 use Rattle.multi_layout.proofs.PieceLemmas.{read_tag, read_unfilled}
 use Rattle.multi_judge.specs.declared.item.KnownItem.TheVariants as known
@@ -281,20 +281,31 @@ module _ (setting : LineFill) (sign : SignData) (items rest : List Meaning) wher
   pub laid_empty : present_area sign items ≡ [] → present_area sign (laid_items setting sign all_items items) ≡ []
   laid_empty none = nil_from_length (present_area sign (laid_items setting sign all_items items)) (same_count ∙ ap length none)
 
--- the state where an area begins, laid out among all, is that laid out among the items so far
-pub state_begins : (setting : LineFill) (sign : SignData) (items rest : List Meaning) (state : State) → present_area sign (laid_items setting sign (items ++ rest) items) ≡ []
-    → IsStateOf sign (laid_items setting sign (items ++ rest) items) state → IsStateOf sign (laid_items setting sign items items) state
-state_begins setting sign items rest state none st =
-    let one = laid_items setting sign (items ++ rest) items in
-    let other = laid_items setting sign items items in
-    let here = (are_laid setting sign (items ++ rest) items rest refl).0 in
-    let is = sym (append-nil items) in
-    let here' = (are_laid setting sign items items [] is).0 in
-    let times = same_times setting sign (items ++ rest) items rest refl in
-    let times' = same_times setting sign items items [] is in
-    let long = each_after_length (laid_item setting sign (items ++ rest)) items in
-    let long' = each_after_length (laid_item setting sign items) items in
-    let none' : present_area sign other ≡ [] =
-    subst (λ l. present_area sign (laid_items setting sign l items) ≡ []) (append-nil items) (laid_empty setting sign items [] (area_empty setting sign items rest none)) in
-    state_moved sign one other state (here ∙ sym here') (times ∙ sym times')
-    (pages_at sign one other (ap (λ (s : Standing). s.page) (here ∙ sym here'))) (omega (arith, long, long')) none none' st
+-- where an area begins, the state of the items laid out among all is that of them laid out among those so far, and the other way round
+module _ (setting : LineFill) (sign : SignData) (items rest : List Meaning) (state : State) (none : present_area sign (laid_items setting sign (items ++ rest) items) ≡ []) where
+  abbrev one : List Meaning
+  one = laid_items setting sign (items ++ rest) items
+
+  abbrev other : List Meaning
+  other = laid_items setting sign items items
+
+  stands_alike : standing sign one ≡ standing sign other
+  stands_alike = (are_laid setting sign (items ++ rest) items rest refl).0 ∙ sym (are_laid setting sign items items [] (sym (append-nil items))).0
+
+  times : ended_times sign one ≡ ended_times sign other
+  times = same_times setting sign (items ++ rest) items rest refl ∙ sym (same_times setting sign items items [] (sym (append-nil items)))
+
+  long : length one ≡ length other
+  long = each_after_length (laid_item setting sign (items ++ rest)) items ∙ sym (each_after_length (laid_item setting sign items) items)
+
+  pages : pages_of one ≡ pages_of other
+  pages = pages_at sign one other (ap (λ (s : Standing). s.page) stands_alike)
+
+  none' : present_area sign other ≡ []
+  none' = subst (λ l. present_area sign (laid_items setting sign l items) ≡ []) (append-nil items) (laid_empty setting sign items [] (area_empty setting sign items rest none))
+
+  pub state_begins : IsStateOf sign one state → IsStateOf sign other state
+  state_begins = state_moved sign one other state stands_alike times pages (omega (arith, long)) none none'
+
+  pub state_among : IsStateOf sign other state → IsStateOf sign one state
+  state_among = state_moved sign other one state (sym stands_alike) (sym times) (sym pages) (omega (arith, long)) none' none

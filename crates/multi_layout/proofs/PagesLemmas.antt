@@ -1,5 +1,5 @@
 -- What is shown at a time of the cycle, from page to page.
-use Rattle.multi_layout.proofs.Common.{◌≡◌, ℕ, has_place, unsized_offence, ◌+◌, ◌-◌, ◌<◌, ◌≤◌, true, false, cond, List, [], ◌∷◌, ◌++◌, length, map, slice_get, Some, None, refl, sym, ap, subst, ◌∙◌, inl, arith, append-nil, rules, ◌*◌, ◌/◌, ◌^◌, Bool, map-append, All, ne_eqb, cases_eq, eq-eqb, All-head, All-tail, nat_tests, mul-add, Item, spelling_some, NewPage, SignData, FontData, largest, tallest, standing, laid_out, Meaning, Does, is_new_page, meaning, meanings, cycle, ended_times, pages_of, IsAccepted, IsOrderly, accepted_is, reading, standing_push, Attributes, NextItem, State, meant_by, attributes_of, pages_of-push, at_end, Counted, RisesBetween, charged, BitPlane, IsSound, Cursor, Setting, IsFirst, IsPageStart, IsFilledFew, IsPagePassed, IsAtPage, IsPageSkipped, IsPassing, unplaced, IsMet, IsNextAt, plane_octets, reading_limit, IsSized, page_count}
+use Rattle.multi_layout.proofs.Common.{◌≡◌, ℕ, has_place, unsized_offence, ◌+◌, ◌-◌, ◌<◌, ◌≤◌, true, false, cond, List, [], ◌∷◌, ◌++◌, length, map, slice_get, Some, None, refl, sym, ap, subst, ◌∙◌, inl, arith, append-nil, rules, ◌*◌, ◌/◌, ◌^◌, Bool, map-append, All, ne_eqb, cases_eq, eq-eqb, All-head, All-tail, nat_tests, mul-add, Item, spelling_some, NewPage, SignData, FontData, largest, tallest, standing, laid_out, Meaning, Does, is_new_page, meaning, meanings, cycle, ended_times, pages_of, IsAccepted, IsOrderly, accepted_is, reading, standing_push, Attributes, NextItem, State, meant_by, attributes_of, pages_of-push, at_end, Counted, RisesBetween, charged, BitPlane, IsSound, Cursor, IsFirst, IsPageStart, IsFilledFew, IsPagePassed, IsAtPage, IsPageSkipped, IsPassing, unplaced, IsItemAt, plane_octets, reading_limit, IsSized, page_count}
 use Rattle.std.specs.Prelude.{◌==◌}
 use Rattle.std.proofs.lemmas.Nat.{mul-le}
 use Rattle.multi_meaning.specs.declared.times.Shown.TheVariants.{Page, Off}
@@ -16,15 +16,12 @@ use Rattle.multi_layout.specs.kept.Cursors.{PassesTag}
 use Rattle.multi_layout.specs.kept.Passing.{IsAtStart}
 use Rattle.multi_layout.proofs.PageDrawLemmas.{new_page_is, same_meanings}
 use Rattle.multi_layout.proofs.PieceLemmas.{begins_page, pieces_before, pieces_behind, starts_between}
-use Rattle.multi_layout.proofs.DrawLemmas.{no_page}
-use Rattle.multi_layout.proofs.AreaDrawLemmas.{setting_is}
-use Rattle.multi_layout.proofs.WalkLemmas.{fine_passing, passing_placed, passing_tag, placed_behind, room, same_unplaced, none_at_end, within, steps_then, steps_within, within_between}
+use Rattle.multi_layout.proofs.WalkLemmas.{item_is, fine_passing, passing_placed, passing_tag, placed_behind, room, same_unplaced, none_at_end, within, steps_then, steps_within, within_between}
 use Rattle.multi_layout.specs.Limits.{drawing_limit, plane_limit}
 use Rattle.multi_layout.specs.declared.checked.NextPage.{NextPage}
 use Rattle.multi_layout.specs.NextPage.{IsNextPage, IsReadOn}
 use Rattle.multi_layout.specs.CheckedData.{CheckedData}
 use Rattle.multi_layout.specs.Pages.{IsUnderWay, PagesState, TurnsPage}
-use Rattle.multi_judge.specs.declared.item.KnownItem.TheVariants as known
 
 -- ---- what is kept where the cursor stands
 
@@ -89,23 +86,13 @@ pub record IsInPage (sign : SignData) (octets : List ℕ) (old cursor : Cursor) 
 pub in_page_in : {sign : SignData} {octets octets' : List ℕ} {old cursor : Cursor} → octets' ≡ octets → IsInPage sign octets old cursor → IsInPage sign octets' old cursor
 in_page_in {sign} {octets} {octets'} {old} {cursor} same s = subst (λ o. IsInPage sign o old cursor) (sym same) s
 
-pub next_in : {sign : SignData} {octets octets' : List ℕ} {at : ℕ} {next : NextItem} → octets ≡ octets' → IsNextAt sign octets at next → IsNextAt sign octets' at next
-next_in {sign} {octets} {octets'} {at} {next} same is = subst (λ o. IsNextAt sign o at next) same is
-
 module _ {sign : SignData} {octets : List ℕ} {old cursor : Cursor} (s : IsInPage sign octets old cursor) where
   abbrev passed : List Meaning
   passed = map meaning s.before
 
-  -- where an item was met that is no setting
-  pub met_in : (state : State) → state ≡ cursor.state → IsInPage sign octets old (record { at = cursor.at; state = state })
-  met_in state same = subst (λ (t : State). IsInPage sign octets old (record { at = cursor.at; state = t })) (sym same) s
-
   -- at the end the page is passed, the last
   pub passed_last : slice_get octets cursor.at ≡ None → IsPageSkipped sign octets old cursor
   passed_last end = grind (arith, clock_of s.between, within sign octets s.before s.behind cursor.at s.between.placed, none_at_end sign octets s.before s.behind cursor.at s.between.placed, at_end octets cursor.at, all_meant s.between, times_are_all sign passed, ended_count sign passed, append-nil)
-
-  pub first_here : (next : NextItem) → IsNextAt sign octets cursor.at next → IsFirst s.behind (Some next)
-  first_here next first = first s.before s.behind s.between.placed
 
   -- an item stands behind the cursor, of which this was read
   module _ {next : NextItem} (first : IsFirst s.behind (Some next)) where
@@ -127,18 +114,10 @@ module _ {sign : SignData} {octets : List ℕ} {old cursor : Cursor} (s : IsInPa
       pub passed_page : is_new_page (meant_by next.item) ≡ true → old.at ≤ cursor.at → new.at ≡ cursor.at + next.len → IsPageSkipped sign octets old new
       passed_page page on at = grind (arith, new_page_is (meant_by next.item), with, clock_of b, clock_of s.between, standing_push sign passed (Does NewPage), times_are sign passed (map meaning first.1), all_meant stands, within sign octets (s.before ++ first.0 ∷ []) first.1 new.at b.placed, ended_count sign passed, counted, spelling_some first.0, cycle-grows sign passed (Does NewPage))
 
-  -- a setting is put into force
-  pub set_here : (len : ℕ) (state : State) → IsMet sign octets cursor.at cursor.state (Setting len) state → IsInPage sign octets old (record { at = cursor.at + len; state = state })
-  set_here len state (tag, puts, is) =
-      let (plain, closed, placed, line, unput) = setting_is tag puts.setting in
-      let new : Cursor = record { at = cursor.at + len; state = state } in
-      let first = first_here (record { item = known.Tag tag; len = len }) is in
-      in_page_more first (passing_tag (stands first) first.3 new placed refl (puts.judged (unplaced passed) s.between.state_is).1) (no_page tag plain)
-
-  -- an item is passed that was met
-  module _ (next : NextItem) (is : IsNextAt sign octets cursor.at next) where
+  -- an item is passed that was read
+  module _ (next : NextItem) {octets' : List ℕ} (same : octets' ≡ octets) (is : IsItemAt octets' cursor.at next.len (meant_by next.item)) where
     first : IsFirst s.behind (Some next)
-    first = first_here next is
+    first = item_is sign octets s.before s.behind cursor.at s.between.placed next (subst (λ o. IsItemAt o cursor.at next.len (meant_by next.item)) same is)
 
     pub item_within : cursor.at + next.len ≤ length octets
     item_within = omega (arith, room sign octets s.before first.1 first.0 cursor.at (stands first).placed, first.3.len)

@@ -1,6 +1,6 @@
 -- The next item of an accepted string.
 use Rattle.multi_layout.specs.kept.Cursors.{PassesTag}
-use Rattle.multi_layout.proofs.Common.{◌≡◌, ℕ, IsRead, true, false, ◌+◌, ◌^◌, ◌<◌, ◌≤◌, inl, inr, List, [], ◌∷◌, ◌++◌, length, drop, take, map, slice_get, Some, None, refl, sym, ap, subst, ◌∙◌, arith, append_assoc, append-nil, rules, Bool, cond, not, suc, All, length-append, map-append, All-head, All-tail, filter-append, Counted, RisesBetween, charged, Token, IsPlain, Item, spelling, spell, item_of, single_token, spelling_some, rises_then, Off, SignData, each_after, laid_item, Faulty, Meaning, meaning, BeginsPage, Does, has_place, is_new_page, offence, unsized_offence, offence_by, fault_at, offences, pages_of, IsFaultAt, IsItemAt, IsOrderly, offence-faulty, standing_push, present_area-new, length-meanings, each_after-append, each_after_length, left_nil, push_ind, some_after-append, NextItem, IsReady, IsStateOf, meant_by, ready, below_more, pages_of-push, NewPage, LineFill, Standing, spots, standing, present_area, ended_times, State, IsNextAt, Cursor, IsBetween, IsFirst, IsPlaced, LaidItem, items_of, laid_meanings, meant, spell_of, IsItemRead, IsPassing, unplaced}
+use Rattle.multi_layout.proofs.Common.{◌≡◌, ℕ, IsRead, true, false, ◌+◌, ◌^◌, ◌<◌, ◌≤◌, inl, inr, List, [], ◌∷◌, ◌++◌, length, drop, take, map, slice_get, Some, None, refl, sym, ap, subst, ◌∙◌, arith, append_assoc, append-nil, rules, Bool, cond, not, suc, All, length-append, map-append, All-head, All-tail, filter-append, Counted, RisesBetween, charged, Token, IsPlain, Item, spelling, spell, item_of, single_token, spelling_some, rises_then, Off, SignData, each_after, laid_item, Faulty, Meaning, meaning, BeginsPage, Does, has_place, is_new_page, offence, unsized_offence, offence_by, fault_at, offences, pages_of, IsFaultAt, IsItemAt, IsOrderly, offence-faulty, standing_push, present_area-new, length-meanings, each_after-append, each_after_length, left_nil, push_ind, some_after-append, NextItem, IsReady, IsStateOf, meant_by, ready, below_more, pages_of-push, NewPage, LineFill, Standing, spots, standing, present_area, ended_times, State, Shows, Cursor, IsBetween, IsFirst, IsPlaced, LaidItem, items_of, laid_meanings, meant, spell_of, IsItemRead, IsPassing, unplaced}
 use Rattle.std.specs.List.{cons_option}
 use Rattle.sign_font.specs.Sign.{font_numbered}
 use Rattle.std.proofs.Math.Seq.{drop-append_seam, take-append_seam}
@@ -16,7 +16,6 @@ use Rattle.multi_meaning.proofs.WordLemmas.{none_mapped, none_of, right_nil, som
 use Rattle.multi_judge.proofs.JudgedLemmas.{ended_times-push}
 use Rattle.multi_meaning.specs.kept.Present.{standing_behind}
 use Rattle.multi_token.specs.declared.token.Kind.TheVariants as kinds
-use Rattle.multi_judge.specs.declared.item.KnownItem.TheVariants as known
 
 All-right : (P : Item → Type 0) (xs ys : List Item) → All P (xs ++ ys) → All P ys
 All-right P [] ys h = h
@@ -75,19 +74,16 @@ module _ (sign : SignData) (octets : List ℕ) (before behind : List Item) (at :
   pub item_is : (next : NextItem) → IsItemAt octets at next.len (meant_by next.item) → IsFirst behind (Some next)
   item_is next (t, here, long, stands, means) = grind (arith, first_is)
 
-pub next_at : (sign : SignData) (octets : List ℕ) (at : ℕ) (next : NextItem) → IsItemAt octets at next.len (meant_by next.item) → IsNextAt sign octets at next
-next_at sign octets at next item before behind p = item_is sign octets before behind at p next item
-
 -- an octet that is no bracket stands for itself
 pub no_bracket : (octet : ℕ) → is_bracket octet ≡ false → IsPlain octet
 no_bracket octet none =
     (λ e. let wrong : true ≡ false = ap is_bracket (sym e) ∙ none in absurd cc, λ e. let wrong : true ≡ false = ap is_bracket (sym e) ∙ none in absurd cc)
 
--- and is the next item
-pub octet_next : (sign : SignData) (octets : List ℕ) (at octet : ℕ) → length octets < 2 ^ 63 → slice_get octets at ≡ Some octet → IsPlain octet → IsNextAt sign octets at (record { item = known.Char octet; len = 1 })
-octet_next sign octets at octet room here plain =
+-- and is an item
+pub octet_item : (octets : List ℕ) (at octet : ℕ) → length octets < 2 ^ 63 → slice_get octets at ≡ Some octet → IsPlain octet → IsItemAt octets at 1 (Shows octet)
+octet_item octets at octet room here plain =
     let token : Token = record { at = at; len = 1; kind = kinds.Char octet } in
-    next_at sign octets at (record { item = known.Char octet; len = 1 }) (token, refl, refl, single_token octets at octet room here plain, refl)
+    (token, refl, refl, single_token octets at octet room here plain, refl)
 
 -- reading leaves the octets
 pub same_octets : {source : Counted} {octets : List ℕ} {steps : ℕ} → source ≡ record { octets = octets; steps = steps } → source.octets ≡ octets

@@ -28,13 +28,12 @@ pub use Rattle.multi_judge.specs.declared.item.KnownItem.TheVariants.{Char}
 pub use Rattle.multi_judge.specs.Judging.{IsAt}
 pub use Rattle.multi_layout.specs.Pages.{IsSized, TakesFew, page_count, ShowsAt, IsUnderWay, PagesState, pages_state}
 pub use Rattle.multi_layout.specs.declared.paint.Layer.{Layer}
-pub use Rattle.multi_layout.specs.kept.AreaDrawing.{IsPageDrawn, DrawsOn, HasCounted, IsAreaDrawn, IsFilledBy, whole_area, IsCountedBy, ReadsArea}
-pub use Rattle.multi_layout.specs.kept.AreaReading.{EndsGroup, IsNextRead, IsReadOf, KnowsArea, KnowsOn, ReadsOn}
-pub use Rattle.multi_layout.specs.kept.Cursors.{PassesTag, IsBetween, IsItemRead, IsRead, LaidItem}
+pub use Rattle.multi_layout.specs.kept.AreaDrawing.{IsPageDrawn, HasCounted, IsAreaDrawn, IsFilledBy, whole_area, IsCountedBy, ReadsArea}
+pub use Rattle.multi_layout.specs.kept.AreaReading.{EndsGroup, IsNextRead, IsReadOf, KnowsArea, KnowsOn, ReadsOn, item_steps}
+pub use Rattle.multi_layout.specs.kept.Cursors.{PassesTag, IsBetween, IsItemRead, IsRead, IsWithin, LaidItem}
 pub use Rattle.multi_layout.specs.kept.PageDrawing.{IsFilledFew, IsPagePassed, IsPageStart, IsReadTwice, IsStartOf}
 pub use Rattle.multi_layout.specs.kept.Passing.{IsAtStart, IsOnTheWay, IsPageSkipped}
-pub use Rattle.multi_layout.specs.kept.RunDrawing.{DrawsNext, DrawsRun, IsNextDrawn, IsReadBehind, IsRunDrawn, octets_read, DrawsCharacter}
-pub use Rattle.multi_layout.specs.kept.Settings.{IsMet, MayMeet, item_steps, met_octets, met_steps}
+pub use Rattle.multi_layout.specs.kept.RunDrawing.{DrawsNext, IsNextDrawn, DrawsCharacter}
 pub use Rattle.multi_layout.specs.Limits.{check_limit, reading_limit, drawing_limit, plane_limit}
 pub use Rattle.multi_layout.specs.NextPage.{IsNextPage, IsReadOn}
 pub use Rattle.multi_layout.specs.kept.Told.{IsToldOf, IsRefused, IsTold}

@@ -5,5 +5,4 @@ pub mod Cursors
 pub mod PageDrawing
 pub mod Passing
 pub mod RunDrawing
-pub mod Settings
 pub mod Told

@@ -1,7 +1,7 @@
 //! The way through an accepted string, from item to item.
 
-ghost use Rattle.std.specs.Prelude.{◌≡◌, None, ℕ, ◌+◌, ◌-◌, ◌*◌, ◌<◌, ◌≤◌, ◌==◌, if◌then◌else◌, ◌⊎◌, ◌^◌, List};
-ghost use Rattle.multi_layout.specs.Prelude.{RisesBetween, IsSound, Meaning, unsized_offence, meant_by, IsReady, IsStateOf, PassesTag, IsAtStart, IsOnTheWay, IsPageSkipped, IsMet, MayMeet, met_octets, met_steps};
+ghost use Rattle.std.specs.Prelude.{◌≡◌, None, Some, ℕ, ◌+◌, ◌-◌, ◌*◌, ◌<◌, ◌≤◌, ◌==◌, if◌then◌else◌, ◌^◌, List, slice_get};
+ghost use Rattle.multi_layout.specs.Prelude.{RisesBetween, IsSound, Meaning, unsized_offence, meant_by, IsReady, IsStateOf, PassesTag, IsAtStart, IsOnTheWay, IsPageSkipped, IsItemAt, IsWithin};
 
 use crate::bracket::{is_bracket, read_spelled};
 use multi_judge::{KnownItem, NextItem, State, Terms, judge_tag};
@@ -36,19 +36,14 @@ impl Cursor {
             (9 * (self.new.at - self.old.at) + (if self.new.state.pages == self.old.state.pages then 1 else 0)) }
     {
         while let Some(first) = source.read(self.at) {
-            if !is_bracket(first) {
-                self.at += 1;
+            let next = read_item(source, self.at, first);
+            if next.item.has_place() {
+                self.at += next.len;
                 continue;
             }
-            match meet_bracket(sign, &mut self.state, source, self.at, first) {
-                Met::Setting(len) => self.at += len,
-                Met::Item(next) if next.item.has_place() => self.at += next.len,
-                Met::Item(next) => {
-                    self.pass_tag(sign, source, next);
-                    if next.item.ends_page() {
-                        return;
-                    }
-                }
+            self.pass_tag(sign, source, next);
+            if next.item.ends_page() {
+                return;
             }
         }
     }
@@ -81,61 +76,24 @@ impl Cursor {
     }
 }
 
-/// What an item is that was met.
-#[derive(Clone, Copy)]
-pub(crate) enum Met {
-    /// A setting of so many octets, which was put into force.
-    Setting(usize),
-    /// Another item, of which this is read.
-    Item(NextItem),
-}
-
-/// Meets the item at an offset, which begins with this octet: reads the rest of it, and puts it into force if it is a setting.
+/// Reads the item of an accepted string that begins with this octet, which was read at an offset.
+///
+/// It takes at most 9 steps for each octet behind that one. It is put into its callers' code, since most items are characters.
 #[inline(always)]
-pub(crate) fn meet(
-    sign: &Terms<'_>,
-    state: &mut State,
-    source: &mut Source<'_>,
-    at: usize,
-    first: u8,
-) -> Met
-    requires begins { MayMeet sign.now source.old.octets at first state.old }
-    ensures met { IsMet sign.now source.old.octets at state.old result state.new }
-    ensures some { 1 ≤ met_octets result }
-    ensures steps { RisesBetween source.old source.new 0 (met_steps result) }
+pub(crate) fn read_item(source: &mut Source<'_>, at: usize, first: u8) -> NextItem
+    requires within { IsWithin source.old.octets at }
+    requires stands { slice_get source.old.octets at ≡ Some first }
+    ensures item { IsItemAt source.old.octets at result.len (meant_by result.item) }
+    ensures some { 1 ≤ result.len }
+    ensures steps { RisesBetween source.old source.new 0 (9 * result.len - 9) }
 {
     if !is_bracket(first) {
         let item = KnownItem::Char(u16::from(first));
-        return Met::Item(NextItem { item, len: 1 });
+        return NextItem { item, len: 1 };
     }
-    meet_bracket(sign, state, source, at, first)
-}
-
-/// The same of an item that begins with a bracket. It isn't put into its callers' code, which would grow too large for what they keep.
-#[inline(never)]
-fn meet_bracket(
-    sign: &Terms<'_>,
-    state: &mut State,
-    source: &mut Source<'_>,
-    at: usize,
-    bracket: u8,
-) -> Met
-    requires bracket { (bracket ≡ 91) ⊎ (bracket ≡ 93) }
-    requires begins { MayMeet sign.now source.old.octets at bracket state.old }
-    ensures met { IsMet sign.now source.old.octets at state.old result state.new }
-    ensures some { 1 ≤ met_octets result }
-    ensures steps { RisesBetween source.old source.new 0 (met_steps result) }
-{
-    let Ok(next) = read_spelled(source, at, bracket) else {
+    let Ok(next) = read_spelled(source, at, first) else {
         // An accepted string has no broken bracket and no tag with an error.
         unreachable!();
     };
-    let (KnownItem::Tag(tag), true) = (next.item, next.item.is_setting()) else {
-        return Met::Item(next);
-    };
-    let Ok(()) = judge_tag(sign, state, source, tag) else {
-        // No item of an accepted string offends.
-        unreachable!();
-    };
-    Met::Setting(next.len)
+    next
 }

@@ -4,7 +4,7 @@ ghost use Rattle.std.specs.Prelude.{◌≡◌, ℕ, ◌+◌, ◌-◌, ◌*◌, �
 ghost use Rattle.multi_layout.specs.Prelude.{RisesBetween, charged, IsSound, BitPlane, begins_area, EndsGroup, IsNextRead, IsReadOf, KnowsArea, ReadsOn, IsOctet, meant_by, fill_of, IsBehindCharacter, IsPageDrawn, Layer, ReadsArea, item_steps};
 ghost use Rattle.multi_token.specs.Spelling as spelled;
 
-use crate::cursor::{Cursor, Met, meet};
+use crate::cursor::{Cursor, read_item};
 use multi_judge::{Area, CountedLine, KnownItem, LineTable, NextItem, Pass, Terms, go_along};
 use multi_token::Source;
 
@@ -51,34 +51,27 @@ pub(crate) fn read_lines<const WORDS: bool>(
     let mut kept = Pass::new(cursor.state);
     let mut first = source.read(at);
     while let Some(octet) = first {
-        match meet(sign, &mut kept.state, source, at, octet) {
-            Met::Setting(len) => {
-                if cursor.at == at {
-                    // Nothing but settings was read.
-                    cursor.at += len;
-                    cursor.state = kept.state;
-                }
-                at += len;
-                first = source.read(at);
-            }
-            Met::Item(next) if next.item.begins_area() => {
-                read.next = Some(next);
-                break;
-            }
-            Met::Item(next) => {
-                pass_item::<WORDS>(sign, source, &mut kept, next.item, &mut read.lines);
-                at += next.len;
-                if WORDS || !next.item.is_octet() {
-                    first = source.read(at);
-                    continue;
-                }
-                let Some(cells) = sign.bare.cells(source, kept.state.attributes.font.number) else {
-                    // The font in force is one of the sign's.
-                    unreachable!();
-                };
-                (at, first) = go_along(sign, &cells, &mut kept.state, source, at);
-            }
+        let next = read_item(source, at, octet);
+        if next.item.begins_area() {
+            read.next = Some(next);
+            break;
         }
+        pass_item::<WORDS>(sign, source, &mut kept, next.item, &mut read.lines);
+        if cursor.at == at && next.item.is_setting() {
+            // Nothing but settings was read.
+            cursor.at += next.len;
+            cursor.state = kept.state;
+        }
+        at += next.len;
+        if WORDS || !next.item.is_octet() {
+            first = source.read(at);
+            continue;
+        }
+        let Some(cells) = sign.bare.cells(source, kept.state.attributes.font.number) else {
+            // The font in force is one of the sign's.
+            unreachable!();
+        };
+        (at, first) = go_along(sign, &cells, &mut kept.state, source, at);
     }
     read.end = at;
     end_group(&kept.state.area, &mut read.lines);

@@ -93,11 +93,6 @@ ReadsArea sign octets old new read =
     (layer : Layer) (page : ℕ) (plane : BitPlane) → IsPageDrawn sign octets layer page old plane
     → IsAreaDrawn sign octets layer page read new plane
 
--- from cursor to cursor the area is drawn on, whichever page it stands in (own)
-abbrev pub DrawsOn : SignData → List ℕ → Layer → AreaLines → Cursor → Cursor → BitPlane → BitPlane → Type 0
-DrawsOn sign octets layer read old new plane plane' =
-    (page : ℕ) → IsAreaDrawn sign octets layer page read old plane → IsAreaDrawn sign octets layer page read new plane'
-
 -- at most so many steps were taken over the plane, which has the same size (own)
 pub record IsCountedBy (plane plane' : BitPlane) (steps : ℕ) : Type 0 where
   pub least : plane.steps ≤ plane'.steps

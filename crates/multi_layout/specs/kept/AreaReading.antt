@@ -1,5 +1,5 @@
 -- The first reading of an area, for the table of its lines (own).
-use Rattle.std.specs.Prelude.{◌≡◌, ℕ, ◌^◌, ◌<◌, ◌≤◌, Bool, List, [], ◌∷◌, ◌++◌, map, length}
+use Rattle.std.specs.Prelude.{◌≡◌, ℕ, ◌-◌, ◌*◌, ◌^◌, ◌<◌, ◌≤◌, Bool, List, [], ◌∷◌, ◌++◌, map, length, Option, None, Some}
 use Rattle.std.specs.List.{All}
 use Rattle.multi_token.specs.Spelling.{Item}
 use Rattle.sign_font.specs.Sign.{SignData}
@@ -10,6 +10,7 @@ use Rattle.multi_meaning.specs.Verdict.{offences}
 use Rattle.multi_judge.specs.declared.area.Area.{Area}
 use Rattle.multi_judge.specs.declared.pass.Pass.{Pass}
 use Rattle.multi_judge.specs.declared.item.KnownItem.{KnownItem}
+use Rattle.multi_judge.specs.declared.item.NextItem.{NextItem}
 use Rattle.multi_judge.specs.declared.table.LineTable.{LineTable}
 use Rattle.multi_judge.specs.KnownItem.{meant_by}
 use Rattle.multi_judge.specs.Passed.{laid_area}
@@ -58,3 +59,8 @@ abbrev pub ReadsOn : Bool → SignData → ℕ → KnownItem → Pass → LineTa
 ReadsOn words sign present item kept lines kept' lines' =
     (before : List Item) (next : Item) → IsReadOf words sign before present kept lines → IsNextRead sign before next item
     → IsReadOf words sign (before ++ next ∷ []) kept'.state.area.present kept' lines'
+
+-- the steps that an item took at most, if it was read, behind its first octet (own)
+abbrev pub item_steps : Option NextItem → ℕ
+item_steps None = 0
+item_steps (Some next) = 9 * next.len - 9

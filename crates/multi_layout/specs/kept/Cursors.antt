@@ -52,9 +52,9 @@ pub record IsBetween (sign : SignData) (octets : List ℕ) (before behind : List
   pub orderly : IsOrderly sign (map meant (before ++ behind))
   pub state_is : IsStateOf sign (map meant before) cursor.state
 
--- the offset is between two items of an accepted string (own)
-abbrev pub IsWithin : SignData → List ℕ → ℕ → Type 0
-IsWithin sign octets at = (before behind : List Item) × IsPlaced sign octets before behind at
+-- the offset is between two items of a string that a sign accepts (own)
+abbrev pub IsWithin : List ℕ → ℕ → Type 0
+IsWithin octets at = (sign : SignData) × (before : List Item) × (behind : List Item) × IsPlaced sign octets before behind at
 
 -- this is read of an item (own)
 pub record IsItemRead (item : Item) (next : NextItem) : Type 0 where

@@ -1,5 +1,6 @@
--- The drawing of an area's items, of which characters beside each other are drawn as a run (own).
-use Rattle.std.specs.Prelude.{◌≡◌, ℕ, ◌+◌, ◌-◌, ◌<◌, true, false, List, ◌∷◌, ◌++◌, map, Option, None, Some, IfSome, slice_get}
+-- The drawing of an area's items, of which a character is put beside the one before it (own).
+use Rattle.std.specs.Prelude.{◌≡◌, ◌≢◌, ℕ, ◌+◌, ◌*◌, ◌^◌, ◌≤◌, true, false, List, ◌∷◌, ◌++◌, map, Option, Some, IfSome}
+use Rattle.multi_tag.specs.declared.just.LineJust.TheVariants.{Full}
 use Rattle.page_plane.specs.Plane.{BitPlane}
 use Rattle.sign_font.specs.Cell.{SizedCell}
 use Rattle.sign_font.specs.Sign.{SignData, CellData, cell_in, cell_numbered}
@@ -15,12 +16,25 @@ use Rattle.multi_layout.specs.declared.read.AreaLines.{AreaLines}
 use Rattle.multi_judge.specs.declared.state.State.{State}
 use Rattle.multi_layout.specs.kept.AreaDrawing.{DrawsGlyph, IsAreaDrawn, IsDrawnUpTo, IsInArea}
 use Rattle.multi_layout.specs.kept.Cursors.{IsRead, LaidItem, meant}
-use Rattle.multi_judge.specs.Run.{lengthened, line_in_force}
+use Rattle.multi_judge.specs.Run.{IsBehindCharacter}
 use Rattle.multi_judge.specs.State.{IsStateOf}
 
--- a page is drawn as far as the cursor before an item of an area that was read, and this is read of the item (own)
-pub record IsNextDrawn (sign : SignData) (octets : List ℕ) (layer : Layer) (page : ℕ) (read : AreaLines) (next : NextItem) (cursor : Cursor)
-    (plane : BitPlane) : Type 0 where
+-- the next item of a string, if it is a character, stands at this place (own)
+abbrev pub NextStandsAt : SignData → List Meaning → List Meaning → Place → Type 0
+NextStandsAt sign before all place =
+    (spot : Spot) → is_glyph spot ≡ true → spot.at ≡ standing sign before → place_of (spots sign before) (spots sign all) spot ≡ place
+
+-- the cursor stands behind a character, and if the next item is one too, it stands beside that one, at this place (own)
+pub record IsBeside (sign : SignData) (before behind : List LaidItem) (cursor : Cursor) (place : Place) : Type 0 where
+  pub stands : NextStandsAt sign (map meant before) (map meant (before ++ behind)) place
+  pub character : IsBehindCharacter cursor.state
+  pub apart : cursor.state.attributes.line_just ≢ Full
+  pub low : place.column ≤ 2 ^ 62 + 510 * cursor.at
+
+-- a page is drawn as far as the cursor before an item of an area that was read, and this is read of the item; this is the place beside the
+-- character before it, if known (own)
+pub record IsNextDrawn (sign : SignData) (octets : List ℕ) (layer : Layer) (page : ℕ) (read : AreaLines) (next : NextItem)
+    (beside : Option Place) (cursor : Cursor) (plane : BitPlane) : Type 0 where
   pub before : List LaidItem
   pub rest : List LaidItem
   pub item : LaidItem
@@ -28,16 +42,19 @@ pub record IsNextDrawn (sign : SignData) (octets : List ℕ) (layer : Layer) (pa
   pub left : IsInArea sign read before (item ∷ rest) cursor
   pub read_is : IsRead item next
   pub plain : begins_area (meant item) ≡ false
+  pub stands : IfSome beside (IsBeside sign before (item ∷ rest) cursor)
+
+-- a page is drawn as far as the cursor in an area that was read, and this is the place beside the character before it, if known (own)
+pub record IsRunDrawn (sign : SignData) (octets : List ℕ) (layer : Layer) (page : ℕ) (read : AreaLines) (beside : Option Place)
+    (cursor : Cursor) (plane : BitPlane) : Type 0 where
+  pub so : IsAreaDrawn sign octets layer page read cursor plane
+  pub stands : IfSome beside (IsBeside sign so.before so.behind cursor)
 
 -- from cursor to cursor the area is drawn on by that item, whichever page it stands in (own)
-abbrev pub DrawsNext : SignData → List ℕ → Layer → AreaLines → NextItem → Cursor → Cursor → BitPlane → BitPlane → Type 0
-DrawsNext sign octets layer read next old new plane plane' =
-    (page : ℕ) → IsNextDrawn sign octets layer page read next old plane → IsAreaDrawn sign octets layer page read new plane'
-
--- the next item of a string, if it is a character, stands at this place (own)
-abbrev pub NextStandsAt : SignData → List Meaning → List Meaning → Place → Type 0
-NextStandsAt sign before all place =
-    (spot : Spot) → is_glyph spot ≡ true → spot.at ≡ standing sign before → place_of (spots sign before) (spots sign all) spot ≡ place
+abbrev pub DrawsNext : SignData → List ℕ → Layer → AreaLines → NextItem → Option Place → Option Place → Cursor → Cursor → BitPlane → BitPlane
+    → Type 0
+DrawsNext sign octets layer read next beside beside' old new plane plane' =
+    (page : ℕ) → IsNextDrawn sign octets layer page read next beside old plane → IsRunDrawn sign octets layer page read beside' new plane'
 
 -- a character behind some items stands at this place, whatever of the string is behind it (own)
 abbrev pub StandsAt : SignData → List Meaning → ℕ → List Meaning → Place → Type 0
@@ -52,31 +69,3 @@ DrawsCharacter sign layer attributes cell place old new =
     (before rest : List Meaning) (state : State) (number : ℕ) → IsStateOf sign before state → state.attributes ≡ attributes
     → cell_in sign attributes.font.number number ≡ Some cell → StandsAt sign before number rest place
     → DrawsGlyph sign layer before number rest old new
-
--- a page is drawn as far as the cursor in an area that was read, and the next item stands at this place if it is a character (own)
-pub record IsRunDrawn (sign : SignData) (octets : List ℕ) (layer : Layer) (page : ℕ) (read : AreaLines) (place : Place) (cursor : Cursor)
-    (plane : BitPlane) : Type 0 where
-  pub so : IsAreaDrawn sign octets layer page read cursor plane
-  pub stands : NextStandsAt sign (map meant so.before) (map meant (so.before ++ so.behind)) place
-
--- from cursor to cursor the area is drawn on, where the next item stands at this place if it is a character (own)
-abbrev pub DrawsRun : SignData → List ℕ → Layer → AreaLines → Place → Cursor → Cursor → BitPlane → BitPlane → Type 0
-DrawsRun sign octets layer read place old new plane plane' =
-    (page : ℕ) → IsRunDrawn sign octets layer page read place old plane → IsAreaDrawn sign octets layer page read new plane'
-
--- the cursor behind characters up to an offset that lengthen its line from one column to another (own)
-abbrev pub cursor_behind : Cursor → ℕ → ℕ → ℕ → Cursor
-cursor_behind cursor from column at = record {
-  at = at;
-  state = lengthened ((line_in_force cursor.state).part.width + (column - from))
-      ((line_in_force cursor.state).part.count + (at - cursor.at)) cursor.state;
-}
-
--- the octets that were read behind the cursor (own)
-abbrev pub octets_read : Option ℕ → ℕ
-octets_read None = 0
-octets_read (Some octet) = 1
-
--- the octet at an offset, if it was read; it is before this end (own)
-abbrev pub IsReadBehind : List ℕ → ℕ → ℕ → Option ℕ → Type 0
-IsReadBehind octets at end read = IfSome read (λ octet. (slice_get octets at ≡ Some octet) × (at < end))

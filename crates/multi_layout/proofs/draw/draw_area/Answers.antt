@@ -1,10 +1,10 @@
-use Rattle.multi_layout.proofs.Common.{NextItem, ◌^◌, inl, inr, below_more, rules, ◌≡◌, ◌+◌, ◌-◌, ◌≤◌, slice_get, sym, ap, ◌∙◌, subst, arith, IfSome_then, IsFilledBy, ◌*◌, RisesBetween, item_steps}
-use Rattle.multi_layout.proofs.AreaDrawLemmas.{area_in, area_met, area_short, octet_there, area_set, filled_longer, filled_none, filled_then, next_met, none_read, octet_stands, read_one}
+use Rattle.multi_layout.proofs.Common.{refl, false, NextItem, ◌^◌, inl, inr, below_more, rules, ◌≡◌, ◌+◌, ◌-◌, ◌≤◌, slice_get, sym, ap, ◌∙◌, subst, arith, IfSome_then, IsFilledBy, ◌*◌, RisesBetween, item_steps}
+use Rattle.multi_layout.proofs.AreaDrawLemmas.{next_read, run_in, run_ends, area_in, area_short, filled_longer, filled_none, filled_then, octet_stands}
 use Rattle.multi_layout.proofs.DrawLemmas.{low_between}
 use Rattle.multi_layout.proofs.FilledLemmas.{LaysNext, laid_as_end, lays_next}
-use Rattle.multi_layout.proofs.WalkLemmas.{ready_between, same_octets, steps_then, steps_within}
+use Rattle.multi_layout.proofs.WalkLemmas.{steps_of, ready_between, same_octets, steps_then, steps_within}
 use Rattle.multi_layout.specs.kept.AreaDrawing.{ReadsArea}
-use Rattle.multi_layout.proofs.draw.draw_area.Goals.{in-Off, in-Words, then-is_none, else-is_none, in-Words-Char, in_default-2, in_default-2-2, then-full, else-full}
+use Rattle.multi_layout.proofs.draw.draw_area.Goals.{in-Off, in-Words, in-Words-Char+then-is_full, in-Words-Char+else-is_full, in-Words+in-Tag-1, in-Off-1}
 use Rattle.multi_layout.proofs.draw.draw_area.Goals as goal
 
 pub loop-cursor-init : goal.loop-cursor-init
@@ -19,118 +19,71 @@ loop-cursor-init c =
       | in-Words w ↦ rw (w.cursor-is, w.source-is, w.read-is) (w.read_lines-in-Words.ensures.on, w.read_lines-in-Words.ensures.steps, w.read_lines-in-Words.ensures.read)
     ] in
     record {
-      drawn = λ page. reads c.args.layer page plane;
+      drawn = λ page d. run_ends (reads c.args.layer page plane d);
       on = on;
-      read_behind = tt;
       steps = steps_within source steps (omega arith) (omega arith);
       fills = filled_longer sign plane plane _ _ (omega arith) (filled_none sign plane);
     }
 
-pub meet-requires : goal.meet-requires
-meet-requires c =
-    let (page, d) = c.requires.begins in
-    let i = c.loop-cursor.invariant in
-    let (first, read) = octet_there c.loop-cursor.cursor.at c.match-fill.read.end c.loop-cursor.first i.read_behind c.loop-cursor.source (same_octets i.steps.3) c.is_none.result c.is_none.ensures (elim c.if-is_none.branch [
-      | then-is_none w ↦ inl (w.if-is_none.true, w.first-is ∙ w.read-first.ensures.octet, w.source-is ∙ w.read-first.ensures.step)
-      | else-is_none w ↦ inr (w.if-is_none.false, w.first-is, w.source-is)
-    ]) in
-    let now = area_in (same_octets read.3 ∙ same_octets i.steps.3) (i.drawn page d) in
-    let b = now.up_to.between in
-    let ready = ready_between c.args.sign.now c.if-is_none.source.octets now.before now.behind c.loop-cursor.cursor b in
-    let here = ap (λ o. slice_get o c.loop-cursor.cursor.at) (same_octets read.3 ∙ same_octets i.steps.3) ∙ sym first ∙ c.in-Some.is in
-    record { begins = record { within = search rules; ready = ready; behind = search rules; stands = here; room = search rules } }
 
 pub unreachable-requires : goal.unreachable-requires
 unreachable-requires c =
     let (page, d) = c.requires.begins in
     let i = c.loop-cursor.invariant in
-    let (first, read) = octet_there c.loop-cursor.cursor.at c.match-fill.read.end c.loop-cursor.first i.read_behind c.loop-cursor.source (same_octets i.steps.3) c.is_none.result c.is_none.ensures (elim c.if-is_none.branch [
-      | then-is_none w ↦ inl (w.if-is_none.true, w.first-is ∙ w.read-first.ensures.octet, w.source-is ∙ w.read-first.ensures.step)
-      | else-is_none w ↦ inr (w.if-is_none.false, w.first-is, w.source-is)
-    ]) in
-    octet_stands (i.drawn page d) c.loop-cursor-test.true (sym first ∙ c.in_default.is)
+    octet_stands (i.drawn page d).so c.loop-cursor-test.true (ap (λ o. slice_get o c.loop-cursor.cursor.at) (sym (same_octets i.steps.3)) ∙ sym c.read.ensures.octet ∙ c.in_default.is)
 
-pub overflow_add-cursor : goal.overflow_add-cursor
-overflow_add-cursor c =
+pub read_item-next-requires-clause-within : goal.read_item-next-requires-clause-within
+read_item-next-requires-clause-within c =
+    let (page, d) = c.requires.begins in
+    let same = same_octets c.read.ensures.step ∙ same_octets c.loop-cursor.invariant.steps.3 in
+    let now = (run_in same (c.loop-cursor.invariant.drawn page d)).so in
+    (c.args.sign.now, _, _, now.up_to.between.placed)
+
+pub is_full-requires : goal.is_full-requires
+is_full-requires c =
+    let (page, d) = c.requires.begins in
+    let now = (c.loop-cursor.invariant.drawn page d).so in
+    record { below = below_more (2 ^ 42) (2 ^ 43) c.loop-cursor.cursor.state.area (omega arith) (low_between c.args.sign.now c.args.source.now.octets now.before now.behind _ now.up_to.between) }
+
+pub draw_item-beside-requires-clause-known : goal.draw_item-beside-requires-clause-known
+draw_item-beside-requires-clause-known c =
     let (page, d) = c.requires.begins in
     let i = c.loop-cursor.invariant in
-    let (first, read) = octet_there c.loop-cursor.cursor.at c.match-fill.read.end c.loop-cursor.first i.read_behind c.loop-cursor.source (same_octets i.steps.3) c.is_none.result c.is_none.ensures (elim c.if-is_none.branch [
-      | then-is_none w ↦ inl (w.if-is_none.true, w.first-is ∙ w.read-first.ensures.octet, w.source-is ∙ w.read-first.ensures.step)
-      | else-is_none w ↦ inr (w.if-is_none.false, w.first-is, w.source-is)
-    ]) in
-    omega (arith, area_short (area_set c.in-Setting.len c.meet.new.state c.in-Setting.ensures.met (area_in (same_octets read.3 ∙ same_octets i.steps.3) (i.drawn page d))))
-
-pub loop-cursor-preserved-in-Setting : goal.loop-cursor-preserved-in-Setting
-loop-cursor-preserved-in-Setting c =
-    let i = c.loop-cursor.invariant in
-    let start = c.args.source.now in
-    let (first, read) = octet_there c.loop-cursor.cursor.at c.match-fill.read.end c.loop-cursor.first i.read_behind c.loop-cursor.source (same_octets i.steps.3) c.is_none.result c.is_none.ensures (elim c.if-is_none.branch [
-      | then-is_none w ↦ inl (w.if-is_none.true, w.first-is ∙ w.read-first.ensures.octet, w.source-is ∙ w.read-first.ensures.step)
-      | else-is_none w ↦ inr (w.if-is_none.false, w.first-is, w.source-is)
-    ]) in
-    let same = same_octets read.3 ∙ same_octets i.steps.3 in
-    record {
-      drawn = λ page d. area_in (sym same) (area_set c.in-Setting.len c.meet.new.state c.in-Setting.ensures.met (area_in same (i.drawn page d)));
-      on = omega (arith, i.on);
-      read_behind = tt;
-      steps = steps_within start (steps_then start (steps_then start i.steps read) c.in-Setting.ensures.steps) (omega arith) (omega (arith, i.on, c.in-Setting.ensures.some, read_one c.loop-cursor.first));
-      fills = filled_longer c.args.sign.now c.args.plane.now c.loop-cursor.plane _ _ (omega (arith, i.on)) i.fills;
-    }
-
-pub is_full-full-requires : goal.is_full-full-requires
-is_full-full-requires c =
-    let (page, d) = c.requires.begins in
-    let now = area_met (c.loop-cursor.invariant.drawn page d) c.meet.new.state c.in-Item.ensures.met.0 in
-    record { below = below_more (2 ^ 42) (2 ^ 43) c.meet.new.state.area (omega arith) (low_between c.args.sign.now c.args.source.now.octets now.before now.behind _ now.up_to.between) }
-
-pub draw_item-first-requires-clause-known : goal.draw_item-first-requires-clause-known
-draw_item-first-requires-clause-known c =
-    let (page, d) = c.requires.begins in
-    let i = c.loop-cursor.invariant in
-    let (first, read) = octet_there c.loop-cursor.cursor.at c.match-fill.read.end c.loop-cursor.first i.read_behind c.loop-cursor.source (same_octets i.steps.3) c.is_none.result c.is_none.ensures (elim c.if-is_none.branch [
-      | then-is_none w ↦ inl (w.if-is_none.true, w.first-is ∙ w.read-first.ensures.octet, w.source-is ∙ w.read-first.ensures.step)
-      | else-is_none w ↦ inr (w.if-is_none.false, w.first-is, w.source-is)
-    ]) in
-    let lays : LaysNext c.args.sign.now (record { at = c.loop-cursor.cursor.at; state = c.meet.new.state }) c.match-fill.read.lines c.in-Item.next c.if-full.next = lays_next (search rules) c.match-fill.read.lines c.match-fill-2.full (elim c.match-fill-2.branch [
-      | in-Words-Char w ↦ rw w.full-is (inl (w.in-Words-Char.field-0-1, w.in-Words-Char.is-1, rw w.group-lines.ensures.lines at w.is_full-full.ensures.full))
-      | in_default-2 w ↦ inr (w.full-is, inr (w.in_default-2.field-0-1, w.in_default-2.is-1))
-      | in_default-2-2 w ↦ inr (w.full-is, inl (rw (← c.sign.view_is) (sym c.line_fill-fill.ensures.line_fill ∙ w.in_default-2.is-0)))
-    ]) (elim c.if-full.branch [
-      | then-full w ↦ w.next-is ∙ ap (λ k. laid_as_end k c.in-Item.next) (sym w.if-full.true)
-      | else-full w ↦ w.next-is ∙ ap (λ k. laid_as_end k c.in-Item.next) (sym w.if-full.false)
-    ]) in
-    (page, next_met (same_octets read.3 ∙ same_octets i.steps.3) (same_octets c.in-Item.ensures.steps.3) c.meet.new.state c.in-Item.next c.if-full.next c.in-Item.ensures.met lays c.loop-cursor-test.true (i.drawn page d))
+    let raw = c.read_item-next.result in
+    let lays : LaysNext c.args.sign.now c.loop-cursor.cursor c.match-fill.read.lines raw c.match-fill-2.next = elim c.match-fill-2.branch [
+      | in-Words-Char+then-is_full w ↦ lays_next (search rules) c.match-fill.read.lines w.is_full.result (inl (w.in-Words-Char.field-0-1, w.in-Words-Char.is-1, rw w.group-lines.ensures.lines at w.is_full.ensures.full)) (w.next-is ∙ ap (λ k. laid_as_end k raw) (sym w.if-is_full.true))
+      | in-Words-Char+else-is_full w ↦ lays_next (search rules) c.match-fill.read.lines w.is_full.result (inl (w.in-Words-Char.field-0-1, w.in-Words-Char.is-1, rw w.group-lines.ensures.lines at w.is_full.ensures.full)) (w.next-is ∙ ap (λ k. laid_as_end k raw) (sym w.if-is_full.false))
+      | in-Words+in-Tag-1 w ↦ lays_next (search rules) c.match-fill.read.lines false (inr (refl, search rules)) w.next-is
+      | in-Off-1 w ↦ lays_next (search rules) c.match-fill.read.lines false (inr (refl, search rules)) w.next-is
+    ] in
+    (page, next_read (same_octets c.read.ensures.step ∙ same_octets i.steps.3) (same_octets c.read_item-next.ensures.steps.3) (i.drawn page d) c.loop-cursor-test.true raw c.match-fill-2.next c.read_item-next.ensures.item lays)
 
 pub loop-cursor-preserved : goal.loop-cursor-preserved
 loop-cursor-preserved c =
     let i = c.loop-cursor.invariant in
     let start = c.args.source.now in
-    let d = c.draw_item-first.ensures in
-    let (first, read) = octet_there c.loop-cursor.cursor.at c.match-fill.read.end c.loop-cursor.first i.read_behind c.loop-cursor.source (same_octets i.steps.3) c.is_none.result c.is_none.ensures (elim c.if-is_none.branch [
-      | then-is_none w ↦ inl (w.if-is_none.true, w.first-is ∙ w.read-first.ensures.octet, w.source-is ∙ w.read-first.ensures.step)
-      | else-is_none w ↦ inr (w.if-is_none.false, w.first-is, w.source-is)
-    ]) in
-    let lays : LaysNext c.args.sign.now (record { at = c.loop-cursor.cursor.at; state = c.meet.new.state }) c.match-fill.read.lines c.in-Item.next c.if-full.next = lays_next (search rules) c.match-fill.read.lines c.match-fill-2.full (elim c.match-fill-2.branch [
-      | in-Words-Char w ↦ rw w.full-is (inl (w.in-Words-Char.field-0-1, w.in-Words-Char.is-1, rw w.group-lines.ensures.lines at w.is_full-full.ensures.full))
-      | in_default-2 w ↦ inr (w.full-is, inr (w.in_default-2.field-0-1, w.in_default-2.is-1))
-      | in_default-2-2 w ↦ inr (w.full-is, inl (rw (← c.sign.view_is) (sym c.line_fill-fill.ensures.line_fill ∙ w.in_default-2.is-0)))
-    ]) (elim c.if-full.branch [
-      | then-full w ↦ w.next-is ∙ ap (λ k. laid_as_end k c.in-Item.next) (sym w.if-full.true)
-      | else-full w ↦ w.next-is ∙ ap (λ k. laid_as_end k c.in-Item.next) (sym w.if-full.false)
-    ]) in
-    let same = same_octets read.3 ∙ same_octets i.steps.3 in
-    let met = same_octets c.in-Item.ensures.steps.3 in
-    let long : c.if-full.next.len ≡ c.in-Item.next.len = elim c.if-full.branch [
-      | then-full w ↦ ap (λ (n : NextItem). n.len) w.next-is
-      | else-full w ↦ ap (λ (n : NextItem). n.len) w.next-is
+    let d = c.draw_item-beside.ensures in
+    let same = same_octets c.read.ensures.step ∙ same_octets i.steps.3 in
+    let there = same_octets c.read_item-next.ensures.steps.3 in
+    let raw = c.read_item-next.result in
+    let lays : LaysNext c.args.sign.now c.loop-cursor.cursor c.match-fill.read.lines raw c.match-fill-2.next = elim c.match-fill-2.branch [
+      | in-Words-Char+then-is_full w ↦ lays_next (search rules) c.match-fill.read.lines w.is_full.result (inl (w.in-Words-Char.field-0-1, w.in-Words-Char.is-1, rw w.group-lines.ensures.lines at w.is_full.ensures.full)) (w.next-is ∙ ap (λ k. laid_as_end k raw) (sym w.if-is_full.true))
+      | in-Words-Char+else-is_full w ↦ lays_next (search rules) c.match-fill.read.lines w.is_full.result (inl (w.in-Words-Char.field-0-1, w.in-Words-Char.is-1, rw w.group-lines.ensures.lines at w.is_full.ensures.full)) (w.next-is ∙ ap (λ k. laid_as_end k raw) (sym w.if-is_full.false))
+      | in-Words+in-Tag-1 w ↦ lays_next (search rules) c.match-fill.read.lines false (inr (refl, search rules)) w.next-is
+      | in-Off-1 w ↦ lays_next (search rules) c.match-fill.read.lines false (inr (refl, search rules)) w.next-is
     ] in
-    let on : c.loop-cursor.cursor.at - c.args.cursor.now.at + (c.draw_item-first.new.cursor.at - c.loop-cursor.cursor.at) ≡ c.draw_item-first.new.cursor.at - c.args.cursor.now.at = omega (arith, i.on, d.forward) in
+    let long : c.match-fill-2.next.len ≡ raw.len = elim c.match-fill-2.branch [
+      | in-Words-Char+then-is_full w ↦ ap (λ (n : NextItem). n.len) w.next-is
+      | in-Words-Char+else-is_full w ↦ ap (λ (n : NextItem). n.len) w.next-is
+      | in-Words+in-Tag-1 w ↦ ap (λ (n : NextItem). n.len) w.next-is
+      | in-Off-1 w ↦ ap (λ (n : NextItem). n.len) w.next-is
+    ] in
+    let on : c.loop-cursor.cursor.at - c.args.cursor.now.at + c.match-fill-2.next.len ≡ c.draw_item-beside.new.cursor.at - c.args.cursor.now.at = omega (arith, i.on, d.at) in
     record {
-      drawn = λ page known. area_in (sym (met ∙ same)) (d.drawn page (next_met same met c.meet.new.state c.in-Item.next c.if-full.next c.in-Item.ensures.met lays c.loop-cursor-test.true (i.drawn page known)));
-      on = omega (arith, i.on, d.forward);
-      read_behind = IfSome_then c.draw_item-first.result d.next (λ octet is. (ap (λ o. slice_get o c.draw_item-first.new.cursor.at) (sym (met ∙ same)) ∙ is.0, is.1));
-      steps = steps_within start (steps_then start (steps_then start (steps_then start i.steps read) c.in-Item.ensures.steps) d.steps) (omega arith) (omega (arith, i.on, d.forward, long, c.in-Item.ensures.some, read_one c.loop-cursor.first));
-      fills = subst (IsFilledBy c.args.sign.now c.args.plane.now c.draw_item-first.new.plane) on (filled_then c.args.sign.now c.args.plane.now c.loop-cursor.plane c.draw_item-first.new.plane _ _ i.fills d.fills);
+      drawn = λ page known. run_in (sym (there ∙ same)) (d.drawn page (next_read same there (i.drawn page known) c.loop-cursor-test.true raw c.match-fill-2.next c.read_item-next.ensures.item lays));
+      on = omega (arith, i.on, d.at);
+      steps = steps_within start (steps_then start (steps_then start (steps_then start i.steps (steps_of c.loop-cursor.source c.read.ensures.step)) c.read_item-next.ensures.steps) d.steps) (omega arith) (omega (arith, i.on, d.at, long, c.read_item-next.ensures.some));
+      fills = subst (IsFilledBy c.args.sign.now c.args.plane.now c.draw_item-beside.new.plane) on (filled_then c.args.sign.now c.args.plane.now c.loop-cursor.plane c.draw_item-beside.new.plane _ _ i.fills d.fills);
     }
 
 pub returns : goal.returns
@@ -138,11 +91,10 @@ returns c =
     let i = c.loop-cursor.invariant in
     let past : c.match-fill.read.end ≤ c.loop-cursor.cursor.at = omega (arith, c.loop-cursor-test.false) in
     let (page, d) = c.requires.begins in
-    let now = i.drawn page d in
-    let at : c.loop-cursor.cursor.at ≡ c.match-fill.read.end = omega (arith, past, now.left.end) in
+    let at : c.loop-cursor.cursor.at ≡ c.match-fill.read.end = omega (arith, past, (i.drawn page d).so.left.end) in
     record {
-      drawn = i.drawn;
+      drawn = λ page d. (i.drawn page d).so;
       at = (at, i.on);
-      steps = steps_within c.args.source.now i.steps (omega arith) (omega (arith, at, none_read c.args.source.now.octets c.loop-cursor.cursor.at c.match-fill.read.end c.loop-cursor.first i.read_behind past));
+      steps = steps_within c.args.source.now i.steps (omega arith) (omega (arith, at));
       fills = i.fills;
     }

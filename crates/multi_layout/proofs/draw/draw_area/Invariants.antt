@@ -1,13 +1,12 @@
-use Rattle.multi_layout.proofs.Common.{ℕ, ◌+◌, ◌-◌, ◌*◌, ◌≤◌, RisesBetween, IsAreaDrawn, IsFilledBy, IsPageDrawn, IsReadBehind, item_steps, octets_read}
+use Rattle.multi_layout.proofs.Common.{ℕ, ◌+◌, ◌-◌, ◌*◌, ◌≤◌, RisesBetween, IsFilledBy, IsPageDrawn, IsRunDrawn, item_steps}
 use Rattle.multi_layout.proofs.draw.draw_area.Given as goal
 
 -- the area's items so far are drawn
 abbrev pub invariant-loop-cursor : goal.invariant-loop-cursor
 invariant-loop-cursor l = record {
-  drawn : (page : ℕ) → IsPageDrawn l.sign l.fn.source.octets l.layer page l.fn.cursor l.fn.plane → IsAreaDrawn l.sign l.fn.source.octets l.layer page l.read l.cursor l.plane;
+  drawn : (page : ℕ) → IsPageDrawn l.sign l.fn.source.octets l.layer page l.fn.cursor l.fn.plane → IsRunDrawn l.sign l.fn.source.octets l.layer page l.read l.beside l.cursor l.plane;
   on : l.fn.cursor.at ≤ l.cursor.at;
-  read_behind : IsReadBehind l.fn.source.octets l.cursor.at l.read.end l.first;
-  steps : RisesBetween l.fn.source l.source 0 (9 * (l.read.end - l.fn.cursor.at) + 1 + item_steps l.read.next + 9 * (l.cursor.at - l.fn.cursor.at) + octets_read l.first);
+  steps : RisesBetween l.fn.source l.source 0 (9 * (l.read.end - l.fn.cursor.at) + 1 + item_steps l.read.next + 9 * (l.cursor.at - l.fn.cursor.at));
   fills : IsFilledBy l.sign l.fn.plane l.plane (l.cursor.at - l.fn.cursor.at);
 }
 

@@ -2,13 +2,11 @@ use Rattle.multi_layout.proofs.Common.{◌==◌, not, ◌≡◌, ℕ, ◌≤◌,
 use Rattle.multi_layout.proofs.AreaLinesLemmas.{IsReadFrom}
 use Rattle.multi_layout.proofs.read.read_lines.Given as goal
 
--- the table has the ended lines of the items so far, and each octet of them took at most nine steps; as long as nothing but settings was
--- read, the cursor is behind them
+-- the table has the ended lines of the items so far, and each octet of them took at most nine steps; the cursor is behind the first settings
 abbrev pub invariant-loop-first : goal.invariant-loop-first
 invariant-loop-first g l = record {
   so_far : (layer : Layer) (page : ℕ) (plane : BitPlane) → IsPageDrawn l.sign l.fn.source.octets layer page l.fn.cursor plane
       → IsReadFrom (not (g.row.WORDS == 0)) l.sign l.fn.source.octets layer page plane l.cursor l.at l.kept l.read.lines;
-  stays : l.cursor.at ≡ l.at → l.kept.state ≡ l.cursor.state;
   begins : l.fn.cursor.at ≤ l.cursor.at;
   forward : l.cursor.at ≤ l.at;
   first : l.first ≡ slice_get l.fn.source.octets l.at;
