@@ -5,7 +5,7 @@ ghost use Rattle.multi_layout.specs.Prelude.{RisesBetween, charged, IsSound, Bit
 ghost use Rattle.multi_token.specs.Spelling as spelled;
 
 use crate::cursor::{Cursor, read_item};
-use multi_judge::{Area, CountedLine, KnownItem, LineTable, NextItem, Pass, Terms, go_along};
+use multi_judge::{Area, CountedLine, KnownItem, LineTable, NextItem, Pass, Terms};
 use multi_token::Source;
 
 /// Room for what drawing an area needs: the table of its counted lines, and where it ends. It's lent to one drawing after the other, since
@@ -71,7 +71,8 @@ pub(crate) fn read_lines<const WORDS: bool>(
             // The font in force is one of the sign's.
             unreachable!();
         };
-        (at, first) = go_along(sign, &cells, &mut kept.state, source, at);
+        let run = kept.state.go_along(&cells, source, at, false);
+        (at, first) = (at + run.len, run.next);
     }
     read.end = at;
     end_group(&kept.state.area, &mut read.lines);

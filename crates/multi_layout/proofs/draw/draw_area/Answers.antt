@@ -25,7 +25,6 @@ loop-cursor-init c =
       fills = filled_longer sign plane plane _ _ (omega arith) (filled_none sign plane);
     }
 
-
 pub unreachable-requires : goal.unreachable-requires
 unreachable-requires c =
     let (page, d) = c.requires.begins in

@@ -35,9 +35,9 @@ returns-in-Full c =
     let found : cell_in sign c.args.cursor.now.state.attributes.font.number c.in-Char.number ≡ Some c.in-Some.cell = rw (← c.sign.view_is) (sym c.cell.ensures.cell ∙ c.in-Some.is) in
     record {
       drawn = λ page n. run_ends (character_drawn n c.in-Char.is found c.in-Some.ensures.size.0.1 (c.from-in-Char.ensures ∙ c.gap.ensures) (omega (arith, c.from-in-Char.ensures, c.gap.type_inv)) (ap (λ w. w + c.from-in-Char.result) (c.from.ensures ∙ c.width-width.ensures)) c.match-beside.place c.match-beside.state (elim c.match-beside.branch [
-      | in-Some-beside w ↦ inl (w.in-Some-beside.is ∙ ap Some (sym w.place-is), w.state-is ∙ w.lengthen.ensures)
-      | in-None w ↦ rw (w.state-is, w.place-is) (inr (record { width = c.width-width.result; wide = c.width-width.ensures; free = w.put_character.result; clash = w.put_character.ensures.conflicts; added = w.put_character.ensures.added }, w.group-lines.result.now, w.group-lines.ensures.lines, w.place_at-place.ensures.place, w.place_at-place.ensures.low.0))
-    ]) c.put_character-in-Char.ensures.drawn);
+        | in-Some-beside w ↦ inl (w.in-Some-beside.is ∙ ap Some (sym w.place-is), w.state-is ∙ w.lengthen.ensures)
+        | in-None w ↦ rw (w.state-is, w.place-is) (inr (record { width = c.width-width.result; wide = c.width-width.ensures; free = w.put_character.result; clash = w.put_character.ensures.conflicts; added = w.put_character.ensures.added }, w.group-lines.result.now, w.group-lines.ensures.lines, w.place_at-place.ensures.place, w.place_at-place.ensures.low.0))
+      ]) c.put_character-in-Char.ensures.drawn);
       at = refl;
       steps = steps_within c.args.source.now c.cell.ensures.steps (omega arith) (omega arith);
       fills = rows_few sign c.args.next.len (omega (arith, n.read_is.len, spelling_some n.item.item)) (cell_height sign (map meant n.before) c.args.cursor.now.state n.up_to.between.state_is c.in-Char.number c.in-Some.cell found).1 c.put_character-in-Char.ensures.counted;
@@ -50,9 +50,9 @@ returns-in_default-line_just c =
     let found : cell_in sign c.args.cursor.now.state.attributes.font.number c.in-Char.number ≡ Some c.in-Some.cell = rw (← c.sign.view_is) (sym c.cell.ensures.cell ∙ c.in-Some.is) in
     record {
       drawn = λ page n. drawn_beside n c.in-Char.is found c.in-Some.ensures.size.0.1 (c.from-in-Char.ensures ∙ c.gap.ensures) (omega (arith, c.from-in-Char.ensures, c.gap.type_inv)) (ap (λ w. w + c.from-in-Char.result) (c.from.ensures ∙ c.width-width.ensures)) c.match-beside.place c.match-beside.state (elim c.match-beside.branch [
-      | in-Some-beside w ↦ inl (w.in-Some-beside.is ∙ ap Some (sym w.place-is), w.state-is ∙ w.lengthen.ensures)
-      | in-None w ↦ rw (w.state-is, w.place-is) (inr (record { width = c.width-width.result; wide = c.width-width.ensures; free = w.put_character.result; clash = w.put_character.ensures.conflicts; added = w.put_character.ensures.added }, w.group-lines.result.now, w.group-lines.ensures.lines, w.place_at-place.ensures.place, w.place_at-place.ensures.low.0))
-    ]) c.put_character-in-Char.ensures.drawn c.in_default-line_just.not-Full;
+        | in-Some-beside w ↦ inl (w.in-Some-beside.is ∙ ap Some (sym w.place-is), w.state-is ∙ w.lengthen.ensures)
+        | in-None w ↦ rw (w.state-is, w.place-is) (inr (record { width = c.width-width.result; wide = c.width-width.ensures; free = w.put_character.result; clash = w.put_character.ensures.conflicts; added = w.put_character.ensures.added }, w.group-lines.result.now, w.group-lines.ensures.lines, w.place_at-place.ensures.place, w.place_at-place.ensures.low.0))
+      ]) c.put_character-in-Char.ensures.drawn c.in_default-line_just.not-Full;
       at = refl;
       steps = steps_within c.args.source.now c.cell.ensures.steps (omega arith) (omega arith);
       fills = rows_few sign c.args.next.len (omega (arith, n.read_is.len, spelling_some n.item.item)) (cell_height sign (map meant n.before) c.args.cursor.now.state n.up_to.between.state_is c.in-Char.number c.in-Some.cell found).1 c.put_character-in-Char.ensures.counted;

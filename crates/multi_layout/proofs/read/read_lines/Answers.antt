@@ -2,7 +2,10 @@ use Rattle.multi_layout.proofs.Common.{◌==◌, not, ◌≡◌, ◌+◌, ◌-�
 use Rattle.multi_layout.proofs.AreaLinesLemmas.{passed, goes_within, GoesOn, so_read, placed_in, IsReadFrom, IsReadTo, area_begins, ends_at, ends_string, item_read, nothing_read, read_within, so_next, ready_state, run_gone}
 use Rattle.multi_layout.proofs.AreaReadLemmas.{read_lines, read_ready, read_state}
 use Rattle.multi_judge.proofs.ReadLemmas.{limited_of}
+use Rattle.multi_judge.proofs.RunReadLemmas.{run_passed}
 use Rattle.multi_judge.specs.Run.{IsRunPassed}
+use Rattle.sign_font.specs.Text.{AreWidthsOf}
+use Rattle.std.proofs.Common.{rules}
 use Rattle.multi_layout.proofs.WalkLemmas.{font_known, same_octets, steps_of, steps_then, steps_within}
 use Rattle.multi_layout.proofs.read.read_lines.Goals.{then-cursor-at+then-is_setting, else-cursor-at, in-Some+then-begins_area, in_default}
 use Rattle.multi_layout.proofs.read.read_lines.Goals as goal
@@ -75,23 +78,23 @@ unreachable-requires g c =
     let r = item_read (i.so_far layer page plane d) (same_octets i.steps.3) c.read_item-next.result c.read_item-next.ensures.item (sym c.begins_area.ensures ∙ c.if-begins_area.false) c.pass_item.new.kept c.pass_item.new.lines c.pass_item.ensures.known in
     font_known (read_state c.requires.sound r.so.read) (rw (← c.sign.view_is) (sym c.cells.ensures.cells ∙ c.in_default-cells.is))
 
-pub go_along-requires-clause-limited : goal.go_along-requires-clause-limited
-go_along-requires-clause-limited g c =
+pub go_along-run-requires-clause-limited : goal.go_along-run-requires-clause-limited
+go_along-run-requires-clause-limited g c =
     let i = c.loop-first.invariant in
     let (layer, page, plane, d) = c.requires.page in
     let r = item_read (i.so_far layer page plane d) (same_octets i.steps.3) c.read_item-next.result c.read_item-next.ensures.item (sym c.begins_area.ensures ∙ c.if-begins_area.false) c.pass_item.new.kept c.pass_item.new.lines c.pass_item.ensures.known in
     limited_of (not (g.row.WORDS == 0)) (ap (λ n. not (n == 0)) c.if-this-ne0.false) c.args.sign.now c.pass_item.new.kept _ r.so.read.of
 
-pub go_along-requires-clause-small : goal.go_along-requires-clause-small
-go_along-requires-clause-small g c =
+pub go_along-run-requires-clause-small : goal.go_along-run-requires-clause-small
+go_along-run-requires-clause-small g c =
     let i = c.loop-first.invariant in
     let (layer, page, plane, d) = c.requires.page in
     let r = item_read (i.so_far layer page plane d) (same_octets i.steps.3) c.read_item-next.result c.read_item-next.ensures.item (sym c.begins_area.ensures ∙ c.if-begins_area.false) c.pass_item.new.kept c.pass_item.new.lines c.pass_item.ensures.known in
     let octets = same_octets c.cells.ensures.step ∙ same_octets c.pass_item.ensures.steps.3 ∙ same_octets c.read_item-next.ensures.steps.3 ∙ same_octets i.steps.3 in
     (ready_state (not (g.row.WORDS == 0)) c.pass_item.new.kept (read_ready c.requires.sound r.so.read), omega (arith, ap length octets, read_within r))
 
-pub go_along-requires-clause-within : goal.go_along-requires-clause-within
-go_along-requires-clause-within g c =
+pub go_along-run-requires-clause-within : goal.go_along-run-requires-clause-within
+go_along-run-requires-clause-within g c =
     let i = c.loop-first.invariant in
     let (layer, page, plane, d) = c.requires.page in
     let r = item_read (i.so_far layer page plane d) (same_octets i.steps.3) c.read_item-next.result c.read_item-next.ensures.item (sym c.begins_area.ensures ∙ c.if-begins_area.false) c.pass_item.new.kept c.pass_item.new.lines c.pass_item.ensures.known in
@@ -107,7 +110,12 @@ loop-first-preserved g c =
     let is = c.is_octet.ensures.octet c.if-not-is_octet.false in
     let off : not (g.row.WORDS == 0) ≡ false = ap (λ n. not (n == 0)) c.if-this-ne0.false in
     let at = c.loop-first.at + c.read_item-next.result.len in
-    let run = subst (λ o. IsRunPassed c.args.sign.now o at c.pass_item.new.kept.state c.go_along.result.0 c.go_along.new.state) octets c.go_along.ensures.run in
+    let state = c.pass_item.new.kept.state in
+    let along = c.go_along-run.ensures in
+    let len = c.go_along-run.result.len in
+    let widths : AreWidthsOf c.args.sign.now state.attributes.font.number c.in-Some-cells.cells = search rules in
+    let run = subst (λ o. IsRunPassed c.args.sign.now o at state (at + len) c.go_along-run.new.self) octets
+    (run_passed c.args.sign.now c.cells.new.source.octets at state c.go_along-run.new.self len c.go_along-run.result.width along.within along.plain (along.width c.args.sign.now state.attributes.font.number widths) along.narrow along.run along.is) in
     let goes : GoesOn c.loop-first.cursor c.loop-first.at c.read_item-next.result c.pass_item.new.kept.state c.if-cursor-at.cursor = elim c.if-cursor-at.branch [
       | then-cursor-at+then-is_setting w ↦ inl (w.if-cursor-at.true, sym w.is_setting.ensures ∙ w.if-is_setting.true, w.cursor-is)
       | else-cursor-at w ↦ inr w.cursor-is
@@ -118,13 +126,13 @@ loop-first-preserved g c =
           let r = passed (i.so_far layer page plane d) same c.read_item-next.result c.read_item-next.ensures.item (sym c.begins_area.ensures ∙ c.if-begins_area.false) c.pass_item.new.kept c.pass_item.new.lines c.pass_item.ensures.known c.requires.sound c.requires.kind c.if-cursor-at.cursor goes in
           record {
             drawn = r.drawn;
-            so = run_gone off c.requires.sound (omega (arith, read_within r)) at c.go_along.result.0 c.pass_item.new.kept c.go_along.new.state c.pass_item.new.lines (c.pass_item.ensures.behind is off) r.so run;
+            so = run_gone off c.requires.sound (omega (arith, read_within r)) at (at + len) c.pass_item.new.kept c.go_along-run.new.self c.pass_item.new.lines (c.pass_item.ensures.behind is off) r.so run;
           };
       begins = omega (arith, i.begins, begins);
       forward = omega (arith, run.forward, forward);
-      first = c.go_along.ensures.next ∙ ap (λ o. slice_get o c.go_along.result.0) octets;
+      first = along.next ∙ ap (λ o. slice_get o (at + len)) octets;
       none = i.none;
-      steps = steps_within start (steps_then start (steps_then start (steps_then start (steps_then start i.steps c.read_item-next.ensures.steps) (steps_of c.read_item-next.new.source (c.pass_item.ensures.octet is))) (steps_of c.pass_item.new.source c.cells.ensures.step)) c.go_along.ensures.steps)
+      steps = steps_within start (steps_then start (steps_then start (steps_then start (steps_then start i.steps c.read_item-next.ensures.steps) (steps_of c.read_item-next.new.source (c.pass_item.ensures.octet is))) (steps_of c.pass_item.new.source c.cells.ensures.step)) along.steps)
           (omega arith) (omega (arith, run.forward, i.begins, i.forward, c.read_item-next.ensures.some));
     }
 
