@@ -11,11 +11,10 @@ pub use Rattle.sign_font.specs.Text.{AreWidthsOf, HasWidth, IsNoSpace, width_in}
 pub use Rattle.sign_font.specs.declared.parts.LineFill.TheVariants.{Words}
 pub use Rattle.multi_meaning.specs.Address.{Spot, in_group, lines_of, Standing, is_glyph, area_of}
 pub use Rattle.multi_meaning.specs.Attributes.{whole_sign, default_line_just, default_page_just, is_inside, rectangle}
-pub use Rattle.multi_meaning.specs.Codes.{code_of}
 pub use Rattle.multi_meaning.specs.kept.Fits.{room_for}
 pub use Rattle.multi_meaning.specs.Laid.{laid_items}
 pub use Rattle.multi_meaning.specs.Line.{average, height_of}
-pub use Rattle.multi_meaning.specs.Meaning.{Does, begins_area, Faulty, is_new_page, meaning_of_tag, Meaning, Shows}
+pub use Rattle.multi_meaning.specs.Meaning.{Does, begins_area, is_new_page, Meaning, Shows}
 pub use Rattle.multi_meaning.specs.kept.Bounds.{has_place}
 pub use Rattle.multi_meaning.specs.Offence.{clashes, conflicts}
 pub use Rattle.multi_meaning.specs.Place.{start, spread}

@@ -1,10 +1,9 @@
 //! The items of a string, as they are read.
 
-ghost use Rattle.std.specs.Prelude.{◌≡◌, Err, true};
-ghost use Rattle.multi_judge.specs.Prelude.{code_of, begins_area, Faulty, has_place, is_new_page, meaning_of_tag, IsOctet, is_setting, meant_by};
+ghost use Rattle.std.specs.Prelude.{◌≡◌, true};
+ghost use Rattle.multi_judge.specs.Prelude.{begins_area, has_place, is_new_page, IsOctet, is_setting, meant_by};
 
-use multi_meaning::SyntaxError;
-use multi_tag::{Tag, TagFault};
+use multi_tag::Tag;
 
 /// An item of a string: a character by its number, or what a tag says (NTCIP 1203 v03, MULTI).
 #[derive(Clone, Copy)]
@@ -55,15 +54,5 @@ impl KnownItem {
         ensures all { IsOctet self → result ≡ true }
     {
         matches!(self, KnownItem::Char(number) if number <= 255)
-    }
-}
-
-/// The error of a tag at fault.
-pub fn tag_error(fault: TagFault) -> SyntaxError
-    ensures { meaning_of_tag (Err fault) ≡ Faulty (code_of result) }
-{
-    match fault {
-        TagFault::Unsupported => SyntaxError::UnsupportedTag,
-        TagFault::Value => SyntaxError::UnsupportedTagValue,
     }
 }

@@ -20,7 +20,7 @@ mod terms;
 
 pub use area::{Area, Group};
 pub use attributes::Attributes;
-pub use item::{KnownItem, NextItem, tag_error};
+pub use item::{KnownItem, NextItem};
 pub use judge::judge_tag;
 pub use line::Line;
 pub use pass::Pass;

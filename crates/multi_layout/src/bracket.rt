@@ -3,9 +3,9 @@
 ghost use Rattle.std.specs.Prelude.{◌≡◌, ◌≢◌, ◌+◌, ◌-◌, ◌*◌, ◌^◌, ◌<◌, ◌⊎◌, IfOk, IfErr, OnErr, Some, length, slice_get};
 ghost use Rattle.multi_layout.specs.Prelude.{RisesBetween, is_bracket, HasNoTagAt, code_of, IsFaultAt, IsItemAt, meant_by};
 
-use multi_judge::{KnownItem, NextItem, tag_error};
+use multi_judge::{KnownItem, NextItem};
 use multi_meaning::SyntaxError;
-use multi_tag::{Tag, read_ahead, read_tag};
+use multi_tag::{Tag, TagFault, read_ahead, read_tag};
 use multi_token::{Bracketed, Kind, Source, Token, read_bracket};
 
 /// Whether an octet is a bracket.
@@ -71,7 +71,7 @@ fn fault_of(source: &mut Source<'_>, at: usize) -> SyntaxError
         kind: Kind::Tag,
     };
     match read_tag(source, &token) {
-        Err(fault) => tag_error(fault),
-        Ok(_) => SyntaxError::UnsupportedTag,
+        Err(TagFault::Value) => SyntaxError::UnsupportedTagValue,
+        Err(TagFault::Unsupported) | Ok(_) => SyntaxError::UnsupportedTag,
     }
 }
