@@ -21,7 +21,7 @@ use Rattle.multi_layout.specs.Limits.{drawing_limit, plane_limit}
 use Rattle.multi_layout.specs.declared.checked.NextPage.{NextPage}
 use Rattle.multi_layout.specs.NextPage.{IsNextPage, IsReadOn}
 use Rattle.multi_layout.specs.CheckedData.{CheckedData}
-use Rattle.multi_layout.specs.Pages.{IsUnderWay, PagesState, TurnsPage}
+use Rattle.multi_layout.specs.Pages.{IsDrawnFew, IsReadFew, IsUnderWay, PagesState, TurnsPage}
 
 -- ---- what is kept where the cursor stands
 
@@ -264,15 +264,6 @@ module _ (old : PagesState) (start next : NextPage) (u : IsUnderWay old start.cu
     turns_page = grind (arith, rises_more old.string.source string.source, at_most (next.cursor.state.pages == start.cursor.state.pages) 2, drawing_fills old.string.sign old.plane plane start.cursor next.cursor (length old.string.source.octets) f on.1)
 
 -- ---- the bounds of all pages
-
--- all pages so far took no more steps over the string, and over the plane, than they may
-abbrev IsReadFew : PagesState → Type 0
-IsReadFew pages = (pages.string_started ≤ pages.string.source.steps)
-    × (pages.string.source.steps ≤ pages.string_started + reading_limit (length pages.string.source.octets))
-
-abbrev IsDrawnFew : PagesState → Type 0
-IsDrawnFew pages = (pages.plane_started ≤ pages.plane.steps)
-    × (pages.plane.steps ≤ pages.plane_started + plane_limit pages.string.sign (length pages.string.source.octets))
 
 module _ (pages : PagesState) (cursor : Cursor) (u : IsUnderWay pages cursor) where
   pub all_read : IsReadFew pages

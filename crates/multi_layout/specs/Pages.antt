@@ -82,3 +82,13 @@ ShowsAt sign octets clock colour plane here =
 -- drawing a string of n octets took no more steps over the plane than the limit (own)
 abbrev pub TakesFew : SignData → ℕ → BitPlane → BitPlane → Type 0
 TakesFew sign n old new = (old.steps ≤ new.steps) × (new.steps ≤ old.steps + plane_limit sign n)
+
+-- all pages so far took no more steps over the string than drawing one may take (own)
+abbrev pub IsReadFew : PagesState → Type 0
+IsReadFew pages = (pages.string_started ≤ pages.string.source.steps)
+    × (pages.string.source.steps ≤ pages.string_started + reading_limit (length pages.string.source.octets))
+
+-- and no more over the plane (own)
+abbrev pub IsDrawnFew : PagesState → Type 0
+IsDrawnFew pages = (pages.plane_started ≤ pages.plane.steps)
+    × (pages.plane.steps ≤ pages.plane_started + plane_limit pages.string.sign (length pages.string.source.octets))

@@ -26,7 +26,7 @@ pub use Rattle.multi_judge.specs.Sums.{IsBelow}
 pub use Rattle.multi_judge.specs.Table.{group_lines}
 pub use Rattle.multi_judge.specs.declared.item.KnownItem.TheVariants.{Char}
 pub use Rattle.multi_judge.specs.Judging.{IsAt}
-pub use Rattle.multi_layout.specs.Pages.{IsSized, TakesFew, page_count, ShowsAt, IsUnderWay, PagesState, pages_state}
+pub use Rattle.multi_layout.specs.Pages.{IsDrawnFew, IsReadFew, IsSized, TakesFew, page_count, ShowsAt, IsUnderWay, PagesState, pages_state}
 pub use Rattle.multi_layout.specs.declared.paint.Layer.{Layer}
 pub use Rattle.multi_layout.specs.kept.AreaDrawing.{IsPageDrawn, HasCounted, IsAreaDrawn, IsFilledBy, whole_area, IsCountedBy, ReadsArea}
 pub use Rattle.multi_layout.specs.kept.AreaReading.{EndsGroup, IsNextRead, IsReadOf, KnowsArea, KnowsOn, ReadsOn, item_steps}
@@ -34,7 +34,7 @@ pub use Rattle.multi_layout.specs.kept.Cursors.{PassesTag, IsBetween, IsItemRead
 pub use Rattle.multi_layout.specs.kept.PageDrawing.{IsFilledFew, IsPagePassed, IsPageStart, IsReadTwice, IsStartOf}
 pub use Rattle.multi_layout.specs.kept.Passing.{IsAtStart, IsOnTheWay, IsPageSkipped}
 pub use Rattle.multi_layout.specs.kept.RunDrawing.{DrawsNext, IsNextDrawn, DrawsCharacter}
-pub use Rattle.multi_layout.specs.Limits.{check_limit, reading_limit, drawing_limit, plane_limit}
+pub use Rattle.multi_layout.specs.Limits.{IsJudgedIn, check_limit, reading_limit, shown_limit, drawing_limit, plane_limit}
 pub use Rattle.multi_layout.specs.NextPage.{IsNextPage, IsReadOn}
 pub use Rattle.multi_layout.specs.kept.Told.{IsToldOf, IsRefused, IsTold}
 pub use Rattle.multi_layout.specs.CheckedData.{CheckedData}

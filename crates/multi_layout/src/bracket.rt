@@ -65,12 +65,8 @@ fn fault_of(source: &mut Source<'_>, at: usize) -> SyntaxError
     let Ok(Bracketed::Tag(len)) = read_bracket(source, at, b'[') else {
         return SyntaxError::UnsupportedTag;
     };
-    let token = Token {
-        at,
-        len: len + 2,
-        kind: Kind::Tag,
-    };
-    match read_tag(source, &token) {
+    let (len, kind) = (len + 2, Kind::Tag);
+    match read_tag(source, &Token { at, len, kind }) {
         Err(TagFault::Value) => SyntaxError::UnsupportedTagValue,
         Err(TagFault::Unsupported) | Ok(_) => SyntaxError::UnsupportedTag,
     }

@@ -6,7 +6,7 @@ ghost use Rattle.multi_layout.specs.Prelude.{RisesBetween, Full, Lights, picture
 use crate::cursor::{Cursor, read_item};
 use crate::paint::{Layer, put_character};
 use crate::read::{AreaLines, read_lines};
-use multi_judge::{KnownItem, NextItem, State, Terms, is_full, place_at};
+use multi_judge::{KnownItem, NextItem, Terms, is_full, place_at};
 use multi_meaning::Place;
 use multi_tag::{LineJust, Tag};
 use multi_token::Source;
@@ -74,13 +74,9 @@ fn draw_area(
         };
         let mut next = read_item(source, cursor.at, first);
         if let (LineFill::Words, KnownItem::Char(_)) = (fill, next.item) {
-            let State {
-                attributes,
-                area,
-                ..
-            } = &cursor.state;
-            let lines = read.lines.group(attributes.page_just);
-            if is_full(attributes, area, lines) {
+            let state = &cursor.state;
+            let lines = read.lines.group(state.attributes.page_just);
+            if is_full(&state.attributes, &state.area, lines) {
                 // A space that is dropped is the end of its line.
                 next.item = KnownItem::Tag(Tag::NewLine(None));
             }

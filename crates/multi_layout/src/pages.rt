@@ -1,7 +1,7 @@
 //! The drawing of one page of an accepted string, or of all its pages in order into one plane.
 
 ghost use Rattle.std.specs.Prelude.{◌≡◌, ◌+◌, ◌-◌, ◌*◌, ◌<◌, ◌≤◌, true, false, nat_lt, length, IfSome, MatchOption};
-ghost use Rattle.multi_layout.specs.Prelude.{sem, RisesBetween, Lights, meanings, picture, pixel_at, shown, check_limit, drawing_limit, plane_limit, reading_limit, IsSized, ShowsAt, TakesFew, page_count, IsToldOf, IsUnderWay, PagesState, pages_state};
+ghost use Rattle.multi_layout.specs.Prelude.{sem, RisesBetween, Lights, meanings, picture, pixel_at, shown, check_limit, drawing_limit, plane_limit, reading_limit, IsSized, ShowsAt, TakesFew, page_count, IsToldOf, IsDrawnFew, IsReadFew, IsUnderWay, PagesState, pages_state, shown_limit};
 
 use crate::checked::{Checked, NextPage, Told, find_shown};
 use crate::cursor::Cursor;
@@ -65,8 +65,7 @@ impl<'a> Checked<'a> {
         ensures kept { self.new.sign ≡ self.old.sign }
         ensures size { (plane.new.width ≡ plane.old.width) × (plane.new.height ≡ plane.old.height) }
         ensures steps { RisesBetween self.old.source self.new.source 0 (reading_limit (length self.old.source.octets)) }
-        ensures plane_steps { (plane.old.steps ≤ plane.new.steps)
-            × (plane.new.steps ≤ plane.old.steps + plane_limit self.old.sign (length self.old.source.octets)) }
+        ensures plane_steps { TakesFew self.old.sign (length self.old.source.octets) plane.old plane.new }
     {
         if page >= self.told.pages {
             return false;
@@ -97,10 +96,8 @@ impl<'a> Checked<'a> {
         ensures drawn { Lights plane.new (pixel_at self.old.sign (meanings self.old.source.octets) result colour) }
         ensures kept { self.new.sign ≡ self.old.sign }
         ensures size { (plane.new.width ≡ plane.old.width) × (plane.new.height ≡ plane.old.height) }
-        ensures steps { RisesBetween self.old.source self.new.source 0
-            (check_limit (length self.old.source.octets) + reading_limit (length self.old.source.octets)) }
-        ensures plane_steps { (plane.old.steps ≤ plane.new.steps)
-            × (plane.new.steps ≤ plane.old.steps + plane_limit self.old.sign (length self.old.source.octets)) }
+        ensures steps { RisesBetween self.old.source self.new.source 0 (shown_limit (length self.old.source.octets)) }
+        ensures plane_steps { TakesFew self.old.sign (length self.old.source.octets) plane.old plane.new }
     {
         let (sign, source) = (&self.terms, &mut self.source);
         draw_told(sign, source, self.told, clock, colour, lines, plane)
@@ -110,15 +107,7 @@ impl<'a> Checked<'a> {
     /// [`Checked::draw`] does. The plane must have the sign's size. This takes no step.
     pub fn each_page(self, phase: u64, colour: u8, plane: Plane) -> Pages<'a>
         requires size { IsSized plane self.sign }
-        ensures { result ≡ record {
-          string = self.entry;
-          plane = plane;
-          phase = phase;
-          colour = colour;
-          next = 0;
-          string_started = self.entry.source.steps;
-          plane_started = plane.steps;
-        } }
+        ensures { result ≡ pages_state self.entry plane phase colour 0 self.entry.source.steps plane.steps }
     {
         Pages {
             start: NextPage {
@@ -149,8 +138,7 @@ pub(crate) fn draw_told(
     requires size { IsSized plane.old sign.now }
     ensures shown { ShowsAt sign.now source.old.octets clock colour plane.new result }
     ensures size { (plane.new.width ≡ plane.old.width) × (plane.new.height ≡ plane.old.height) }
-    ensures steps { RisesBetween source.old source.new 0
-        (check_limit (length source.old.octets) + reading_limit (length source.old.octets)) }
+    ensures steps { RisesBetween source.old source.new 0 (shown_limit (length source.old.octets)) }
     ensures plane_steps { TakesFew sign.now (length source.old.octets) plane.old plane.new }
 {
     let mut start = Cursor::new(sign);
@@ -197,10 +185,8 @@ impl<'a> Pages<'a> {
         ensures risen { result
             ≡ (self.now.string.source.steps - self.now.string_started) + (self.now.plane.steps - self.now.plane_started) }
         ensures most { result ≤ drawing_limit self.now.string.sign (length self.now.string.source.octets) }
-        ensures read { (self.now.string_started ≤ self.now.string.source.steps)
-            × (self.now.string.source.steps ≤ self.now.string_started + reading_limit (length self.now.string.source.octets)) }
-        ensures drawn { (self.now.plane_started ≤ self.now.plane.steps)
-            × (self.now.plane.steps ≤ self.now.plane_started + plane_limit self.now.string.sign (length self.now.string.source.octets)) }
+        ensures read { IsReadFew self.now }
+        ensures drawn { IsDrawnFew self.now }
     {
         (self.string.steps() - self.string_started) + (self.plane.steps() - self.plane_started)
     }
@@ -209,12 +195,9 @@ impl<'a> Pages<'a> {
     pub fn finish(self) -> (Checked<'a>, Plane)
         ensures given_back { result ≡ (self.entry.string, self.entry.plane) }
         ensures size { IsSized self.entry.plane self.entry.string.sign }
-        ensures read { (self.entry.string_started ≤ self.entry.string.source.steps)
-            × (self.entry.string.source.steps ≤ self.entry.string_started + reading_limit (length self.entry.string.source.octets)) }
-        ensures drawn { (self.entry.plane_started ≤ self.entry.plane.steps) × (self.entry.plane.steps
-            ≤ self.entry.plane_started + plane_limit self.entry.string.sign (length self.entry.string.source.octets)) }
+        ensures read { IsReadFew self.entry }
+        ensures drawn { IsDrawnFew self.entry }
     {
-        let Pages { string, plane, .. } = self;
-        (string, plane)
+        (self.string, self.plane)
     }
 }

@@ -1,7 +1,7 @@
 //! The verdict on a string, in one reading from the left with running sums.
 
 ghost use Rattle.std.specs.Prelude.{◌≡◌, ℕ, ◌+◌, ◌*◌, ◌^◌, ◌<◌, ◌≤◌, [], length, IfOk, IfErr, OnOk, OnErr, None};
-ghost use Rattle.multi_layout.specs.Prelude.{default_fault, under, SignData, code_of, Accepted, IsVerdict, Refused, check_limit, reading_limit, IsSized, ShowsAt, TakesFew, IsRefused, IsTold, IsAt, IsPassOf};
+ghost use Rattle.multi_layout.specs.Prelude.{default_fault, under, SignData, code_of, Accepted, IsVerdict, Refused, check_limit, reading_limit, IsSized, ShowsAt, TakesFew, IsRefused, IsTold, IsAt, IsPassOf, IsJudgedIn, shown_limit};
 
 use crate::bracket::{is_bracket, read_spelled};
 use crate::checked::{Checked, Told};
@@ -39,10 +39,8 @@ pub fn check<'a>(sign: &'a Sign, source: Source<'a>) -> Result<Checked<'a>, Faul
     ensures refused { IfErr result (λ fault. IsVerdict sign.now source.entry.octets (Refused fault.code fault.at)) }
     ensures kept { IfOk result (λ checked. (checked.sign ≡ sign.now) × (checked.source.octets ≡ source.entry.octets)) }
     ensures given_back { IfErr result (λ fault. fault.source.octets ≡ source.entry.octets) }
-    ensures steps { IfOk result (λ checked. (length source.entry.octets + 1 ≤ checked.source.steps)
-        × (checked.source.steps ≤ check_limit (length source.entry.octets))) }
-    ensures fault_steps { IfErr result (λ fault. (fault.at + 1 ≤ fault.source.steps)
-        × (fault.source.steps ≤ check_limit (length source.entry.octets))) }
+    ensures steps { IfOk result (λ checked. IsJudgedIn source.entry.octets (length source.entry.octets + 1) checked.source.steps) }
+    ensures fault_steps { IfErr result (λ fault. IsJudgedIn source.entry.octets (fault.at + 1) fault.source.steps) }
 {
     check_with(sign, sign.defaults(), source)
 }
@@ -67,10 +65,8 @@ pub fn check_with<'a>(
     ensures refused { IfErr result (λ fault. IsVerdict (under sign.now defaults) source.entry.octets (Refused fault.code fault.at)) }
     ensures kept { IfOk result (λ checked. (checked.sign ≡ under sign.now defaults) × (checked.source.octets ≡ source.entry.octets)) }
     ensures given_back { IfErr result (λ fault. fault.source.octets ≡ source.entry.octets) }
-    ensures steps { IfOk result (λ checked. (length source.entry.octets + 1 ≤ checked.source.steps)
-        × (checked.source.steps ≤ check_limit (length source.entry.octets))) }
-    ensures fault_steps { IfErr result (λ fault. (fault.at + 1 ≤ fault.source.steps)
-        × (fault.source.steps ≤ check_limit (length source.entry.octets))) }
+    ensures steps { IfOk result (λ checked. IsJudgedIn source.entry.octets (length source.entry.octets + 1) checked.source.steps) }
+    ensures fault_steps { IfErr result (λ fault. IsJudgedIn source.entry.octets (fault.at + 1) fault.source.steps) }
 {
     let terms = Terms::new(sign, defaults);
     let mut source = source;
@@ -80,11 +76,10 @@ pub fn check_with<'a>(
             terms,
             source,
         }),
-        Err(offence) => Err(Fault {
-            code: offence.error.code(),
-            at: offence.at,
-            source,
-        }),
+        Err(Offence { error, at }) => {
+            let code = error.code();
+            Err(Fault { code, at, source })
+        }
     }
 }
 
@@ -113,9 +108,8 @@ impl<'a> Judge<'a> {
         requires taken { default_fault sign.now defaults ≡ None }
         ensures { result ≡ under sign.now defaults }
     {
-        Judge {
-            terms: Terms::new(sign, defaults),
-        }
+        let terms = Terms::new(sign, defaults);
+        Judge { terms }
     }
 
     /// The number of pages of a string that the sign accepts; else the first error. Verdict and steps are those of [`check`].
@@ -154,7 +148,7 @@ impl<'a> Judge<'a> {
         ensures kept { source.new.octets ≡ source.old.octets }
         ensures steps { OnOk result (length source.old.octets + 1 ≤ source.new.steps) }
         ensures fault_steps { IfErr result (λ offence. offence.at + 1 ≤ source.new.steps) }
-        ensures most { source.new.steps ≤ 2 * check_limit (length source.old.octets) + reading_limit (length source.old.octets) }
+        ensures most { source.new.steps ≤ check_limit (length source.old.octets) + shown_limit (length source.old.octets) }
         ensures plane_steps { TakesFew self.now (length source.old.octets) plane.old plane.new }
     {
         let told = judge_string(&self.terms, source)?;
@@ -176,10 +170,8 @@ fn judge_string(sign: &Terms<'_>, source: &mut Source<'_>) -> Result<Told, Offen
         LineFill::Off => judge_items::<false>(sign, &mut pass, source)?,
         LineFill::Words => judge_items::<true>(sign, &mut pass, source)?,
     }
-    Ok(Told {
-        pages: pass.state.pages,
-        cycle: pass.state.whole_cycle(),
-    })
+    let (pages, cycle) = (pass.state.pages, pass.state.whole_cycle());
+    Ok(Told { pages, cycle })
 }
 
 /// Judges the items of a string from the first on: an item that begins with a bracket, or a character and those behind it that only

@@ -1,8 +1,8 @@
-use Rattle.multi_layout.proofs.Common.{refl, false, NextItem, ◌^◌, inl, inr, below_more, rules, ◌≡◌, ◌+◌, ◌-◌, ◌≤◌, slice_get, sym, ap, ◌∙◌, subst, arith, IfSome_then, IsFilledBy, ◌*◌, RisesBetween, item_steps}
-use Rattle.multi_layout.proofs.AreaDrawLemmas.{next_read, run_in, run_ends, area_in, area_short, filled_longer, filled_none, filled_then, octet_stands}
+use Rattle.multi_layout.proofs.Common.{refl, false, NextItem, ◌^◌, inl, inr, below_more, rules, ◌≡◌, ◌+◌, ◌-◌, ◌≤◌, slice_get, sym, ap, ◌∙◌, subst, arith, IsFilledBy, ◌*◌, RisesBetween, item_steps}
+use Rattle.multi_layout.proofs.AreaDrawLemmas.{next_read, run_in, run_ends, filled_longer, filled_none, filled_then, octet_stands}
 use Rattle.multi_layout.proofs.DrawLemmas.{low_between}
 use Rattle.multi_layout.proofs.FilledLemmas.{LaysNext, laid_as_end, lays_next}
-use Rattle.multi_layout.proofs.WalkLemmas.{steps_of, ready_between, same_octets, steps_then, steps_within}
+use Rattle.multi_layout.proofs.WalkLemmas.{steps_of, same_octets, steps_then, steps_within}
 use Rattle.multi_layout.specs.kept.AreaDrawing.{ReadsArea}
 use Rattle.multi_layout.proofs.draw.draw_area.Goals.{in-Off, in-Words, in-Words-Char+then-is_full, in-Words-Char+else-is_full, in-Words+in-Tag-1, in-Off-1}
 use Rattle.multi_layout.proofs.draw.draw_area.Goals as goal

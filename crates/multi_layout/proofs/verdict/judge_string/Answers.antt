@@ -23,7 +23,7 @@ pub returns-clause-told : goal.returns-clause-told
 returns-clause-told c =
     let sign = c.args.sign.now in
     let octets = c.args.source.now.octets in
-    rw c.whole_cycle.ensures (elim c.match-line_fill.branch [
+    rw c.whole_cycle-cycle.ensures (elim c.match-line_fill.branch [
       | in-Off+in_ok-judge_items-in-Off w ↦
           let (at, ended) = w.in_ok-judge_items-in-Off.ensures.ended in
           pass_told sign octets at c.match-line_fill.pass false c.match-line_fill.source (rw (← w.pass-is, ← w.source-is) at ended)
