@@ -1,15 +1,11 @@
 -- Limits on steps, for a string of n octets (own).
-use Rattle.std.specs.Prelude.{ℕ, ◌+◌, ◌*◌, ◌/◌, ◌≤◌, List, length}
+use Rattle.std.specs.Prelude.{ℕ, ◌+◌, ◌*◌, ◌/◌}
 use Rattle.page_plane.specs.Octets.{row_octets}
 use Rattle.sign_font.specs.Sign.{SignData, tallest}
 
 -- the check limit, C1: the most steps that judging a string takes (own)
 abbrev pub check_limit : ℕ → ℕ
 check_limit n = 9 * n + 1
-
--- judging these octets took at least so many steps, and no more than the limit (own)
-abbrev pub IsJudgedIn : List ℕ → ℕ → ℕ → Type 0
-IsJudgedIn octets least steps = (least ≤ steps) × (steps ≤ check_limit (length octets))
 
 -- the octets of the sign's plane (own)
 abbrev pub plane_octets : SignData → ℕ
@@ -18,10 +14,6 @@ plane_octets sign = row_octets sign.width * sign.height
 -- the most steps that drawing takes over the string (own)
 abbrev pub reading_limit : ℕ → ℕ
 reading_limit n = 18 * n + 2
-
--- the most steps over the string that finding its page at a clock and drawing it takes (own)
-abbrev pub shown_limit : ℕ → ℕ
-shown_limit n = check_limit n + reading_limit n
 
 -- the most steps that drawing takes over the plane: a row for each row of each character, and a fill for page 0, for each new
 -- page and for each background (own)

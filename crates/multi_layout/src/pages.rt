@@ -1,7 +1,7 @@
 //! The drawing of one page of an accepted string, or of all its pages in order into one plane.
 
 ghost use Rattle.std.specs.Prelude.{◌≡◌, ◌+◌, ◌-◌, ◌*◌, ◌<◌, ◌≤◌, true, false, nat_lt, length, IfSome, MatchOption};
-ghost use Rattle.multi_layout.specs.Prelude.{sem, RisesBetween, Lights, meanings, picture, pixel_at, shown, check_limit, drawing_limit, plane_limit, reading_limit, IsSized, ShowsAt, TakesFew, page_count, IsToldOf, IsDrawnFew, IsReadFew, IsUnderWay, PagesState, pages_state, shown_limit};
+ghost use Rattle.multi_layout.specs.Prelude.{sem, RisesBetween, Lights, meanings, picture, pixel_at, shown, check_limit, drawing_limit, plane_limit, reading_limit, IsSized, ShowsAt, TakesFew, page_count, IsToldOf, IsDrawnFew, IsReadFew, IsUnderWay, PagesState, pages_state};
 
 use crate::checked::{Checked, NextPage, Told, find_shown};
 use crate::cursor::Cursor;
@@ -96,7 +96,8 @@ impl<'a> Checked<'a> {
         ensures drawn { Lights plane.new (pixel_at self.old.sign (meanings self.old.source.octets) result colour) }
         ensures kept { self.new.sign ≡ self.old.sign }
         ensures size { (plane.new.width ≡ plane.old.width) × (plane.new.height ≡ plane.old.height) }
-        ensures steps { RisesBetween self.old.source self.new.source 0 (shown_limit (length self.old.source.octets)) }
+        ensures steps { RisesBetween self.old.source self.new.source 0
+            (check_limit (length self.old.source.octets) + reading_limit (length self.old.source.octets)) }
         ensures plane_steps { TakesFew self.old.sign (length self.old.source.octets) plane.old plane.new }
     {
         let (sign, source) = (&self.terms, &mut self.source);
@@ -138,7 +139,8 @@ pub(crate) fn draw_told(
     requires size { IsSized plane.old sign.now }
     ensures shown { ShowsAt sign.now source.old.octets clock colour plane.new result }
     ensures size { (plane.new.width ≡ plane.old.width) × (plane.new.height ≡ plane.old.height) }
-    ensures steps { RisesBetween source.old source.new 0 (shown_limit (length source.old.octets)) }
+    ensures steps { RisesBetween source.old source.new 0
+        (check_limit (length source.old.octets) + reading_limit (length source.old.octets)) }
     ensures plane_steps { TakesFew sign.now (length source.old.octets) plane.old plane.new }
 {
     let mut start = Cursor::new(sign);

@@ -1,7 +1,7 @@
 //! The verdict on a string, in one reading from the left with running sums.
 
 ghost use Rattle.std.specs.Prelude.{◌≡◌, ℕ, ◌+◌, ◌*◌, ◌^◌, ◌<◌, ◌≤◌, [], length, IfOk, IfErr, OnOk, OnErr, None};
-ghost use Rattle.multi_layout.specs.Prelude.{default_fault, under, SignData, code_of, Accepted, IsVerdict, Refused, check_limit, reading_limit, IsSized, ShowsAt, TakesFew, IsRefused, IsTold, IsAt, IsPassOf, IsJudgedIn, shown_limit};
+ghost use Rattle.multi_layout.specs.Prelude.{default_fault, under, SignData, code_of, Accepted, IsVerdict, Refused, check_limit, reading_limit, IsSized, ShowsAt, TakesFew, IsRefused, IsTold, IsAt, IsPassOf};
 
 use crate::bracket::{is_bracket, read_spelled};
 use crate::checked::{Checked, Told};
@@ -39,8 +39,10 @@ pub fn check<'a>(sign: &'a Sign, source: Source<'a>) -> Result<Checked<'a>, Faul
     ensures refused { IfErr result (λ fault. IsVerdict sign.now source.entry.octets (Refused fault.code fault.at)) }
     ensures kept { IfOk result (λ checked. (checked.sign ≡ sign.now) × (checked.source.octets ≡ source.entry.octets)) }
     ensures given_back { IfErr result (λ fault. fault.source.octets ≡ source.entry.octets) }
-    ensures steps { IfOk result (λ checked. IsJudgedIn source.entry.octets (length source.entry.octets + 1) checked.source.steps) }
-    ensures fault_steps { IfErr result (λ fault. IsJudgedIn source.entry.octets (fault.at + 1) fault.source.steps) }
+    ensures steps { IfOk result (λ checked. (length source.entry.octets + 1 ≤ checked.source.steps)
+        × (checked.source.steps ≤ check_limit (length source.entry.octets))) }
+    ensures fault_steps { IfErr result (λ fault. (fault.at + 1 ≤ fault.source.steps)
+        × (fault.source.steps ≤ check_limit (length source.entry.octets))) }
 {
     check_with(sign, sign.defaults(), source)
 }
@@ -65,8 +67,10 @@ pub fn check_with<'a>(
     ensures refused { IfErr result (λ fault. IsVerdict (under sign.now defaults) source.entry.octets (Refused fault.code fault.at)) }
     ensures kept { IfOk result (λ checked. (checked.sign ≡ under sign.now defaults) × (checked.source.octets ≡ source.entry.octets)) }
     ensures given_back { IfErr result (λ fault. fault.source.octets ≡ source.entry.octets) }
-    ensures steps { IfOk result (λ checked. IsJudgedIn source.entry.octets (length source.entry.octets + 1) checked.source.steps) }
-    ensures fault_steps { IfErr result (λ fault. IsJudgedIn source.entry.octets (fault.at + 1) fault.source.steps) }
+    ensures steps { IfOk result (λ checked. (length source.entry.octets + 1 ≤ checked.source.steps)
+        × (checked.source.steps ≤ check_limit (length source.entry.octets))) }
+    ensures fault_steps { IfErr result (λ fault. (fault.at + 1 ≤ fault.source.steps)
+        × (fault.source.steps ≤ check_limit (length source.entry.octets))) }
 {
     let terms = Terms::new(sign, defaults);
     let mut source = source;
@@ -148,7 +152,7 @@ impl<'a> Judge<'a> {
         ensures kept { source.new.octets ≡ source.old.octets }
         ensures steps { OnOk result (length source.old.octets + 1 ≤ source.new.steps) }
         ensures fault_steps { IfErr result (λ offence. offence.at + 1 ≤ source.new.steps) }
-        ensures most { source.new.steps ≤ check_limit (length source.old.octets) + shown_limit (length source.old.octets) }
+        ensures most { source.new.steps ≤ 2 * check_limit (length source.old.octets) + reading_limit (length source.old.octets) }
         ensures plane_steps { TakesFew self.now (length source.old.octets) plane.old plane.new }
     {
         let told = judge_string(&self.terms, source)?;
