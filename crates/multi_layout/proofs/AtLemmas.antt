@@ -1,5 +1,5 @@
 -- What begins at an offset, whose first octet was read: how it is refused, and what is judged and read behind it.
-use Rattle.multi_layout.proofs.Common.{◌≡◌, ℕ, ◌+◌, ◌-◌, ◌^◌, ◌<◌, ◌≤◌, ◌*◌, inl, inr, List, [], ◌∷◌, ◌++◌, length, map, slice_get, Option, Some, None, refl, sym, ap, subst, ◌∙◌, arith, Bool, rules, slice_get_within, Counted, RisesBetween, charged, IsPlain, spelling_some, SignData, SyntaxError, code_of, IsFaultAt, IsItemAt, too_big, Meaning, Shows, meaning, offence, IsVerdict, pages_of, offence-faulty, IsTold, IsAt, at_end, Pass, IsPassOf, attributes_of, standing, cycle, ended_times}
+use Rattle.multi_layout.proofs.Common.{◌≡◌, ℕ, ◌+◌, ◌-◌, ◌^◌, ◌<◌, ◌≤◌, ◌*◌, inl, inr, List, [], ◌∷◌, ◌++◌, length, map, slice_get, Option, Some, None, sym, ap, subst, ◌∙◌, arith, Bool, rules, slice_get_within, Counted, RisesBetween, charged, IsPlain, spelling_some, SignData, SyntaxError, code_of, IsFaultAt, IsItemAt, too_big, Meaning, Shows, meaning, offence, IsVerdict, pages_of, offence-faulty, IsTold, IsAt, at_end, Pass, IsPassOf, attributes_of, standing, cycle, ended_times}
 use Rattle.multi_layout.proofs.WalkLemmas.{octet_item}
 use Rattle.multi_meaning.specs.Verdict.{Refused}
 use Rattle.multi_layout.specs.kept.Told.{IsRefused}
