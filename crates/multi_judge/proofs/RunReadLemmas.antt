@@ -1,7 +1,5 @@
 -- One more octet of a run, in the string that is read.
 use Rattle.multi_judge.proofs.Common.{order_of, ◌≡◌, ℕ, suc, ◌+◌, ◌^◌, ◌<◌, ◌≤◌, List, [], ◌∷◌, ◌++◌, length, map, drop, take, slice_get, Option, Some, None, refl, sym, ◌∙◌, arith, true, false, ◌&&◌, ◌||◌, ◌==◌, ap, ◌-◌, ◌*◌, Bool, cond, subst, rules, nat_le, nat_lt, All, after_last, AllPass, list_any, and_from, and_right, le-leb, le-ltb, eq-eqb, false≢true, option_map, unwrap_or, length-drop, All-head, All-tail, sum_by-append, line_number, page_number, Off, IsPlain, Token, IsTokenOf, SizedCell, SignData, cell_in, IsWithin, HasWidth, width_in, Spot, area_of, is_break, is_glyph, in_group, Meaning, Shows, meaning, conflicts, offence, clashes, some_after, none_mapped, filled, is_space, line_number_known, Area, Line, State, ReadSoFar, IsRun, is_within, kept_height, lengthened, line_in_force, lengthened_area, lengthened_line, IsStateOf, IsUnfilledOf, area_sum, line_sum, IsBelow, IsCharacter, IsLineBelow, area_sum_in, group_sum, AddsCharacter, character_of, order_sum, IsSplitBelow, split_sum, Attributes, Split, Pass, IsFilledRun, even_line, longer_line, with_run, with_run_behind, IsFilledFor, sum_by, length-take-le, take-append-drop, IsBehindOne, GoesOnBehind}
-use Rattle.multi_judge.proofs.Common.{slice_range, gap_here}
-use Rattle.multi_judge.specs.Run.{IsRunPassed}
 use Rattle.multi_judge.proofs.Sums.{conflicts_kept, own_line, area_filled, group_of_own, some_mapped, part_below, no_character}
 use Rattle.multi_token.proofs.PlaceLemmas.{drop_read, read_drop, single_token}
 use Rattle.multi_judge.proofs.LimitLemmas.{character_judged}
@@ -267,24 +265,3 @@ module _ (sign : SignData) (octets : List ℕ) (at : ℕ) (kept : Pass) (r : Rea
       let token : Token = record { at = at; len = 1; kind = kinds.Char octet } in
       read_more sign octets at (IsFilledFor sign kept) r token refl (single_token octets at octet short here plain) (IsFilledFor sign (with_one gap wide (octet == 32) kept))
       (put.0 ∙ ap {B = Option ℕ} (λ b. cond b None (Some 5)) fits') (put.1 fits').of
-
--- the octets along which a state went are a run
-pub run_passed : (sign : SignData) (octets : List ℕ) (at : ℕ) (old new : State) (len pixels : ℕ) → at + len ≤ length octets → All IsPlain (take len (drop at octets))
-    → HasWidth (width_in sign old.attributes.font.number) (gap_here old) (take len (drop at octets)) pixels → gap_here old ≤ 255
-    → (is_within old ≡ true → IsRun old (gap_here old) × ((line_in_force old).part.width + pixels ≤ old.limits.width))
-    → new ≡ lengthened ((line_in_force old).part.width + pixels) ((line_in_force old).part.count + len) old → IsRunPassed sign octets at old (at + len) new
-run_passed sign octets at old new len pixels within plain width narrow run is =
-    let long : len ≡ at + len - at = omega arith in
-    let text : take len (drop at octets) ≡ slice_range octets at (at + len) = λ i. take (long i) (drop at octets) in
-    record {
-      gap = gap_here old;
-      pixels = pixels;
-      forward = omega arith;
-      within = within;
-      plain = subst (All IsPlain) text plain;
-      width = subst (λ t. HasWidth (width_in sign old.attributes.font.number) (gap_here old) t pixels) text width;
-      gap_is = refl;
-      narrow = narrow;
-      run = run;
-      is = is ∙ (λ i. lengthened ((line_in_force old).part.width + pixels) ((line_in_force old).part.count + long i) old);
-    }

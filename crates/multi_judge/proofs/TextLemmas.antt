@@ -1,5 +1,6 @@
 -- A word behind a character with the same attributes, where lines are filled: what is kept with it.
-use Rattle.multi_judge.proofs.Common.{State, lengthened, ◌≡◌, ℕ, ◌+◌, ◌-◌, ◌^◌, ◌<◌, ◌≤◌, false, List, length, take, drop, slice_get, Option, Some, None, refl, ap, subst, ◌∙◌, arith, rules, ◌*◌, true, sym, All, option_map, cases_eq, ne_eqb, IsPlain, SignData, FontData, IsWithin, HasWidth, width_in, Counted, RisesBetween, charged, Attributes, Split, Pass, Line, IsFilledRun, even_line, with_run, with_run_behind, with_word, IsFilledFor, IsFilledReady, ReadSoFar, IsAt, IsRun, line_in_force, IsInText, AreWidthsOf, IsNoSpace, TakesSpace, gap_here, is_within, and_from, le-leb, nat_le, kept_height}
+use Rattle.multi_judge.specs.Run.{IsRunPassed}
+use Rattle.multi_judge.proofs.Common.{State, lengthened, slice_range, ◌≡◌, ℕ, ◌+◌, ◌-◌, ◌^◌, ◌<◌, ◌≤◌, false, List, length, take, drop, slice_get, Option, Some, None, refl, ap, subst, ◌∙◌, arith, rules, ◌*◌, true, sym, All, option_map, cases_eq, ne_eqb, IsPlain, SignData, FontData, IsWithin, HasWidth, width_in, Counted, RisesBetween, charged, Attributes, Split, Pass, Line, IsFilledRun, even_line, with_run, with_run_behind, with_word, IsFilledFor, IsFilledReady, ReadSoFar, IsAt, IsRun, line_in_force, IsInText, AreWidthsOf, IsNoSpace, TakesSpace, gap_here, is_within, and_from, le-leb, nat_le, kept_height}
 use Rattle.multi_token.proofs.StepLemmas.{rises_then}
 use Rattle.multi_judge.proofs.RunReadLemmas.{one_goes_on, one_taken, run_some, with_one, front_taken}
 use Rattle.multi_judge.proofs.RunLemmas.{run_stays}
@@ -81,12 +82,32 @@ pub record ReadsWord (sign : SignData) (cells : FontData) (octets : List ℕ) (a
   pub has : HasWidth (width_in sign pass.state.attributes.font.number) (gap_here pass.state) (take len (drop at octets)) pixels
   pub run : IsRun pass.state (gap_here pass.state) × ((line_in_force pass.state).part.width + pixels ≤ pass.state.limits.width)
 
-pub words : {sign : SignData} {cells : FontData} {octets whole : List ℕ} {at : ℕ} {pass : Pass} {source : Counted} {gap : ℕ} (len pixels : ℕ) → IsInText sign cells octets at gap pass source → octets ≡ whole → length whole < 2 ^ 32
-    → at + len ≤ length octets → All IsPlain (take len (drop at octets)) → All IsNoSpace (take len (drop at octets))
-    → ((s : SignData) (font : ℕ) → AreWidthsOf s font cells → HasWidth (width_in s font) (gap_here pass.state) (take len (drop at octets)) pixels)
-    → (is_within pass.state ≡ true → IsRun pass.state (gap_here pass.state) × ((line_in_force pass.state).part.width + pixels ≤ pass.state.limits.width)) → ReadsWord sign cells octets at pass source len pixels
-words {sign} {pass = pass} len pixels text same short within plain word has run =
-    record { text = record { behind = text.behind; fits = text.fits; within = text.within; gap_is = refl; widths = text.widths }; small = omega (arith, ap length same, short); within = within; plain = plain; word = word; has = has sign pass.state.attributes.font.number text.widths; run = run text.within }
+-- the pixels of a run are those by which its line is longer
+module _ {sign : SignData} {octets : List ℕ} {at : ℕ} (pass : Pass) {new : State} (len pixels : ℕ) (p : IsRunPassed sign octets at pass.state (at + len) new)
+    (longer : (line_in_force new).part.width ≡ (line_in_force pass.state).part.width + pixels) where
+  long : at + len - at ≡ len
+  long = omega arith
+
+  wide : p.pixels ≡ pixels
+  wide = omega (arith, longer, ap (λ (s : State). (line_in_force s).part.width) p.is)
+
+  front : slice_range octets at (at + len) ≡ take len (drop at octets)
+  front = λ i. take (long i) (drop at octets)
+
+  pub gone_along : new ≡ lengthened ((line_in_force pass.state).part.width + pixels) ((line_in_force pass.state).part.count + len) pass.state
+  gone_along = p.is ∙ (λ i. lengthened ((line_in_force pass.state).part.width + wide i) ((line_in_force pass.state).part.count + long i) pass.state)
+
+  pub words : {cells : FontData} {whole : List ℕ} {source : Counted} {gap : ℕ} → IsInText sign cells octets at gap pass source → octets ≡ whole → length whole < 2 ^ 32
+      → All IsNoSpace (take len (drop at octets)) → ReadsWord sign cells octets at pass source len pixels
+  words text same short word = record {
+    text = record { behind = text.behind; fits = text.fits; within = text.within; gap_is = refl; widths = text.widths };
+    small = omega (arith, ap length same, short);
+    within = p.within;
+    plain = subst (All IsPlain) front p.plain;
+    word = word;
+    has = subst (λ (x : ℕ × List ℕ × ℕ). HasWidth (width_in sign pass.state.attributes.font.number) x.0 x.1 x.2) (λ i. (p.gap_is i, front i, wide i)) p.width;
+    run = subst (λ (x : ℕ × ℕ). IsRun pass.state x.0 × ((line_in_force pass.state).part.width + x.1 ≤ pass.state.limits.width)) (λ i. (p.gap_is i, wide i)) (p.run text.within);
+  }
 
 module _ {sign : SignData} {cells : FontData} {octets : List ℕ} {at : ℕ} {pass : Pass} {source : Counted} {len pixels : ℕ} (w : ReadsWord sign cells octets at pass source len pixels) where
   abbrev gap : ℕ

@@ -2,7 +2,7 @@
 //! each space does so, as long as it stays on its line.
 
 ghost use Rattle.std.specs.Prelude.{All, ◌≡◌, ◌+◌, ◌-◌, ◌*◌, ◌^◌, ◌<◌, ◌≤◌, ℕ, true, false, drop, length, option_map, slice_get, take};
-ghost use Rattle.multi_judge.specs.Prelude.{charged, RisesBetween, IsPlain, SignData, AreWidthsOf, HasWidth, IsNoSpace, width_in, IsSplitBelow, with_run_behind, IsFilledReady, IsPassBehind, IsPassOf, IsAt, IsBehind, IsBehindCharacter, IsRun, gap_here, is_within, lengthened, line_in_force, IsLimited, IsReady, TakesSpace};
+ghost use Rattle.multi_judge.specs.Prelude.{charged, RisesBetween, SignData, AreWidthsOf, IsNoSpace, IsSplitBelow, with_run_behind, IsFilledReady, IsPassBehind, IsPassOf, IsAt, IsBehind, IsBehindCharacter, IsRunPassed, lengthened, line_in_force, IsLimited, IsReady, TakesSpace};
 
 use crate::fill::Split;
 use crate::line::Line;
@@ -28,15 +28,10 @@ impl State {
         requires small { (IsReady self.old) × (length source.old.octets < 2 ^ 32) }
         requires within { at ≤ length source.old.octets }
         ensures within { at + result.len ≤ length source.old.octets }
-        ensures plain { All IsPlain (take result.len (drop at source.old.octets)) }
+        ensures run { (sign : SignData) → AreWidthsOf sign self.old.attributes.font.number cells.now
+            → IsRunPassed sign source.old.octets at self.old (at + result.len) self.new }
         ensures word { word ≡ true → All IsNoSpace (take result.len (drop at source.old.octets)) }
-        ensures width { (sign : SignData) (font : ℕ) → AreWidthsOf sign font cells.now
-            → HasWidth (width_in sign font) (gap_here self.old) (take result.len (drop at source.old.octets)) result.width }
-        ensures narrow { gap_here self.old ≤ 255 }
-        ensures run { is_within self.old ≡ true → IsRun self.old (gap_here self.old)
-            × ((line_in_force self.old).part.width + result.width ≤ self.old.limits.width) }
-        ensures is { self.new ≡ lengthened ((line_in_force self.old).part.width + result.width)
-            ((line_in_force self.old).part.count + result.len) self.old }
+        ensures pixels { (line_in_force self.new).part.width ≡ (line_in_force self.old).part.width + result.width }
         ensures next { result.next ≡ slice_get source.old.octets (at + result.len) }
         ensures steps { RisesBetween source.old source.new (2 * result.len + 1) (2 * result.len + 2) }
     {
@@ -70,7 +65,8 @@ impl Pass {
     fn take(&mut self, gap: u8, pixels: u64, count: u64)
         requires parts { IsSplitBelow (2 ^ 62) self.old.split }
         requires narrow { (pixels < 2 ^ 32) × (count < 2 ^ 32) }
-        ensures { self.new ≡ record self.old { split = option_map (with_run_behind self.old.state.attributes gap pixels count) self.old.split } }
+        ensures { self.new
+            ≡ record self.old { split = option_map (with_run_behind self.old.state.attributes gap pixels count) self.old.split } }
     {
         let here = &self.state.attributes;
         if let Some(Split { behind, .. }) = &mut self.split {

@@ -1,7 +1,6 @@
 use Rattle.multi_judge.proofs.Lemmas.{◌<◌, ◌^◌, ◌≡◌, ◌==◌, ℕ, ◌+◌, ◌-◌, List, length, refl, ap, sym, subst, ◌∙◌, arith, rules, Some, Option, Bool, true, false, not, Counted, charged, State, Pass, ReadSoFar, IsUnfilledOf, IsBehind, IsPassOf, front_read, with_word, TakesSpace, IsFilledReady, IsAt, IsInText, filled_ready_here, option_eq, nat_eq}
 use Rattle.multi_judge.proofs.Common.{slice_get_within}
-use Rattle.multi_judge.proofs.RunReadLemmas.{run_passed}
-use Rattle.multi_judge.proofs.TextLemmas.{taken_word, with_look, without_look, word_ended, word_ready, word_spaced, words}
+use Rattle.multi_judge.proofs.TextLemmas.{gone_along, taken_word, with_look, without_look, word_ended, word_ready, word_spaced, words}
 use Rattle.multi_judge.proofs.run.judge_run.Goals as goal
 use Rattle.multi_judge.proofs.run.judge_run.Goals.{then-ne-via-then-ne, then-ne-via-else-ne+then-not-take_space}
 
@@ -18,10 +17,8 @@ returns-then-not-this-clause-at g c =
     let plain : not (g.row.WORDS == 0) ≡ false = search rules in
     let behind = subst (λ w. IsBehind sign xs at (IsPassOf w sign c.args.pass.now) c.args.source.now) plain c.requires.behind in
     let r = behind.so_far in
-    let along = c.go_along-run.ensures in
-    let len = c.go_along-run.result.len in
-    let p = run_passed sign xs at state c.go_along-run.new.self len c.go_along-run.result.width along.within along.plain (along.width sign state.attributes.font.number c.requires.cells) along.narrow along.run along.is in
-    let to = at + len in
+    let p = c.go_along-run.ensures.run sign c.requires.cells in
+    let to = at + c.go_along-run.result.len in
     let (run, narrow) = p.run c.requires.character.within in
     let here : at + (to - at) ≡ to = omega (arith, p.forward) in
     let front = front_read sign xs at state r (omega (arith, c.requires.short)) p.gap run (to - at) p.pixels (omega (arith, p.forward, p.within)) p.plain p.width narrow in
@@ -67,8 +64,9 @@ take_space-requires g c =
     let (text, further, same) = c.loop-pass.invariant in
     let front = c.go_along-word.ensures in
     let len = c.go_along-word.result.len in
-    let w = words len c.go_along-word.result.width text same c.requires.short front.within front.plain (front.word refl) front.width front.run in
-    let kept = taken_word c.loop-pass.pass len front.is c.take.ensures text.gap_is c.from.ensures in
+    let p = front.run c.args.sign.now text.widths in
+    let w = words c.loop-pass.pass len c.go_along-word.result.width p front.pixels text same c.requires.short (front.word refl) in
+    let kept = taken_word c.loop-pass.pass len (gone_along c.loop-pass.pass len c.go_along-word.result.width p front.pixels) c.take.ensures text.gap_is c.from.ensures in
     record { ready = subst IsFilledReady (sym kept) (word_ready w) }
 
 pub returns-then-ne-clause-at : goal.returns-then-ne-clause-at
@@ -76,8 +74,9 @@ returns-then-ne-clause-at g c =
     let (text, further, same) = c.loop-pass.invariant in
     let front = c.go_along-word.ensures in
     let len = c.go_along-word.result.len in
-    let w = words len c.go_along-word.result.width text same c.requires.short front.within front.plain (front.word refl) front.width front.run in
-    let kept = taken_word c.loop-pass.pass len front.is c.take.ensures text.gap_is c.from.ensures in
+    let p = front.run c.args.sign.now text.widths in
+    let w = words c.loop-pass.pass len c.go_along-word.result.width p front.pixels text same c.requires.short (front.word refl) in
+    let kept = taken_word c.loop-pass.pass len (gone_along c.loop-pass.pass len c.go_along-word.result.width p front.pixels) c.take.ensures text.gap_is c.from.ensures in
     let filled : not (g.row.WORDS == 0) ≡ true = search rules in
     subst (λ (x : List ℕ × Bool). IsAt c.args.sign.now x.0 (c.loop-pass.at + len) c.go_along-word.result.next (IsPassOf x.1 c.args.sign.now c.then-ne.pass) c.then-ne.source) (λ i. (same i, sym filled i)) (elim c.then-ne.branch [
       | then-ne-via-then-ne v ↦
@@ -92,8 +91,9 @@ loop-pass-preserved g c =
     let (text, further, same) = c.loop-pass.invariant in
     let front = c.go_along-word.ensures in
     let len = c.go_along-word.result.len in
-    let w = words len c.go_along-word.result.width text same c.requires.short front.within front.plain (front.word refl) front.width front.run in
-    let kept = taken_word c.loop-pass.pass len front.is c.take.ensures text.gap_is c.from.ensures in
+    let p = front.run c.args.sign.now text.widths in
+    let w = words c.loop-pass.pass len c.go_along-word.result.width p front.pixels text same c.requires.short (front.word refl) in
+    let kept = taken_word c.loop-pass.pass len (gone_along c.loop-pass.pass len c.go_along-word.result.width p front.pixels) c.take.ensures text.gap_is c.from.ensures in
     let (width, space) = c.take_space.ensures.taken c.if-not-take_space.false in
     let next = sym front.next ∙ found_space c.go_along-word.result.next c.ne.result c.ne.ensures c.if-ne.false in
     let text' = word_spaced w c.take_space.new.source (with_look c.loop-pass.source c.go_along-word.new.source c.take_space.new.source len front.steps c.take_space.ensures.step) next

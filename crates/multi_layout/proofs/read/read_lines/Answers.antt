@@ -2,7 +2,6 @@ use Rattle.multi_layout.proofs.Common.{◌==◌, not, ◌≡◌, ◌+◌, ◌-�
 use Rattle.multi_layout.proofs.AreaLinesLemmas.{passed, goes_within, GoesOn, so_read, placed_in, IsReadFrom, IsReadTo, area_begins, ends_at, ends_string, item_read, nothing_read, read_within, so_next, ready_state, run_gone}
 use Rattle.multi_layout.proofs.AreaReadLemmas.{read_lines, read_ready, read_state}
 use Rattle.multi_judge.proofs.ReadLemmas.{limited_of}
-use Rattle.multi_judge.proofs.RunReadLemmas.{run_passed}
 use Rattle.multi_judge.specs.Run.{IsRunPassed}
 use Rattle.sign_font.specs.Text.{AreWidthsOf}
 use Rattle.std.proofs.Common.{rules}
@@ -114,8 +113,7 @@ loop-first-preserved g c =
     let along = c.go_along-run.ensures in
     let len = c.go_along-run.result.len in
     let widths : AreWidthsOf c.args.sign.now state.attributes.font.number c.in-Some-cells.cells = search rules in
-    let run = subst (λ o. IsRunPassed c.args.sign.now o at state (at + len) c.go_along-run.new.self) octets
-    (run_passed c.args.sign.now c.cells.new.source.octets at state c.go_along-run.new.self len c.go_along-run.result.width along.within along.plain (along.width c.args.sign.now state.attributes.font.number widths) along.narrow along.run along.is) in
+    let run = subst (λ o. IsRunPassed c.args.sign.now o at state (at + len) c.go_along-run.new.self) octets (along.run c.args.sign.now widths) in
     let goes : GoesOn c.loop-first.cursor c.loop-first.at c.read_item-next.result c.pass_item.new.kept.state c.if-cursor-at.cursor = elim c.if-cursor-at.branch [
       | then-cursor-at+then-is_setting w ↦ inl (w.if-cursor-at.true, sym w.is_setting.ensures ∙ w.if-is_setting.true, w.cursor-is)
       | else-cursor-at w ↦ inr w.cursor-is
