@@ -1,5 +1,5 @@
 -- Bounds on the sums that are kept: what is below one is below a larger one.
-use Rattle.multi_judge.proofs.Common.{ℕ, ◌+◌, ◌≤◌, Option, Some, None, arith, rules, ◌≡◌, ◌*◌, ◌^◌, true, false, cond, inl, inr, List, [], ◌∷◌, ◌++◌, length, refl, sym, ap, ◌∙◌, append-nil, ◌-◌, not, ◌==◌, subst, nat_lt, count_by, cons_option, option_map, unwrap_or, option_map_or, cases_Bool, eq-eqb, eqb-true, length-append, sum_by-append, nat_tests, Tag, Back, NewLine, NewPage, Rect, Off, too_big, SizedCell, SignData, CellData, FontData, cell_in, cell_numbered, font_numbered, FontInfo, Cover, Glyph, spots, standing, Meaning, Shows, Does, is_new_page, conflicts, never_big, offence, unsized_offence, offence_by, present_area, standing_behind, Times, cycle, ended_times, times_at, pages_of, offence-undefined, offence-character, standing_push, present_area-nothing, present_area-cover, present_area-new, some_after_push, none_mapped, Area, Group, Split, Line, Segment, IsSplitBelow, IsBelow, IsGroupBelow, IsLineBelow, area_sum, lengthened_line, begins_line, Attributes, Limits, State, IsReady, IsStateOf, attributes_of, find, option_and_then, same_Some, sum_by_push, Font, info_of, sized, default_line_just, default_page_just, whole_sign, is_inside, offence-page, offence-rectangle, offence-font, offence-no_font, IsSegmentBelow, IsSimple}
+use Rattle.multi_judge.proofs.Common.{ℕ, ◌+◌, ◌≤◌, Option, Some, None, arith, rules, ◌≡◌, ◌*◌, ◌^◌, true, false, cond, inl, inr, List, [], ◌∷◌, ◌++◌, length, refl, sym, ap, ◌∙◌, append-nil, not, ◌==◌, subst, nat_lt, count_by, cons_option, option_map, unwrap_or, option_map_or, cases_Bool, eq-eqb, eqb-true, length-append, sum_by-append, Tag, Back, NewLine, NewPage, Rect, Off, too_big, SizedCell, SignData, CellData, FontData, cell_in, cell_numbered, font_numbered, FontInfo, Cover, Glyph, spots, standing, Meaning, Shows, Does, is_new_page, conflicts, never_big, offence, unsized_offence, offence_by, present_area, standing_behind, Times, cycle, ended_times, times_at, pages_of, offence-undefined, offence-character, standing_push, present_area-nothing, present_area-cover, present_area-new, some_after_push, none_mapped, Area, Group, Split, Line, Segment, IsSplitBelow, IsBelow, IsGroupBelow, IsLineBelow, area_sum, lengthened_line, begins_line, Attributes, Limits, State, IsReady, IsStateOf, attributes_of, find, option_and_then, same_Some, sum_by_push, Font, info_of, sized, default_line_just, default_page_just, whole_sign, is_inside, offence-page, offence-rectangle, offence-font, offence-no_font, IsSegmentBelow, IsSimple}
 use Rattle.multi_tag.specs.declared.tag.FontPick.{FontPick}
 
 segment_more : (k m : ℕ) (segment : Segment) → k ≤ m → IsSegmentBelow k segment → IsSegmentBelow m segment

@@ -1,5 +1,5 @@
 -- One more item is passed: the group that it joins, and the line that it ends.
-use Rattle.multi_judge.proofs.Common.{order_of, eq-eqb, or_parts, lt-ltb, line_number_known, nat_lt, line_number, ◌||◌, ◌&&◌, LineJust, width_in, rules, common_steps, ◌≡◌, ℕ, ◌+◌, ◌*◌, ◌≤◌, ◌<◌, ◌==◌, Bool, true, false, cond, List, [], ◌∷◌, ◌++◌, length, Option, Some, None, Result, Ok, Err, refl, sym, ap, subst, ◌∙◌, arith, inl, inr, cases_lt, after_last, list_any, le-leb, false≢true, page_number, page_number_known, Off, Words, SignData, cell_in, Spot, clashes, is_break, in_group, filled, laid_items, Tag, Does, Meaning, Shows, begins_area, has_place, offence, unsized_offence, area_fits_always, begins_line, LineFill, SyntaxError, JudgesTag, offends_as_laid, laid_plain, laid_tag, unsized_if, present_area, ended_lines, Area, Attributes, Character, Group, Line, Order, Pass, Split, State, ReachesGroup, character_of, EndsLine, FillsGroup, IsSplitBelow, order_sum, split_sum, IsFilledFor, IsPassOf, fill_of, IsCellPut, IsItemJudged, IsItemPassed, next_group, IsLimited, IsMost, IsStateOf, IsBelow, IsGroupBelow, area_sum, group_sum, area_of, is_glyph, conflicts, AddsCharacter, PutsCell, not}
+use Rattle.multi_judge.proofs.Common.{order_of, eq-eqb, or_parts, lt-ltb, line_number_known, nat_lt, line_number, ◌||◌, ◌&&◌, LineJust, width_in, rules, ◌≡◌, ℕ, ◌+◌, ◌*◌, ◌≤◌, ◌<◌, ◌==◌, Bool, true, false, cond, List, [], ◌∷◌, ◌++◌, length, Option, Some, None, Result, Ok, Err, refl, sym, ap, subst, ◌∙◌, arith, inl, inr, cases_lt, after_last, list_any, le-leb, false≢true, page_number, page_number_known, Off, Words, SignData, cell_in, Spot, clashes, is_break, in_group, filled, laid_items, Tag, Does, Meaning, Shows, begins_area, has_place, offence, unsized_offence, area_fits_always, begins_line, LineFill, SyntaxError, JudgesTag, offends_as_laid, laid_plain, laid_tag, unsized_if, present_area, ended_lines, Area, Attributes, Character, Group, Line, Order, Pass, Split, State, ReachesGroup, character_of, EndsLine, FillsGroup, IsSplitBelow, order_sum, split_sum, IsFilledFor, IsPassOf, fill_of, IsCellPut, IsItemJudged, IsItemPassed, next_group, IsLimited, IsMost, IsStateOf, IsBelow, IsGroupBelow, area_sum, group_sum, area_of, is_glyph, conflicts, AddsCharacter, PutsCell, not}
 use Rattle.multi_meaning.specs.Codes.{code_of}
 use Rattle.multi_judge.specs.KnownItem.{ends_line}
 use Rattle.multi_judge.proofs.Sums.{area_filled, line_clashes, nothing_yet, reached_below, reached_group, reached_line, regrouped_below}

@@ -1,6 +1,6 @@
 -- A word behind a character with the same attributes, where lines are filled: what is kept with it.
 use Rattle.multi_judge.specs.Run.{IsRunPassed}
-use Rattle.multi_judge.proofs.Common.{State, lengthened, slice_range, ◌≡◌, ℕ, ◌+◌, ◌-◌, ◌^◌, ◌<◌, ◌≤◌, false, List, length, take, drop, slice_get, Option, Some, None, refl, ap, subst, ◌∙◌, arith, rules, ◌*◌, true, sym, All, option_map, cases_eq, ne_eqb, IsPlain, SignData, FontData, IsWithin, HasWidth, width_in, Counted, RisesBetween, charged, Attributes, Split, Pass, Line, IsFilledRun, even_line, with_run, with_run_behind, with_word, IsFilledFor, IsFilledReady, ReadSoFar, IsAt, IsRun, line_in_force, IsInText, AreWidthsOf, IsNoSpace, TakesSpace, gap_here, is_within, and_from, le-leb, nat_le, kept_height}
+use Rattle.multi_judge.proofs.Common.{State, lengthened, slice_range, ◌≡◌, ℕ, ◌+◌, ◌-◌, ◌^◌, ◌<◌, ◌≤◌, false, List, length, take, drop, slice_get, Option, Some, None, refl, ap, subst, ◌∙◌, arith, rules, ◌*◌, true, sym, All, option_map, cases_eq, ne_eqb, IsPlain, SignData, FontData, IsWithin, HasWidth, width_in, Counted, RisesBetween, charged, Attributes, Split, Pass, Line, IsFilledRun, even_line, with_run, with_run_behind, with_word, IsFilledFor, IsFilledReady, ReadSoFar, IsAt, IsRun, line_in_force, IsInText, IsNoSpace, TakesSpace, gap_here, and_from, le-leb, nat_le, kept_height}
 use Rattle.multi_token.proofs.StepLemmas.{rises_then}
 use Rattle.multi_judge.proofs.RunReadLemmas.{one_goes_on, one_taken, run_some, with_one, front_taken}
 use Rattle.multi_judge.proofs.RunLemmas.{run_stays}

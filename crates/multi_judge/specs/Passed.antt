@@ -56,8 +56,8 @@ JudgesCell words old number width result new =
     (sign : SignData) → width_in sign old.state.attributes.font.number number ≡ Some width
     → JudgesItem words sign old (Shows number) result new
 
--- one more character is put, or it offends by this error. If it is put and stays within the limits, it doesn't offend and is passed; else it
--- offends by its size (own)
+-- one more character is put, or it offends by this error. If it is put and stays within the limits, it doesn't offend and is passed; else
+-- it offends by its size (own)
 abbrev pub IsCellPut : Bool → SignData → List Meaning → ℕ → Pass → Result (Option Line) SyntaxError → Pass → Type 0
 IsCellPut words sign items number old (Ok ended) new =
     (offence sign.line_fill sign items (Shows number) ≡ (if is_within new.state then None else Some 5))

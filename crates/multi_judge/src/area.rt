@@ -94,7 +94,8 @@ impl Area {
     #[inline(always)]
     pub(crate) fn reach(&mut self, here: &Attributes, most: &mut u64) -> bool
         requires below { IsBelow (2 ^ 62) self.old }
-        ensures reached { ReachesGroup (page_number here.now.page_just) here.now.rectangle.height self.old most.old result self.new most.new }
+        ensures reached { ReachesGroup (page_number here.now.page_just) here.now.rectangle.height
+            self.old most.old result self.new most.new }
     {
         let page_just = here.page_just.number();
         if page_just <= self.present {

@@ -20,10 +20,10 @@ pub(crate) struct Split {
 }
 
 impl Group {
-    /// Adds a character with these attributes, whose cell has this width in pixels, where lines are filled. Where it doesn't fit the present line, the line is ended: before
-    /// the character, a space that is dropped, or else at its last space. Without one it stays, and doesn't fit. The parts are
-    /// those of the present line around its last space, and then those of the new present line, and so is the most that its present
-    /// segment may have. The answer is the line that is ended, if one is.
+    /// Adds a character with these attributes, whose cell has this width in pixels, where lines are filled. Where it doesn't fit the
+    /// present line, the line is ended: before the character, a space that is dropped, or else at its last space. Without one it stays,
+    /// and doesn't fit. The parts are those of the present line around its last space, and then those of the new present line, and so is
+    /// the most that its present segment may have. The answer is the line that is ended, if one is.
     #[inline(always)]
     pub(crate) fn fill_character(
         &mut self,

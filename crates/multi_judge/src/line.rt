@@ -44,8 +44,8 @@ impl Line {
     #[inline(always)]
     pub(crate) fn add(&mut self, here: &Attributes, cell_width: u8)
         requires below { IsLineBelow (2 ^ 62) self.old }
-        ensures sum { (line : List Spot) (s : Spot) → AllPass is_glyph line → IsCharacter s (character_of here.now cell_width) → self.old ≡ line_sum line
-            → list_any (clashes s) line ≡ false → self.new ≡ line_sum (line ++ s ∷ []) }
+        ensures sum { (line : List Spot) (s : Spot) → AllPass is_glyph line → IsCharacter s (character_of here.now cell_width)
+            → self.old ≡ line_sum line → list_any (clashes s) line ≡ false → self.new ≡ line_sum (line ++ s ∷ []) }
         ensures grows { (k : ℕ) → IsLineBelow k self.old → IsLineBelow (k + 1024) self.new }
         ensures behind { (self.old.any ≡ true → IsOpen here.now.line_just self.old)
             → IsBehindOne here.now.line_just here.now.font self.new }

@@ -34,7 +34,7 @@ pub use Rattle.multi_layout.specs.kept.Cursors.{PassesTag, IsBetween, IsItemRead
 pub use Rattle.multi_layout.specs.kept.PageDrawing.{IsFilledFew, IsPagePassed, IsPageStart, IsReadTwice, IsStartOf}
 pub use Rattle.multi_layout.specs.kept.Passing.{IsAtStart, IsOnTheWay, IsPageSkipped}
 pub use Rattle.multi_layout.specs.kept.RunDrawing.{DrawsNext, IsNextDrawn, DrawsCharacter}
-pub use Rattle.multi_layout.specs.Limits.{check_limit, reading_limit, drawing_limit, plane_limit}
+pub use Rattle.multi_layout.specs.Limits.{check_limit, reading_limit, drawing_limit}
 pub use Rattle.multi_layout.specs.NextPage.{IsNextPage, IsReadOn}
 pub use Rattle.multi_layout.specs.kept.Told.{IsToldOf, IsRefused, IsTold}
 pub use Rattle.multi_layout.specs.CheckedData.{CheckedData}

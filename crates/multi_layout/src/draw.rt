@@ -85,8 +85,8 @@ fn draw_area(
     }
 }
 
-/// Draws what the next item puts, and goes behind it. If it is a character, it stands at the given place, beside the one before it, or where
-/// its line says if there is none. It gives the place beside it, if that is known.
+/// Draws what the next item puts, and goes behind it. A character stands beside the one before it, at the place given, or where its line
+/// says if there is none. It gives the place beside this one, if that is known.
 #[inline(always)]
 fn draw_item(
     sign: &Terms<'_>,

@@ -1,7 +1,7 @@
 //! The drawing of one page of an accepted string, or of all its pages in order into one plane.
 
 ghost use Rattle.std.specs.Prelude.{◌≡◌, ◌+◌, ◌-◌, ◌*◌, ◌<◌, ◌≤◌, true, false, nat_lt, length, IfSome, MatchOption};
-ghost use Rattle.multi_layout.specs.Prelude.{sem, RisesBetween, Lights, meanings, picture, pixel_at, shown, check_limit, drawing_limit, plane_limit, reading_limit, IsSized, ShowsAt, TakesFew, page_count, IsToldOf, IsDrawnFew, IsReadFew, IsUnderWay, PagesState, pages_state};
+ghost use Rattle.multi_layout.specs.Prelude.{sem, RisesBetween, Lights, meanings, picture, pixel_at, shown, check_limit, drawing_limit, reading_limit, IsSized, ShowsAt, TakesFew, page_count, IsToldOf, IsDrawnFew, IsReadFew, IsUnderWay, PagesState, pages_state};
 
 use crate::checked::{Checked, NextPage, Told, find_shown};
 use crate::cursor::Cursor;

@@ -51,8 +51,8 @@ pub record IsRunDrawn (sign : SignData) (octets : List ℕ) (layer : Layer) (pag
   pub stands : IfSome beside (IsBeside sign so.before so.behind cursor)
 
 -- from cursor to cursor the area is drawn on by that item, whichever page it stands in (own)
-abbrev pub DrawsNext : SignData → List ℕ → Layer → AreaLines → NextItem → Option Place → Option Place → Cursor → Cursor → BitPlane → BitPlane
-    → Type 0
+abbrev pub DrawsNext : SignData → List ℕ → Layer → AreaLines → NextItem → Option Place → Option Place → Cursor → Cursor → BitPlane
+    → BitPlane → Type 0
 DrawsNext sign octets layer read next beside beside' old new plane plane' =
     (page : ℕ) → IsNextDrawn sign octets layer page read next beside old plane → IsRunDrawn sign octets layer page read beside' new plane'
 

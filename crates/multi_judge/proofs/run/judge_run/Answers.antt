@@ -1,4 +1,4 @@
-use Rattle.multi_judge.proofs.Lemmas.{◌<◌, ◌^◌, ◌≡◌, ◌==◌, ℕ, ◌+◌, ◌-◌, List, length, refl, ap, sym, subst, ◌∙◌, arith, rules, Some, Option, Bool, true, false, not, Counted, charged, State, Pass, ReadSoFar, IsUnfilledOf, IsBehind, IsPassOf, front_read, with_word, TakesSpace, IsFilledReady, IsAt, IsInText, filled_ready_here, option_eq, nat_eq}
+use Rattle.multi_judge.proofs.Lemmas.{◌<◌, ◌^◌, ◌≡◌, ◌==◌, ℕ, ◌+◌, ◌-◌, List, length, refl, ap, sym, subst, ◌∙◌, arith, rules, Some, Option, Bool, true, false, not, Counted, charged, State, Pass, ReadSoFar, IsUnfilledOf, IsBehind, IsPassOf, front_read, TakesSpace, IsFilledReady, IsAt, IsInText, filled_ready_here, option_eq, nat_eq}
 use Rattle.multi_judge.proofs.Common.{slice_get_within}
 use Rattle.multi_judge.proofs.TextLemmas.{gone_along, taken_word, with_look, without_look, word_ended, word_ready, word_spaced, words}
 use Rattle.multi_judge.proofs.run.judge_run.Goals as goal

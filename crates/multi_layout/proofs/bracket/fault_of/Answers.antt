@@ -37,4 +37,3 @@ returns-in-Err-Unsupported-clause-steps c =
     let token = subst (IsBracketed c.args.source.now.octets c.args.at 91) c.in-Ok-Tag.field-0-is c.in-Ok-Tag.ensures.spelled in
     steps_within c.args.source.now (steps_then c.args.source.now (steps_of c.args.source.now c.in-Ok-Tag.ensures.steps) c.read_tag.ensures.steps)
     (omega arith) (omega (arith, ap octets_of c.in-Ok-Tag.field-0-is, token.within))
-

@@ -1,4 +1,4 @@
-use Rattle.multi_judge.proofs.Lemmas.{◌≡◌, ◌≤◌, ◌<◌, ◌+◌, ◌==◌, [], ℕ, List, Spot, Group, Area, Bool, true, false, refl, sym, ap, ◌∙◌, arith, rules, le-leb, nat_tests, page_number, kept_height, group_sum, area_turned, empty_area, kept_group_height}
+use Rattle.multi_judge.proofs.Lemmas.{◌≡◌, ◌≤◌, ◌<◌, ◌+◌, [], ℕ, List, Spot, Area, Bool, true, false, refl, sym, ap, ◌∙◌, arith, rules, le-leb, nat_tests, page_number, group_sum, area_turned, empty_area, kept_group_height}
 use Rattle.multi_judge.proofs.Common.{IsGroupBelow, IsBelow, area_sum}
 use Rattle.multi_judge.proofs.area.Area.reach.Goals as goal
 use Rattle.multi_judge.proofs.area.Area.reach.Goals.{then-self-gt0, in-2, in-3, in_default, else-self-gt0}

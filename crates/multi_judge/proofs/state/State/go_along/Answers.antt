@@ -1,4 +1,4 @@
-use Rattle.multi_judge.proofs.Lemmas.{◌≡◌, ◌+◌, ◌-◌, ◌≤◌, ◌<◌, ℕ, drop, take, length, Option, refl, sym, ap, subst, ◌∙◌, arith, rules, true, common_steps, is_within, if◌then◌else◌, slice_range, gap_here, All, IsPlain, HasWidth, IsWithin, width_in, IfSome, lengthened, line_in_force}
+use Rattle.multi_judge.proofs.Lemmas.{◌≡◌, ◌+◌, ◌-◌, ◌≤◌, ℕ, drop, take, length, Option, refl, sym, ap, subst, ◌∙◌, arith, rules, true, common_steps, is_within, if◌then◌else◌, slice_range, gap_here, All, IsPlain, HasWidth, IsWithin, width_in, IfSome, lengthened, line_in_force}
 use Rattle.std.specs.Prelude.{unwrap_or}
 use Rattle.multi_judge.proofs.Common.{IsRun}
 use Rattle.multi_token.specs.Run.{taken}

@@ -1,4 +1,4 @@
-use Rattle.multi_judge.proofs.Lemmas.{◌^◌, refl, sym, subst, ap, ◌∙◌, after_last, page_number, area_of, in_group, is_break, area_placing, page_number_known, Area, Character, PutsCharacter, character_of, lined_below, reached_below, reached_conflicts, reached_group, reached_line, regrouped_below, area_with, group_character, present_glyphs}
+use Rattle.multi_judge.proofs.Lemmas.{◌^◌, refl, sym, ap, ◌∙◌, after_last, page_number, area_of, in_group, is_break, area_placing, page_number_known, Area, PutsCharacter, character_of, lined_below, reached_below, reached_conflicts, reached_group, reached_line, regrouped_below, area_with, group_character, present_glyphs}
 use Rattle.multi_judge.proofs.state.State.put_character.Goals as goal
 
 pub returns-then-not-reach-clause-conflicts : goal.returns-then-not-reach-clause-conflicts
