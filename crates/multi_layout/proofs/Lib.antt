@@ -1,4 +1,5 @@
 pub mod AreaDrawLemmas
+pub mod AreaItemsLemmas
 pub mod AreaLinesLemmas
 pub mod AreaReadLemmas
 pub mod AtLemmas

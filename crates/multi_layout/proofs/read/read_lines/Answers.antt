@@ -1,5 +1,6 @@
 use Rattle.multi_layout.proofs.Common.{◌==◌, not, ◌≡◌, ◌+◌, ◌-◌, ◌*◌, ◌++◌, inl, inr, length, slice_get, refl, sym, ap, subst, ◌∙◌, arith, items_of, item_steps, AreaLines, RisesBetween, false}
-use Rattle.multi_layout.proofs.AreaLinesLemmas.{passed, goes_within, GoesOn, so_read, placed_in, IsReadFrom, IsReadTo, area_begins, ends_at, ends_string, item_read, nothing_read, read_within, so_next, ready_state, run_gone}
+use Rattle.multi_layout.proofs.AreaItemsLemmas.{so_read, placed_in, nothing_read, so_next}
+use Rattle.multi_layout.proofs.AreaLinesLemmas.{passed, goes_within, GoesOn, IsReadFrom, IsReadTo, area_begins, ends_at, ends_string, item_read, read_within, ready_state, run_gone}
 use Rattle.multi_layout.proofs.AreaReadLemmas.{read_lines, read_ready, read_state}
 use Rattle.multi_judge.proofs.ReadLemmas.{limited_of}
 use Rattle.multi_judge.specs.Run.{IsRunPassed}
