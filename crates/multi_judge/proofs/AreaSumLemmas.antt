@@ -1,5 +1,5 @@
 -- The sums of an area after one more placing item, and what is judged by them.
-use Rattle.multi_judge.proofs.Common.{◌≡◌, ℕ, ◌<◌, ◌≤◌, Bool, true, false, not, ◌&&◌, ◌||◌, ◌==◌, List, [], ◌∷◌, ◌++◌, refl, sym, ap, ◌∙◌, arith, rules, inl, inr, ◌+◌, Option, Some, None, nat_lt, list_any, after_last, or_parts, cases_eq, cases_lt, eq-eqb, le-ltb, lt-ltb, ne_eqb, cases_Bool, false≢true, le-leb, lt-leb, All-head, All-weaker, page_number, largest, Off, Spot, is_glyph, is_break, area_of, in_group, line_before, line_fits, area_fits, too_big, clashes, conflicts, page_number_known, largest_most, largest_push, filter_none, own_group, in_group_other, filled, IsFilledOn, Area, Group, group_sum, area_sum, area_sum_in, line_sum, IsBelow, IsGroupBelow, Split, split_sum, IsMost, group_room, ltb-false, leb-false, leb-true, goes_back, group_goes_back, break_put, ReachesGroup}
+use Rattle.multi_judge.proofs.Common.{◌≡◌, ℕ, ◌<◌, ◌≤◌, Bool, true, false, not, ◌&&◌, ◌||◌, ◌==◌, List, [], ◌∷◌, ◌++◌, refl, sym, ap, ◌∙◌, arith, rules, inl, inr, Option, Some, None, nat_lt, list_any, after_last, or_parts, cases_eq, cases_lt, eq-eqb, le-ltb, lt-ltb, ne_eqb, cases_Bool, false≢true, le-leb, lt-leb, All-head, All-weaker, page_number, largest, Off, Spot, is_glyph, is_break, area_of, in_group, line_before, line_fits, area_fits, too_big, clashes, conflicts, page_number_known, largest_most, largest_push, push_ind, filter_none, own_group, in_group_other, filled, IsFilledOn, Area, Group, group_sum, area_sum, area_sum_in, line_sum, Split, split_sum, IsMost, group_room, ltb-false, leb-false, leb-true, goes_back, group_goes_back, break_put, ReachesGroup}
 use Rattle.multi_judge.proofs.LineSumLemmas.{present_push}
 
 -- no item of an area is in a group behind the one with the largest justification
@@ -45,6 +45,20 @@ module _ (area : List Spot) (a : Area) (e : a ≡ area_sum area) where
 
   pub group_of_own : (just : ℕ) → just ≡ a.present → a.group ≡ group_sum (in_group just area)
   group_of_own just own = ap (λ (a : Area). a.group) e ∙ ap (λ n. group_sum (in_group n area)) (sym (own ∙ most_is))
+
+-- all page justifications are known
+pages_known : (area : List Spot) → largest (λ (t : Spot). page_number t.at.page_just) area ≤ 4
+pages_known = push_ind (λ area. largest (λ (t : Spot). page_number t.at.page_just) area ≤ 4) (omega arith) (λ area s known. omega (arith, known, (page_number_known s.at.page_just).1, largest_push (λ (t : Spot). page_number t.at.page_just) area s))
+
+-- a character stands in a group with a known one
+pub group_there : (area : List Spot) (a : Area) → a ≡ area_sum area → a.group.line.any ≡ true → 2 ≤ a.present
+group_there [] a e any = absurd (false≢true (ap (λ (a : Area). a.group.line.any) (sym e) ∙ any))
+group_there (s ∷ area) a e any =
+    let f : Spot → ℕ = λ t. page_number t.at.page_just in
+    omega (arith, ap (λ (a : Area). a.present) e, All-head (λ t. f t ≤ largest f (s ∷ area)) s area (largest_most f (s ∷ area)), (page_number_known s.at.page_just).0)
+
+pub group_known : (area : List Spot) (a : Area) → a ≡ area_sum area → a.present ≤ 4
+group_known area a e = omega (arith, ap (λ (a : Area). a.present) e, pages_known area)
 
 -- CONFLICTS
 
@@ -123,21 +137,7 @@ module _ {page height : ℕ} {old : Area} {most : ℕ} {reached : Bool} {new : A
         | inr on ↦ le-ltb page old.present on ∙ sym (ap not (r.order ∙ le-leb old.present page on))
       ])
 
-  -- has numbers that grew by no more than 1,024
-  pub reached_below : (k : ℕ) → IsBelow k old → (new.top ≤ k + 1024) × (new.middle ≤ k + 1024) × IsGroupBelow k new.group × (2 ≤ new.present) × (new.present ≤ 4)
-  reached_below k b = elim (cases_Bool reached) [
-    | inl on ↦
-        let goes = r.goes on in
-        let (top, middle, group) = goes.grows k b in
-        (top, middle, group, omega (arith, goes.present, page_known.0), omega (arith, goes.present, page_known.1))
-    | inr off ↦ rw ((r.left off).0) (omega (arith, b.top), omega (arith, b.middle), b.group, omega (arith, before off, page_known.0), b.known)
-  ]
-
-  -- and so it has with another group there, whose numbers may have grown
-  pub regrouped_below : (k : ℕ) → IsBelow k old → (group : Group) → (IsGroupBelow k new.group → IsGroupBelow (k + 1024) group) → IsBelow (k + 1024) (record new { group = group })
-  regrouped_below k b group below = grind (arith, reached_below k b)
-
-  -- and the limits of its present group and of its present line are known where they were
+  -- the limits of its present group and of its present line are known where they were
   pub reached_group : (2 ≤ old.present → most ≡ group_room old height) → most' ≡ group_room new height
   reached_group is = search (rules, before, cases_Bool)
 

@@ -52,15 +52,15 @@ pub use Rattle.sign_font.specs.declared.font.FontInfo.{FontInfo}
 pub use Rattle.sign_font.specs.declared.parts.LineFill.{LineFill}
 pub use Rattle.sign_font.specs.declared.parts.LineFill.TheVariants.{Off, Words}
 pub use Rattle.multi_judge.specs.Adding.{PutsCharacter, AddsCharacter, character_of, AddsBreak, ReachesGroup}
-pub use Rattle.multi_judge.specs.FillSums.{Order, order_of, split_sum, EndsLine, order_sum, IsSplitBelow, FillsGroup, parts_sum}
+pub use Rattle.multi_judge.specs.FillSums.{Order, order_of, split_sum, EndsLine, order_sum, FillsGroup, parts_sum}
 pub use Rattle.multi_judge.specs.FilledRun.{IsFilledRun, even_line, longer_line, with_run, with_run_behind, with_word, with_space, GoesOnBehind}
 pub use Rattle.multi_judge.specs.FilledState.{IsFilledOf, begins_line, IsFilledFor, IsFilledReady}
 pub use Rattle.multi_judge.specs.Judging.{ReadSoFar, IsAt, IsBehind}
 pub use Rattle.multi_judge.specs.PassState.{IsPassOf, IsPassReady, fill_of}
 pub use Rattle.multi_judge.specs.Passed.{IsCellPut, IsItemJudged, IsItemPassed, JudgesCell, PutsCell, next_group}
-pub use Rattle.multi_judge.specs.Run.{FitsBefore, gap_here, is_within, lengthened_line, kept_height, kept_width, IsBehindCharacter, kept_fits, IsRun, lengthened, lengthened_area, line_in_force, IsBehindOne}
-pub use Rattle.multi_judge.specs.State.{IsMost, group_room, segment_room, AreaFits, IsJudged, IsLimited, IsStateOf, attributes_of, IsReady, IsUnfilledOf, IsSimple, JudgesTag}
-pub use Rattle.multi_judge.specs.Sums.{Character, group_sum, area_sum, area_sum_in, line_sum, IsBelow, IsGroupBelow, IsCharacter, IsBreak, IsLineBelow, segment_sum, width_before, height_before, ended_sum, IsSegmentBelow}
+pub use Rattle.multi_judge.specs.Run.{FitsBefore, gap_here, is_within, lengthened_line, kept_height, kept_width, IsBehindCharacter, kept_fits, IsRun, lengthened, lengthened_area, lengthened_by, line_in_force, IsBehindOne}
+pub use Rattle.multi_judge.specs.State.{IsMost, group_room, segment_room, AreaFits, IsJudged, IsLimited, IsSmall, IsStateOf, attributes_of, IsReady, IsUnfilledOf, IsSimple, JudgesTag}
+pub use Rattle.multi_judge.specs.Sums.{Character, counted, held, group_sum, area_sum, area_sum_in, line_sum, IsCharacter, IsBreak, segment_sum, width_before, height_before, ended_sum}
 pub use Rattle.multi_judge.specs.Table.{counted_line, TableLines, split_lines, line_entry, table_of, column_in, IsOrdered, group_lines}
 pub use Rattle.multi_judge.specs.Text.{IsInText, TakesSpace}
 pub use Rattle.multi_judge.specs.declared.area.Area.{Area}

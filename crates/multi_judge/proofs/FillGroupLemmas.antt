@@ -1,5 +1,5 @@
 -- The sums around the last space of a line, at one more character.
-use Rattle.multi_judge.proofs.Common.{◌≡◌, true, false, List, [], ◌∷◌, ◌++◌, Option, Some, None, sym, ap, subst, ◌∙◌, rules, arith, ◌≤◌, inl, inr, ℕ, Bool, cond, not, ◌&&◌, ◌==◌, refl, append_assoc, append-nil, or_parts, and_from, and_parts, false≢true, AllPass, list_any, after_last, All, option_map, list_any-append, nat_le, sum_by-append, All-nil, All-cons, All-head, All-tail, Spot, is_glyph, is_break, segment, CutAt, is_space, filled, clashes, le_test, open_line, open_line_is, cut_with, none_mapped, Cut, after_last_is, smaller_fits, ended_break, ended_glyph, line_number, char_gap, glyph_width, width_of, fit, line_fits, IsPlacing, ended_lines, Split, Character, Line, split_sum, EndsLine, IsCharacter, line_sum, IsBreak, group_sum, Group, PutsCharacter, FitsBefore, IsMost, segment_room, cut_at_last, longer, dropped, word_begins, word_grows, broken_line, breaks, drops, stands, stays, LaidAll, LaidAs, filled_laid, ended, ended_ends, ends_open, open_line_glyphs, filled_is, is_cut, All-around, glyphs_around, successive, info_of, parts_sum}
+use Rattle.multi_judge.proofs.Common.{◌≡◌, true, false, List, [], ◌∷◌, ◌++◌, Option, Some, None, sym, ap, subst, ◌∙◌, rules, arith, ◌≤◌, ◌<◌, ◌^◌, inl, inr, ℕ, Bool, cond, not, ◌&&◌, ◌==◌, refl, append_assoc, append-nil, or_parts, and_from, and_parts, false≢true, AllPass, list_any, after_last, All, option_map, list_any-append, nat_le, sum_by-append, All-nil, All-cons, All-head, All-tail, Spot, is_glyph, is_break, segment, CutAt, is_space, filled, clashes, le_test, open_line, open_line_is, cut_with, none_mapped, Cut, after_last_is, smaller_fits, ended_break, ended_glyph, line_number, char_gap, glyph_width, width_of, fit, line_fits, IsPlacing, ended_lines, Split, Character, Line, split_sum, EndsLine, IsCharacter, line_sum, IsBreak, group_sum, Group, PutsCharacter, FitsBefore, IsMost, segment_room, cut_at_last, longer, dropped, word_begins, word_grows, broken_line, breaks, drops, stands, stays, LaidAll, LaidAs, filled_laid, ended, ended_ends, ends_open, open_line_glyphs, filled_is, is_cut, All-around, glyphs_around, successive, info_of, parts_sum}
 use Rattle.multi_judge.proofs.Sums.{some_mapped, all_glyphs, none_behind, relined, present_push}
 use Rattle.multi_judge.proofs.LimitLemmas.{fits_behind, none_before, told_behind}
 
@@ -31,7 +31,10 @@ pub split_word : (line : List Spot) (s : Spot) (character : Character) → AllPa
     → (split : Split) (more : Line) → Some split ≡ split_sum line
     → ((l : List Spot) (t : Spot) → AllPass is_glyph l → IsCharacter t character → split.behind ≡ line_sum l → list_any (clashes t) l ≡ false → more ≡ line_sum (l ++ t ∷ []))
     → ◌≡◌ {A = Option Split} (Some (record { before = split.before; font = split.font; behind = more })) (split_sum (line ++ s ∷ []))
-split_word line s character glyphs is w apart split more o grows = grind (arith, parts_of, split_if)
+split_word line s character glyphs is w apart split more o grows =
+    let (c, found, same, before, behind, away) = parts_of line s split glyphs apart o in
+    let grown = grows c.behind s behind is (ap (λ (p : Split). p.behind) (sym same)) away in
+    (λ i. let p : Split = record { before = (sym same i).before; font = (sym same i).font; behind = grown i } in Some p) ∙ sym (split_if line s (Some c) w found)
 
 -- a segment is as wide as what stands behind its first character, or wider
 wider : (x : Spot) (line : List Spot) → width_of line ≤ width_of (x ∷ line)
@@ -80,7 +83,11 @@ BreaksGroup old split new =
 
 broken_at : (old : Group) (split : Split) (new : Group)
     → ((g : List Spot) (t : Spot) → All IsPlacing g → with_line old split.before ≡ group_sum g → IsBreak t None split.font → new ≡ group_sum (g ++ t ∷ [])) → BreaksGroup old split (with_line new split.behind)
-broken_at old split new ends = search (rules, all_glyphs, none_behind, relined)
+broken_at old split new ends front before behind space placing none first last glyph e is font rest =
+    let open' = lined_anew front (before ++ space ∷ behind) before none (all_glyphs before space behind first glyph last) first old e split.before is in
+    let ended = ends (front ++ before) (dropped space) placing open' (record { put = refl; font = font }) in
+    lined_anew ((front ++ before) ++ dropped space ∷ []) [] behind (none_behind (front ++ before) (dropped space) refl) (All-nil (λ x. is_glyph x ≡ true)) last new
+    (ended ∙ ap group_sum (sym (append-nil ((front ++ before) ++ dropped space ∷ [])))) split.behind rest
 
 laid_one : (s t : Spot) → IsPlacing s → LaidAs s t → IsPlacing t
 laid_one s t h (inl e) = subst IsPlacing (sym e) h
@@ -99,6 +106,7 @@ filled_placing o group placing = laid_placing group (filled o group) placing (fi
 -- a character joins a group whose lines are filled to this width, and these are the group's sums: its open line fits, and the character
 -- clashes with none of it
 pub record Joins (width : ℕ) (group : List Spot) (s : Spot) (character : Character) (self : Group) : Type 0 where
+  pub small : width < 2 ^ 16
   pub placing : All IsPlacing group
   pub is : IsCharacter s character
   pub fits : line_fits width (after_last is_break (filled (Some width) group)) ≡ true
@@ -156,7 +164,7 @@ module _ {width : ℕ} {group : List Spot} {s : Spot} {character : Character} {s
 
   module _ (grown : Line) (sum : grown ≡ line_sum (open' ++ s ∷ [])) (most : ℕ) (room : most ≡ segment_room grown width) where
     answer : nat_le grown.part.width most ≡ line_fits width (line ++ s ∷ [])
-    answer = told_behind width open' s grown sum j.apart j.fits most room ∙ ap (λ l. line_fits width (l ++ s ∷ [])) line_is
+    answer = told_behind width open' s grown sum j.apart j.fits most j.small room ∙ ap (λ l. line_fits width (l ++ s ∷ [])) line_is
 
     -- it stands on the open line, and no line is ended
     on_line : filled (Some width) (group ++ s ∷ []) ≡ old ++ s ∷ [] → (split : Option Split) → split ≡ split_sum (open' ++ s ∷ [])

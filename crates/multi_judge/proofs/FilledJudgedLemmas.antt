@@ -1,6 +1,6 @@
 -- What is kept behind one more tag, where lines are filled.
-use Rattle.multi_judge.proofs.Common.{order_of, inl, inr, nat_lt, ◌≡◌, ℕ, ◌*◌, ◌≤◌, true, false, List, [], ◌∷◌, ◌++◌, length, Option, Some, None, Result, Ok, Err, refl, sym, ap, subst, ◌∙◌, arith, append-nil, ◌&&◌, rules, Bool, cond, not, ◌||◌, ◌==◌, after_last, list_any, cases_eq, le-leb, length-append, Tag, NewPage, NewLine, Rect, page_number, LineFill, Off, Words, SignData, CellData, cell_in, cell_numbered, SyntaxError, Break, Spot, Standing, in_area, in_group, is_break, spots, standing, Glyph, area_of, group_of, filled, is_space, line_fits, area_fits, too_big, laid_items, Meaning, Does, Shows, conflicts, offence, clashes, first_code, never_big, unsized_offence, present_area, largest, in_group_other, own_group, placing_group, area_placing, nothing_fits, largest_laid, are_laid, offence-break, no_conflict, standing_push, present_area-new, present_area-placing, offence-character, largest_push, SizedCell, page_number_known, area_sum, IsBelow, IsCharacter, line_sum, Area, Pass, State, IsFilledOf, begins_line, order_sum, split_sum, IsSplitBelow, EndsLine, AreaFits, IsJudged, IsPassOf, IsFilledOn, IsPlacing, All, IsLimited, IsStateOf, attributes_of, Split, Character, Line, Attributes, is_within, FitsBefore, Limits, filled_break, offends_as_laid, laid_tag, fits_next, after_last_push}
-use Rattle.multi_judge.proofs.Sums.{area_stays, split_more, cell_found, cell_missing, no_back, empty_area, both_fit, no_clash, present_glyphs}
+use Rattle.multi_judge.proofs.Common.{order_of, inl, inr, nat_lt, ◌≡◌, ℕ, ◌≤◌, ◌<◌, ◌^◌, true, false, List, [], ◌∷◌, ◌++◌, Option, Some, None, Result, Ok, Err, refl, sym, ap, subst, ◌∙◌, arith, append-nil, ◌&&◌, rules, Bool, cond, not, ◌||◌, ◌==◌, after_last, list_any, cases_eq, le-leb, Tag, NewPage, NewLine, Rect, page_number, LineFill, Off, Words, SignData, CellData, cell_in, cell_numbered, SyntaxError, Break, Spot, Standing, in_area, in_group, is_break, spots, standing, Glyph, area_of, group_of, filled, is_space, line_fits, area_fits, too_big, laid_items, Meaning, Does, Shows, conflicts, offence, clashes, first_code, never_big, unsized_offence, present_area, largest, in_group_other, own_group, placing_group, area_placing, nothing_fits, largest_laid, are_laid, offence-break, no_conflict, standing_push, present_area-new, present_area-placing, offence-character, largest_push, SizedCell, page_number_known, area_sum, IsSmall, IsCharacter, line_sum, Area, Pass, State, IsFilledOf, begins_line, order_sum, split_sum, EndsLine, AreaFits, IsJudged, IsPassOf, IsFilledOn, IsPlacing, All, IsLimited, IsStateOf, attributes_of, Split, Character, Line, Attributes, is_within, FitsBefore, Limits, filled_break, offends_as_laid, laid_tag, fits_next, after_last_push}
+use Rattle.multi_judge.proofs.Sums.{area_stays, cell_found, cell_missing, no_back, empty_area, both_fit, no_clash, present_glyphs}
 use Rattle.multi_meaning.specs.Codes.{code_of}
 use Rattle.multi_meaning.proofs.LaidItemLemmas.{groups_laid, same_fill}
 use Rattle.multi_meaning.specs.kept.FillOpen.{AllOpenFit}
@@ -40,17 +40,16 @@ filled_start sign items state st none =
       state_is = st;
       split_is = sym (ap (λ (area : List Spot). split_sum (after_last is_break (filled (Some width) (in_group state.area.present area)))) none);
       order_is = sym (ap (λ (area : List Spot). order_sum (after_last is_break (in_group state.area.present area))) none);
-      split_below = tt;
       fits = subst (AllOpenFit (Some width)) (sym none) (λ just. nothing_fits width);
     }
 
 -- what is kept of more items, where only the group with this page justification may have changed since these, and the rectangle is as wide
 pub filled_of : (sign : SignData) (items more : List Meaning) (old new : Pass) → IsFilledOf sign items old → IsStateOf sign (laid_items Words sign more more) new.state → IsLimited new.state
-    → AreaFits sign (laid_items Words sign more more) → IsSplitBelow (1024 * length more) new.split → (standing sign more).rectangle.width ≡ (standing sign items).rectangle.width
+    → AreaFits sign (laid_items Words sign more more) → (standing sign more).rectangle.width ≡ (standing sign items).rectangle.width
     → (page : ℕ) → new.state.area.present ≡ page → ((j : ℕ) → (page ≡ j → ⊥) → in_group j (present_area sign more) ≡ in_group j (present_area sign items))
     → (group : List Spot) → in_group page (present_area sign more) ≡ group → new.split ≡ split_sum (after_last is_break (filled (Some (standing sign items).rectangle.width) group))
     → order_of new.order ≡ order_sum (after_last is_break group) → line_fits (standing sign items).rectangle.width (after_last is_break (filled (Some (standing sign items).rectangle.width) group)) ≡ true → IsFilledOf sign more new
-filled_of sign items more old new of st limited high below width page present others group own split order fits =
+filled_of sign items more old new of st limited high width page present others group own split order fits =
     let here : group ≡ in_group new.state.area.present (present_area sign more) = sym (ap (λ j. in_group j (present_area sign more)) present ∙ own) in
     let all : AllOpenFit (Some (standing sign more).rectangle.width) (present_area sign more) = λ just. elim (cases_eq page just) [
       | inl same ↦ (λ i. line_fits (width i) (after_last is_break (filled (Some (width i)) ((ap (λ j. in_group j (present_area sign more)) (sym same) ∙ own) i)))) ∙ fits
@@ -60,7 +59,6 @@ filled_of sign items more old new of st limited high below width page present ot
       state_is = st;
       split_is = split ∙ (λ i. split_sum (after_last is_break (filled (Some (sym width i)) (here i))));
       order_is = order ∙ ap (λ g. order_sum (after_last is_break g)) here;
-      split_below = below;
       limited = limited;
       area_fits = high;
       fits = all;
@@ -78,9 +76,6 @@ module _ (sign : SignData) (items : List Meaning) (kept : Pass) (of : IsFilledOf
   still_fits : AreaFits sign (laid_items Words sign more more)
   still_fits = subst (AreaFits sign) (sym (laid_tag Words sign items tag)) (fits_next sign (laid_items Words sign items items) (Does tag) fine of.area_fits)
 
-  count : 1024 * length items ≤ 1024 * length more
-  count = omega (arith, length-append items (Does tag ∷ []))
-
   -- the present area stays
   stays : present_area sign more ≡ present_area sign items → (standing sign more).rectangle.width ≡ (standing sign items).rectangle.width
       → IsFilledOf sign more (record { state = state; split = kept.split; order = kept.order })
@@ -88,7 +83,7 @@ module _ (sign : SignData) (items : List Meaning) (kept : Pass) (of : IsFilledOf
       let present : state.area.present ≡ kept.state.area.present =
       present_laid sign more state laid_state ∙ ap (largest (λ (t : Spot). page_number t.at.page_just)) area ∙ sym (present_laid sign items kept.state of.state_is) in
       filled_of sign items more kept (record { state = state; split = kept.split; order = kept.order }) of laid_state limited still_fits
-      (split_more (1024 * length items) (1024 * length more) kept.split count of.split_below) width kept.state.area.present present (λ j other. ap (in_group j) area)
+      width kept.state.area.present present (λ j other. ap (in_group j) area)
       (in_group kept.state.area.present (present_area sign items)) (ap (in_group kept.state.area.present) area) of.split_is of.order_is (of.fits kept.state.area.present)
 
 -- a line ends
@@ -136,7 +131,7 @@ module _ (sign : SignData) (items : List Meaning) (kept : Pass) (of : IsFilledOf
       let hard = after_last_push is_break group nl in
       let soft = ap (after_last is_break) (filled_break w group nl (placing_group page (present_area sign items) (area_placing (spots sign items) nl)) refl) ∙ after_last_push is_break (filled (Some w) group) nl in
       filled_of sign items behind kept (record { state = state; split = None; order = 0 }) of (laid_state sign items kept of (NewLine gap) state st limited fine) limited
-      (still_fits sign items kept of (NewLine gap) state st limited fine) tt width page present
+      (still_fits sign items kept of (NewLine gap) state st limited fine) width page present
       (λ j differ. ap (in_group j) area_is ∙ in_group_other j (present_area sign items) nl differ) (group ++ nl ∷ []) own
       (sym (ap split_sum soft)) (sym (ap order_sum hard)) (ap (line_fits w) soft ∙ nothing_fits w)
 
@@ -180,7 +175,7 @@ module _ (sign : SignData) (items : List Meaning) (kept : Pass) (of : IsFilledOf
 -- a character joins the group of an area with this page justification, where lines are filled to this width, as `FillsGroup` says it of the group
 abbrev pub FillsArea : ℕ → ℕ → Area → Option Split → Character → Bool → Area → Option Split → Option Line → Type 0
 FillsArea just width area split character space area' split' ended =
-    (old new group : List Spot) (s : Spot) → All IsPlacing old → All IsPlacing group → area ≡ area_sum old → area.present ≤ just → IsFilledOn just width group s old new → IsCharacter s character → is_space s ≡ space
+    (old new group : List Spot) (s : Spot) → width < 2 ^ 16 → All IsPlacing old → All IsPlacing group → area ≡ area_sum old → area.present ≤ just → IsFilledOn just width group s old new → IsCharacter s character → is_space s ≡ space
     → line_fits width (after_last is_break (filled (Some width) group)) ≡ true → list_any (clashes s) (after_last is_break (filled (Some width) group)) ≡ false → (area.present ≡ just → split ≡ split_sum (after_last is_break (filled (Some width) group)))
     → (area' ≡ area_sum new) × (split' ≡ split_sum (after_last is_break (filled (Some width) (group ++ s ∷ [])))) × EndsLine (filled (Some width) group) (filled (Some width) (group ++ s ∷ [])) ended × FitsBefore width area'.group.line
 
@@ -250,11 +245,12 @@ module _ (sign : SignData) (items : List Meaning) (kept : Pass) (of : IsFilledOf
       filled_grown =
           let all = spots sign items in
           let s : Spot = shown sign items number cell found in
+          let small = subst (λ (a : Attributes). IsSmall a.rectangle) attributes_here of.state_is.small in
           let laid = laid_items Words sign items items in
           let behind : Spot = record { at = standing sign laid; put = Glyph cell } in
           let placing = placing_group (page_number s.at.page_just) (area_of s all) (area_placing all s) in
           let fills' : Fills character space area' split' ended (page_number s.at.page_just) s.at.rectangle.width = subst (λ (a : Attributes). Fills character space area' split' ended (page_number a.page_just) a.rectangle.width) attributes_here fills in
-          fills' (present_area sign laid) (area_with sign items number cell found) (group_of s all) s
+          fills' (present_area sign laid) (area_with sign items number cell found) (group_of s all) s small.0
           (area_placing (spots sign laid) behind) placing of.state_is.area
           (no_back all s (page_number s.at.page_just) kept.state.area.present refl (present_is sign items number cell found kept.state of.state_is) apart)
           (goes_behind sign items number cell found apart) is spaces (of.fits (page_number s.at.page_just))
@@ -262,10 +258,10 @@ module _ (sign : SignData) (items : List Meaning) (kept : Pass) (of : IsFilledOf
           (λ e. of.split_is ∙ ap (λ j. split_sum (after_last is_break (filled (Some s.at.rectangle.width) (in_group j (present_area sign items))))) e)
 
       -- its size is told by the limits that are kept then: its groups before the present one fit, since they did without it
-      pub filled_size : (limits' : Limits) (k : ℕ) → IsBelow k area' →
+      pub filled_size : (limits' : Limits) →
           let new : State = record kept.state { area = area'; limits = limits' } in
           IsLimited new → (is_within new ≡ not (doesn't_fit sign items number cell found)) × (offence Words sign items (Shows number) ≡ cond (is_within new) None (Some 5))
-      filled_size limits' k below limited =
+      filled_size limits' limited =
           let s : Spot = shown sign items number cell found in
           let page = page_number s.at.page_just in
           let more = laid_items Words sign (items ++ Shows number ∷ []) (items ++ Shows number ∷ []) in
@@ -273,16 +269,16 @@ module _ (sign : SignData) (items : List Meaning) (kept : Pass) (of : IsFilledOf
           let on = goes_behind sign items number cell found apart in
           let (sum, split, ends, fitted) = filled_grown in
           let present : area'.present ≡ page = ap (λ (a : Area). a.present) sum ∙ on.last in
-          let known = page_number_known s.at.page_just in
+          let low : 2 ≤ area'.present = omega (arith, present, (page_number_known s.at.page_just).0) in
           let placing = area_placing (spots sign more) (record { at = standing sign more; put = Glyph cell }) in
           let here = kept.state.attributes.rectangle in
-          let held = subst (λ (a : Attributes). area_fits a.rectangle.height (present_area sign (laid_items Words sign items items)) ≡ true) (sym of.state_is.attributes) of.area_fits in
-          let above = groups_fit_before here.height (present_area sign (laid_items Words sign items items)) new page on.others area' sum placing present (omega (arith, present, known.1)) held in
+          let fits_without = subst (λ (a : Attributes). area_fits a.rectangle.height (present_area sign (laid_items Words sign items items)) ≡ true) (sym of.state_is.attributes) of.area_fits in
+          let above = groups_fit_before here.height (present_area sign (laid_items Words sign items items)) new page on.others area' sum placing present fits_without in
           let line_is : area'.group.line ≡ line_sum (after_last is_break (in_group page new)) =
           ap (λ (a : Area). a.group.line) sum ∙ ap (λ j. line_sum (after_last is_break (in_group j new))) on.last in
           let before = subst (λ (a : Attributes). FitsBefore a.rectangle.width area'.group.line) (sym attributes_here) fitted in
-          let wide = open_told (after_last is_break (in_group page new)) area'.group.line here.width limits'.width (present_glyphs page new placing) line_is below.group.line.known before limited.width in
-          let high = area_told new area' here.height limits'.height sum placing (omega (arith, present, known.0)) below.known above (limited.height (omega (arith, present, known.0))) in
+          let wide = open_told (after_last is_break (in_group page new)) area'.group.line here.width limits'.width of.state_is.small.0 (present_glyphs page new placing) line_is before limited.width in
+          let high = area_told new area' here.height limits'.height of.state_is.small.1 sum placing low above (limited.height low) in
           let fits = (λ i. wide i && high i) ∙ ap (λ (a : Attributes). line_fits a.rectangle.width (after_last is_break (in_group page new)) && area_fits a.rectangle.height new) attributes_here
           ∙ both_fit (line_fits s.at.rectangle.width (after_last is_break (in_group page new))) (area_fits s.at.rectangle.height new) in (
             fits,

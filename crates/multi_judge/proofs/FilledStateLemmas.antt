@@ -1,5 +1,5 @@
 -- What is kept of the items of a string as they are laid out, behind one more character.
-use Rattle.multi_judge.proofs.Common.{nat_lt, ◌≡◌, ℕ, ◌+◌, ◌*◌, Bool, true, false, cond, List, [], ◌∷◌, ◌++◌, length, Option, Some, None, refl, sym, ap, subst, ◌∙◌, arith, append_assoc, append-nil, rules, not, ◌&&◌, ◌||◌, ◌==◌, zero, suc, cons_option, after_last, list_any, All, eq-eqb, le-ltb, or_parts, list_any-append, LineFill, SignData, CellData, cell_numbered, font_numbered, Glyph, Standing, in_area, spots, standing, Spot, area_of, group_of, in_group, is_break, too_big, laid_item, laid_items, Meaning, Shows, is_new_page, present_area, standing_behind, IsFilledOn, IsPlacing, Times, cycle, ended_times, times_at, pages_of, are_laid, largest_laid, standing_push, each_after_push, push_ind, some_after_push, after_last_is, cut, largest_push, page_number, line_number, Words, area_fits, line_fits, clashes, conflicts, first_code, offence, offence_by, largest, CutAt, filled, open_line, open_line_is, Area, Limits, State, IsStateOf, attributes_of, IsBelow, area_sum, line_sum, Order, order_sum, laid, filled_on, same_width, too_big_laid, spots_more, character_cases, soft_break, broken_parts, parts, parts_off}
+use Rattle.multi_judge.proofs.Common.{nat_lt, ◌≡◌, ℕ, ◌+◌, Bool, true, false, cond, List, [], ◌∷◌, ◌++◌, length, Option, Some, None, refl, sym, ap, subst, ◌∙◌, arith, append_assoc, append-nil, rules, not, ◌&&◌, ◌||◌, ◌==◌, zero, suc, cons_option, after_last, list_any, All, eq-eqb, le-ltb, or_parts, list_any-append, LineFill, SignData, CellData, cell_numbered, font_numbered, Glyph, Standing, in_area, spots, standing, Spot, area_of, group_of, in_group, is_break, too_big, laid_item, laid_items, Meaning, Shows, is_new_page, present_area, standing_behind, IsFilledOn, IsPlacing, Times, cycle, ended_times, times_at, pages_of, are_laid, largest_laid, standing_push, each_after_push, push_ind, some_after_push, after_last_is, cut, largest_push, page_number, line_number, Words, area_fits, line_fits, clashes, conflicts, first_code, offence, offence_by, largest, CutAt, filled, open_line, open_line_is, Area, Limits, State, IsStateOf, attributes_of, area_sum, line_sum, Order, order_sum, laid, filled_on, same_width, too_big_laid, spots_more, character_cases, soft_break, broken_parts, parts, parts_off}
 use Rattle.multi_judge.proofs.Sums.{cycle-stays, conflicts_kept, no_back, any_more, in_order, line_clashes}
 use Rattle.std.proofs.Math.Bool.{or_comm}
 use Rattle.multi_judge.proofs.RunLemmas.{not_full, or_same}
@@ -64,9 +64,9 @@ module _ (setting : LineFill) (sign : SignData) where
         ≡ in_area (standing sign items).area (laid setting (spots sign items ++ record { at = standing sign items; put = Glyph cell } ∷ []) (spots sign items ++ record { at = standing sign items; put = Glyph cell } ∷ []))
     laid_area_more = search (rules, behind, spots_more, standing_push)
 
-    pub filled_state : (state : State) (area : Area) (limits : Limits) → IsStateOf sign laid_before state → area ≡ area_sum (present_area sign laid_more) → IsBelow (1024 * length laid_more) area
+    pub filled_state : (state : State) (area : Area) (limits : Limits) → IsStateOf sign laid_before state → area ≡ area_sum (present_area sign laid_more)
         → IsStateOf sign laid_more (record state { area = area; limits = limits })
-    filled_state state area limits st sum below =
+    filled_state state area limits st sum =
         let after : standing sign laid_more ≡ standing_behind sign (standing sign items) (Shows number) = behind.0 ∙ standing_push sign items (Shows number) in
         let page : (standing sign laid_more).page ≡ (standing sign laid_before).page = ap (λ (s : Standing). s.page) after ∙ omega (arith, ap (λ (s : Standing). s.page) before.0) in
         record {
@@ -75,8 +75,8 @@ module _ (setting : LineFill) (sign : SignData) where
           attributes = st.attributes ∙ ap attributes_of before.0 ∙ sym (ap attributes_of after);
           area = sum;
           font = subst (λ (s : Standing). font_numbered sign s.font.number ≡ Some s.font) (before.0 ∙ unchanged ∙ sym after) st.font;
-          below = below;
           short = st.short;
+          small = st.small;
         }
       where
         unchanged : standing sign items ≡ standing_behind sign (standing sign items) (Shows number)

@@ -1,33 +1,6 @@
--- Bounds on the sums that are kept: what is below one is below a larger one.
-use Rattle.multi_judge.proofs.Common.{ℕ, ◌+◌, ◌≤◌, Option, Some, None, arith, rules, ◌≡◌, ◌*◌, ◌^◌, true, false, cond, inl, inr, List, [], ◌∷◌, ◌++◌, length, refl, sym, ap, ◌∙◌, append-nil, not, ◌==◌, subst, nat_lt, count_by, cons_option, option_map, unwrap_or, option_map_or, cases_Bool, eq-eqb, eqb-true, length-append, sum_by-append, Tag, Back, NewLine, NewPage, Rect, Off, too_big, SizedCell, SignData, CellData, FontData, cell_in, cell_numbered, font_numbered, FontInfo, Cover, Glyph, spots, standing, Meaning, Shows, Does, is_new_page, conflicts, never_big, offence, unsized_offence, offence_by, present_area, standing_behind, Times, cycle, ended_times, times_at, pages_of, offence-undefined, offence-character, standing_push, present_area-nothing, present_area-cover, present_area-new, some_after_push, none_mapped, Area, Group, Split, Line, Segment, IsSplitBelow, IsBelow, IsGroupBelow, IsLineBelow, area_sum, lengthened_line, begins_line, Attributes, Limits, State, IsReady, IsStateOf, attributes_of, find, option_and_then, same_Some, sum_by_push, Font, info_of, sized, default_line_just, default_page_just, whole_sign, is_inside, offence-page, offence-rectangle, offence-font, offence-no_font, IsSegmentBelow, IsSimple}
+-- What is judged of tags and of characters, by the state.
+use Rattle.multi_judge.proofs.Common.{ℕ, ◌+◌, ◌≤◌, Option, Some, None, arith, rules, ◌≡◌, true, false, cond, inl, inr, List, [], ◌∷◌, ◌++◌, refl, sym, ap, ◌∙◌, append-nil, not, ◌==◌, subst, nat_lt, count_by, cons_option, option_map, unwrap_or, option_map_or, cases_Bool, eq-eqb, eqb-true, sum_by-append, Tag, Back, NewLine, NewPage, Rect, Off, too_big, SizedCell, SignData, CellData, FontData, cell_in, cell_numbered, font_numbered, FontInfo, Cover, Glyph, spots, standing, Meaning, Shows, Does, is_new_page, conflicts, never_big, offence, unsized_offence, offence_by, present_area, standing_behind, Times, cycle, ended_times, times_at, pages_of, offence-undefined, offence-character, standing_push, present_area-nothing, present_area-cover, present_area-new, some_after_push, none_mapped, Area, area_sum, begins_line, Attributes, Limits, State, IsReady, IsSmall, IsStateOf, attributes_of, find, option_and_then, same_Some, sum_by_push, Font, info_of, sized, default_line_just, default_page_just, whole_sign, is_inside, offence-page, offence-rectangle, offence-font, offence-no_font, IsSimple}
 use Rattle.multi_tag.specs.declared.tag.FontPick.{FontPick}
-
-segment_more : (k m : ℕ) (segment : Segment) → k ≤ m → IsSegmentBelow k segment → IsSegmentBelow m segment
-segment_more k m segment h b = record { width = omega (arith, b.width); count = omega (arith, b.count) }
-
-pub line_more : (k m : ℕ) (line : Line) → k ≤ m → IsLineBelow k line → IsLineBelow m line
-line_more k m line h b = search (rules, segment_more)
-
-pub group_more : (k m : ℕ) (group : Group) → k ≤ m → IsGroupBelow k group → IsGroupBelow m group
-group_more k m group h b = record { ended = omega (arith, b.ended); closed = omega (arith, b.closed); line = line_more k m group.line h b.line }
-
--- a line whose present segment has another width and number of characters
-pub part_below : (k width count : ℕ) (line : Line) → IsLineBelow k line → width ≤ k + 1024 → count ≤ k + 1024 → IsLineBelow (k + 1024) (lengthened_line width count line)
-part_below k width count line b wide many = record { left = omega (arith, b.left); centre = omega (arith, b.centre); right = omega (arith, b.right); part = record { width = wide; count = many }; known = b.known }
-
--- a group with another line, whose numbers may have grown
-pub lined_below : (k : ℕ) (group : Group) (line : Line) → IsGroupBelow k group → IsLineBelow (k + 1024) line
-    → IsGroupBelow (k + 1024) (record group { line = line })
-lined_below k group line b l = record { ended = omega (arith, b.ended); closed = omega (arith, b.closed); line = l }
-
--- what is below a bound is below a larger one
-pub below_more : (k m : ℕ) (area : Area) → k ≤ m → IsBelow k area → IsBelow m area
-below_more k m area h b = record { top = omega (arith, h, b.top); middle = omega (arith, h, b.middle); group = group_more k m area.group h b.group; known = b.known; some = b.some; empty = b.empty }
-
--- and so are the parts of a line
-pub split_more : (k m : ℕ) (o : Option Split) → k ≤ m → IsSplitBelow k o → IsSplitBelow m o
-split_more k m None h b = b
-split_more k m (Some split) h b = (line_more k m split.before h b.0, line_more k m split.behind h b.1)
 
 -- ---- pages and times
 
@@ -47,10 +20,6 @@ cycle-stays sign items x same = first_of (search (rules, append-nil, ended_times
 pub cycle-grows : (sign : SignData) (items : List Meaning) (x : Meaning) → is_new_page x ≡ true
     → cycle (ended_times sign (items ++ x ∷ [])) ≡ cycle (ended_times sign items) + ((standing sign items).on + (standing sign items).off)
 cycle-grows sign items x new = search (rules, cycle-append, ended_times-push)
-
--- the number of items rises by one
-length-push : (items : List Meaning) (x : Meaning) → 1024 * length (items ++ x ∷ []) ≡ 1024 * length items + 1024
-length-push items x = omega (arith, length-append items (x ∷ []))
 
 -- ---- a font in force is one of the sign's
 
@@ -84,9 +53,9 @@ pub state-same_page : (sign : SignData) (items : List Meaning) (state new : Stat
     → new.attributes ≡ attributes_of (standing_behind sign (standing sign items) x)
     → new.area ≡ area_sum (present_area sign (items ++ x ∷ []))
     → font_numbered sign (standing_behind sign (standing sign items) x).font.number ≡ Some (standing_behind sign (standing sign items) x).font
-    → IsBelow (1024 * length items + 1024) new.area → IsStateOf sign (items ++ x ∷ []) new
-state-same_page sign items state new x st same pages times attributes area font below =
-    search (rules, cycle-stays, length-push, pages_of-push, standing_push)
+    → IsSmall new.attributes.rectangle → IsStateOf sign (items ++ x ∷ []) new
+state-same_page sign items state new x st same pages times attributes area font small =
+    search (rules, cycle-stays, pages_of-push, standing_push)
 
 -- a tag behind which no line begins leaves the present area
 pub area_stays : (sign : SignData) (items : List Meaning) (tag : Tag) → begins_line tag ≡ false → present_area sign (items ++ Does tag ∷ []) ≡ present_area sign items
@@ -100,10 +69,9 @@ area_stays sign items tag e = present_area-nothing sign items (Does tag) refl re
 pub state-attribute : (sign : SignData) (items : List Meaning) (state : State) (attributes : Attributes) (x : Meaning) → IsStateOf sign items state
     → is_new_page x ≡ false → present_area sign (items ++ x ∷ []) ≡ present_area sign items → attributes ≡ attributes_of (standing_behind sign (standing sign items) x)
     → font_numbered sign (standing_behind sign (standing sign items) x).font.number ≡ Some (standing_behind sign (standing sign items) x).font
-    → IsStateOf sign (items ++ x ∷ []) (record state { attributes = attributes })
-state-attribute sign items state attributes x st page area is font =
-    state-same_page sign items state (record state { attributes = attributes }) x st page refl refl is (st.area ∙ ap area_sum (sym area)) font
-    (below_more (1024 * length items) (1024 * length items + 1024) state.area (omega arith) st.below)
+    → attributes.rectangle ≡ state.attributes.rectangle → IsStateOf sign (items ++ x ∷ []) (record state { attributes = attributes })
+state-attribute sign items state attributes x st page area is font same =
+    state-same_page sign items state (record state { attributes = attributes }) x st page refl refl is (st.area ∙ ap area_sum (sym area)) font (subst IsSmall (sym same) st.small)
 
 -- what the items so far make of a state doesn't hang on its limits
 pub state-limits : (sign : SignData) (items : List Meaning) (state new : State) → new ≡ record state { area = new.area; limits = new.limits } → IsStateOf sign items (record state { area = new.area }) → IsStateOf sign items new
@@ -113,10 +81,6 @@ state-limits sign items state new same st = search (rules)
 pub shown_free : (sign : SignData) (items : List Meaning) (number : ℕ) (cell : CellData) → cell_numbered (standing sign items).font number ≡ Some cell → unsized_offence sign items (Shows number) ≡ None
     → conflicts (spots sign items) (record { at = standing sign items; put = Glyph cell }) ≡ false
 shown_free sign items number cell found fine = grind (arith, offence-character never_big sign items number cell found)
-
--- an area of no item has nothing
-none_below : (area : Area) → area ≡ area_sum [] → IsBelow 0 area
-none_below area e = rw e (search rules)
 
 module _ (sign : SignData) (items : List Meaning) (state : State) (st : IsStateOf sign items state) where
   -- the font in force
@@ -150,10 +114,10 @@ module _ (sign : SignData) (items : List Meaning) (state : State) (st : IsStateO
   -- a new page: the times of the one before are ended, and the whole sign and an empty area begin
   pub state-page : (new : State) → new.pages ≡ state.pages + 1 → new.cycle ≡ state.cycle + (state.attributes.on + state.attributes.off)
       → new.attributes ≡ record state.attributes { rectangle = whole_sign sign } → new.area ≡ area_sum []
-      → state.attributes.on ≤ 255 → state.attributes.off ≤ 255
+      → state.attributes.on ≤ 255 → state.attributes.off ≤ 255 → IsSmall (whole_sign sign)
       → IsStateOf sign (items ++ Does NewPage ∷ []) new
-  state-page new pages times attributes area on_bound off_bound =
-      search (rules, none_below, below_more, cycle-grows, pages_of-push, present_area-new, standing_push)
+  state-page new pages times attributes area on_bound off_bound small =
+      search (rules, cycle-grows, pages_of-push, present_area-new, standing_push)
 
   pub judged-rectangle : (x y w h : ℕ) → offence Off sign items (Does (Rect x y w h)) ≡ cond (Rattle.multi_meaning.specs.Attributes.is_inside sign x y w h) None (Some 4)
   judged-rectangle x y w h = offence-rectangle (too_big Off) sign items x y w h
@@ -161,7 +125,7 @@ module _ (sign : SignData) (items : List Meaning) (state : State) (st : IsStateO
 -- ---- the start
 
 -- the state before the first item
-pub state-start : (sign : SignData) (info : FontInfo) (area : Area) (limits : Limits) → option_map info_of (font_numbered sign sign.defaults.font) ≡ Some info → area ≡ area_sum []
+pub state-start : (sign : SignData) (info : FontInfo) (area : Area) (limits : Limits) → option_map info_of (font_numbered sign sign.defaults.font) ≡ Some info → area ≡ area_sum [] → IsSmall (whole_sign sign)
     → IsStateOf sign [] (record {
       pages = 1;
       cycle = 0;
@@ -181,20 +145,20 @@ pub state-start : (sign : SignData) (info : FontInfo) (area : Area) (limits : Li
       limits = limits;
     })
 unfolding standing spots
-state-start sign info area limits is sum = search (rules, none_below, found_again)
+state-start sign info area limits is sum small = search (rules, found_again)
 
--- a state within these bounds has room for one more item
-pub ready : (sign : SignData) (items : List Meaning) (state : State) → IsStateOf sign items state → length items ≤ 2 ^ 32 → IsReady state
-ready sign items state st few = search (rules, below_more)
+-- the times of items are within their bound
+pub ready : (sign : SignData) (items : List Meaning) (state : State) → IsStateOf sign items state → IsReady state
+ready sign items state st = record { short = st.short }
 
 -- a rectangle, in which an empty area begins
 pub state-rectangle : (sign : SignData) (items : List Meaning) (state new : State) (x y w h : ℕ) → IsStateOf sign items state
     → new.pages ≡ state.pages → new.cycle ≡ state.cycle
     → new.attributes ≡ attributes_of (standing_behind sign (standing sign items) (Does (Rect x y w h)))
-    → new.area ≡ area_sum []
+    → new.area ≡ area_sum [] → IsSmall new.attributes.rectangle
     → IsStateOf sign (items ++ Does (Rect x y w h) ∷ []) new
-state-rectangle sign items state new x y w h st pages times attributes area =
-    search (rules, none_below, below_more, present_area-new, state-same_page)
+state-rectangle sign items state new x y w h st pages times attributes area small =
+    search (rules, present_area-new, state-same_page)
 
 -- a tag that is none of these is a simple one
 pub simple_of : (tag : Tag) → (tag ≡ NewPage → ⊥) → ((gap : Option ℕ) → tag ≡ NewLine gap → ⊥) → ((pick : Option FontPick) → tag ≡ Font pick → ⊥) → ((x y w h : ℕ) → tag ≡ Rect x y w h → ⊥) → IsSimple tag
@@ -212,13 +176,13 @@ module _ (sign : SignData) (items : List Meaning) (state : State) (st : IsStateO
   CheckedData tag = (offence Off sign items (Does tag) ≡ None) × IsStateOf sign (items ++ Does tag ∷ []) (record state { attributes = attributes })
 
   -- a simple tag: it doesn't offend, and the values in force change
-  pub judged-simple : (tag : Tag) → IsSimple tag → After tag → CheckedData tag
+  pub judged-simple : (tag : Tag) → IsSimple tag → After tag → attributes.rectangle ≡ state.attributes.rectangle → CheckedData tag
   unfolding offence_by
-  judged-simple NewPage s is = absurd s
-  judged-simple (NewLine gap) s is = absurd s
-  judged-simple (Font pick) s is = absurd s
-  judged-simple (Rect x y w h) s is = absurd s
-  judged-simple tag s is = (refl, state-attribute sign items state attributes (Does tag) st refl (area_stays sign items tag refl) is st.font)
+  judged-simple NewPage s is same = absurd s
+  judged-simple (NewLine gap) s is same = absurd s
+  judged-simple (Font pick) s is same = absurd s
+  judged-simple (Rect x y w h) s is same = absurd s
+  judged-simple tag s is same = (refl, state-attribute sign items state attributes (Does tag) st refl (area_stays sign items tag refl) is st.font same)
 
   -- a font: the values in force have its numbers
   pub judged-font : (pick : Option FontPick) (font : FontData) → (standing_behind sign (standing sign items) (Does (Font pick))).font ≡ font → font_numbered sign font.number ≡ Some font
@@ -229,7 +193,7 @@ module _ (sign : SignData) (items : List Meaning) (state : State) (st : IsStateO
       is ∙ ap (λ (a : Attributes). let b : Attributes = record a { font = info_of font } in b) st.attributes
       ∙ ap (λ (f : FontData). let b : Attributes = record (attributes_of (standing sign items)) { font = info_of f } in b) (sym new) in (
         fine,
-        state-attribute sign items state attributes x st refl (area_stays sign items (Font pick) refl) after (subst (λ (f : FontData). font_numbered sign f.number ≡ Some f) (sym new) own),
+        state-attribute sign items state attributes x st refl (area_stays sign items (Font pick) refl) after (subst (λ (f : FontData). font_numbered sign f.number ≡ Some f) (sym new) own) (ap (λ (a : Attributes). a.rectangle) is),
       )
 
 -- FONTS

@@ -1,6 +1,13 @@
 -- The sums of a line after one more character.
-use Rattle.multi_judge.proofs.Common.{length-append, append-nil, ◌≡◌, ℕ, ◌+◌, ◌<◌, ◌≤◌, max, Bool, true, false, cond, ◌&&◌, ◌||◌, ◌==◌, List, [], ◌∷◌, ◌++◌, Option, Some, None, refl, sym, ap, ◌∙◌, arith, rules, length, subst, nat_lt, list_any, AllPass, last_or, after_last, cons_option, All, unwrap_or, option_map, option_map_or, and_right, cases_eq, cases_lt, eq-eqb, false≢true, le-ltb, lt-ltb, ne_eqb, or_parts, All-weaker, All-head, All-tail, All-cons, list_any-append, line_number, page_number, largest, Spot, is_glyph, segment, Break, is_break, in_group, lines_of, average, char_gap, width_of, height_of, clashes, largest_most, largest_push, last_or_push, filter_none, Cut, cut, after_last_is, ended_is, cut_behind_is, each_just, filter_yes, open_glyphs, own_group, placing_group, IsPlacing, FontInfo, cut_with, Character, Segment, Line, kept_width, segment_sum, width_before, line_sum, IsCharacter, group_sum, IsBreak, Group, filter_map, filter-append, filter_map-append, All-append, bearers, line_height, line_spacing, line_gap, given_gap, gap_before, any_largest, extent_push, cut_push, cut_if, part, any_glyph, bearers_glyphs, bearers_ended, bearers_empty, glyph_put, width_push, ended_sum, push_ind, line_number_known}
+use Rattle.multi_judge.proofs.Common.{length-append, append-nil, ◌≡◌, ℕ, ◌+◌, ◌<◌, ◌≤◌, max, Bool, true, false, cond, ◌&&◌, ◌||◌, ◌==◌, List, [], ◌∷◌, ◌++◌, Option, Some, None, refl, sym, ap, ◌∙◌, arith, rules, length, subst, nat_lt, list_any, AllPass, last_or, after_last, cons_option, All, unwrap_or, option_map, option_map_or, and_right, cases_eq, cases_lt, eq-eqb, false≢true, le-ltb, lt-ltb, ne_eqb, or_parts, All-weaker, All-head, All-tail, All-cons, list_any-append, line_number, page_number, largest, Spot, is_glyph, segment, Break, is_break, in_group, lines_of, average, char_gap, width_of, height_of, clashes, largest_most, largest_push, last_or_push, filter_none, Cut, cut, after_last_is, ended_is, cut_behind_is, each_just, filter_yes, open_glyphs, own_group, placing_group, IsPlacing, FontInfo, cut_with, Character, Segment, Line, kept_width, segment_sum, width_before, line_sum, IsCharacter, group_sum, IsBreak, Group, filter_map, filter-append, filter_map-append, All-append, bearers, line_height, line_spacing, line_gap, given_gap, gap_before, any_largest, extent_push, cut_push, cut_if, part, any_glyph, counted, held, bearers_glyphs, bearers_ended, bearers_empty, glyph_put, width_push, ended_sum, push_ind, line_number_known}
 use Rattle.multi_judge.specs.declared.area.Ended.{Ended}
+
+-- what is kept of a sum and more is what is kept of both
+pub held_more : (n m : ℕ) → held (held n + m) ≡ held (n + m)
+held_more n m = omega arith
+
+pub counted_more : (n m : ℕ) → counted (counted n + m) ≡ counted (n + m)
+counted_more n m = omega arith
 
 -- the gap before one more character, from the spacing of the last one's font
 gap_if : (o : Option Spot) (s : Spot) → option_map_or (λ earlier. unwrap_or s.at.spacing (average earlier s.at.font.char_spacing)) (option_map (λ (t : Spot). t.at.font.char_spacing) o) 0 ≡ option_map_or (λ t. char_gap t s) o 0
@@ -16,8 +23,8 @@ passes s just g e = ap (λ b. b && (line_number s.at.line_just == just)) g ∙ e
 -- a segment after one more character of its own
 module _ (just : ℕ) (line : List Spot) (s : Spot) (c : Character) (is : IsCharacter s c) (own : line_number c.just ≡ just) where
   pub segment_own : (seg : Segment) (gap width : ℕ) → seg ≡ segment_sum just line → gap ≡ option_map_or (λ earlier. unwrap_or c.spacing (average earlier c.font.char_spacing)) seg.last 0 → width ≡ c.width
-      → ◌≡◌ {A = Segment} (record { width = seg.width + (gap + width); count = seg.count + 1; last = Some c.font.char_spacing }) (segment_sum just (line ++ s ∷ []))
-  segment_own seg gap width e g w = search (rules, filter_yes, gap_before, last_or_push, length-append, passes, same_segment, width_push)
+      → ◌≡◌ {A = Segment} (record { width = held (seg.width + (gap + width)); count = counted (seg.count + 1); last = Some c.font.char_spacing }) (segment_sum just (line ++ s ∷ []))
+  segment_own seg gap width e g w = search (rules, filter_yes, counted_more, gap_before, held_more, last_or_push, length-append, passes, same_segment, width_push)
 
 -- a segment after a character of another
 pub segment_other : (just : ℕ) (line : List Spot) (s : Spot) → (line_number s.at.line_just ≡ just → ⊥) → segment_sum just (line ++ s ∷ []) ≡ segment_sum just line
@@ -61,29 +68,33 @@ module _ (line : List Spot) (l : Line) (e : l ≡ line_sum line) where
   pub none_of_later : (just : ℕ) → l.present < just → segment just line ≡ []
   none_of_later just later = segment_behind just line (omega (arith, most_is))
 
-  pub width_present : (just : ℕ) → just ≡ l.present → l.part.width ≡ width_of (segment just line)
-  width_present just own = ap (λ (l : Line). l.part.width) e ∙ ap (λ n. width_of (segment n line)) (sym (own ∙ most_is))
+  pub width_present : (just : ℕ) → just ≡ l.present → l.part.width ≡ held (width_of (segment just line))
+  width_present just own = ap (λ (l : Line). l.part.width) e ∙ ap (λ n. held (width_of (segment n line))) (sym (own ∙ most_is))
 
-  pub width_other_of : (just w : ℕ) → w ≡ width_before (largest (λ (t : Spot). line_number t.at.line_just) line) just line → (just ≡ l.present → ⊥) → w ≡ width_of (segment just line)
-  width_other_of just w is other = first_of (search (rules, most_is, none_of_later, whole_before), grind (arith, most_is, none_of_later, whole_before))
+  pub width_other_of : (just w : ℕ) → w ≡ width_before (largest (λ (t : Spot). line_number t.at.line_just) line) just line → (just ≡ l.present → ⊥) → w ≡ held (width_of (segment just line))
+  width_other_of just w is other =
+      is ∙ whole_before (λ j. held (width_of (segment j line))) (largest (λ (t : Spot). line_number t.at.line_just) line) just
+      (λ behind. ap (λ l. held (width_of l)) (none_of_later just (omega (arith, behind, other, most_is))))
 
-  kept_is : (just w : ℕ) → w ≡ width_before (largest (λ (t : Spot). line_number t.at.line_just) line) just line → cond (just == l.present) l.part.width w ≡ width_of (segment just line)
+  kept_is : (just w : ℕ) → w ≡ width_before (largest (λ (t : Spot). line_number t.at.line_just) line) just line → cond (just == l.present) l.part.width w ≡ held (width_of (segment just line))
   kept_is just w is = search (rules, cases_eq, eq-eqb, ne_eqb, width_other_of, width_present)
 
-  left_is : kept_width 2 l ≡ width_of (segment 2 line)
+  left_is : kept_width 2 l ≡ held (width_of (segment 2 line))
   left_is = kept_is 2 l.left (ap (λ (l : Line). l.left) e)
 
-  centre_is : kept_width 3 l ≡ width_of (segment 3 line)
+  centre_is : kept_width 3 l ≡ held (width_of (segment 3 line))
   centre_is = kept_is 3 l.centre (ap (λ (l : Line). l.centre) e)
 
-  right_is : kept_width 4 l ≡ width_of (segment 4 line)
+  right_is : kept_width 4 l ≡ held (width_of (segment 4 line))
   right_is = kept_is 4 l.right (ap (λ (l : Line). l.right) e)
 
   pub present_known : l.present ≤ 5
   present_known = omega (arith, most_is, justs_known line)
 
-  pub kept_width_is : l.present ≤ 5 → (just : ℕ) → 2 ≤ just → just ≤ 5 → kept_width just l ≡ width_of (segment just line)
-  kept_width_is known = first_of (search (rules, centre_is, each_just, kept_is, le-ltb, left_is, most_is, right_is), grind (arith, centre_is, each_just, kept_is, le-ltb, left_is, most_is, right_is))
+  pub kept_width_is : (just : ℕ) → 2 ≤ just → just ≤ 5 → kept_width just l ≡ held (width_of (segment just line))
+  kept_width_is =
+      each_just (λ just. kept_width just l ≡ held (width_of (segment just line))) left_is centre_is right_is
+      (kept_is 5 0 (sym (ap (λ b. cond b (held (width_of (segment 5 line))) 0) (le-ltb 5 (largest (λ (t : Spot). line_number t.at.line_just) line) (justs_known line)))))
 
   -- the line goes on to a segment
   pub turned : (just : ℕ) → l.present ≤ just → (new : Line) → (just ≡ l.present → new ≡ l)
@@ -163,7 +174,7 @@ largest_break f (t ∷ line) s h n =
 -- THE SUMS FROM THE CUT GROUP
 
 abbrev pub sums : List (List Spot) → List Spot → Group
-sums closed open' = record { ended = length closed; closed = height_of closed; last = option_map ended_sum (last_or None closed); line = line_sum open' }
+sums closed open' = record { ended = counted (length closed); closed = held (height_of closed); last = option_map ended_sum (last_or None closed); line = line_sum open' }
 
 abbrev pub cut_sums : Cut Spot → Group
 cut_sums c = sums c.closed c.open'
@@ -201,9 +212,9 @@ pub same_group : (a b n m : ℕ) (o p : Option Ended) (l k : Line) → a ≡ b �
 same_group a b n m o p l k c d e f = rw (c, d, e, f) refl
 
 -- the height of the ended lines and one more, from the sums
-pub more_height : (closed : List (List Spot)) (line : List Spot) (group : Group) (gap height spacing : ℕ) → group.closed ≡ height_of closed → group.last ≡ option_map ended_sum (last_or None closed)
-    → gap ≡ option_map_or (λ ended. unwrap_or ended.gap (average ended.spacing spacing)) group.last 0 → spacing ≡ line_spacing line → height ≡ line_height line → group.closed + gap + height ≡ height_of (closed ++ line ∷ [])
-more_height closed line group gap height spacing c last g s h = search (rules, extent_push, gap_before)
+pub more_height : (closed : List (List Spot)) (line : List Spot) (group : Group) (gap height spacing : ℕ) → group.closed ≡ held (height_of closed) → group.last ≡ option_map ended_sum (last_or None closed)
+    → gap ≡ option_map_or (λ ended. unwrap_or ended.gap (average ended.spacing spacing)) group.last 0 → spacing ≡ line_spacing line → height ≡ line_height line → held (group.closed + (gap + height)) ≡ held (height_of (closed ++ line ∷ []))
+more_height closed line group gap height spacing c last g s h = search (rules, extent_push, gap_before, held_more)
 
 abbrev ended : Option ℕ → ℕ → Option Ended
 ended gap spacing = Some (record { gap = gap; spacing = spacing })
@@ -213,7 +224,7 @@ module _ (before : List Spot) (s : Spot) (given : Option ℕ) (info : FontInfo) 
   pub group_break : (group : Group) (line : Line) (gap height spacing : ℕ) → group ≡ group_sum before → line ≡ line_sum []
       → gap ≡ option_map_or (λ ended. unwrap_or ended.gap (average ended.spacing spacing)) group.last 0
       → height ≡ cond group.line.any group.line.height info.height → spacing ≡ cond group.line.any group.line.spacing info.line_spacing
-      → ◌≡◌ {A = Group} (record { ended = group.ended + 1; closed = group.closed + (gap + height); last = Some (record { gap = given; spacing = spacing }); line = line }) (group_sum (before ++ s ∷ []))
+      → ◌≡◌ {A = Group} (record { ended = counted (group.ended + 1); closed = held (group.closed + (gap + height)); last = Some (record { gap = given; spacing = spacing }); line = line }) (group_sum (before ++ s ∷ []))
   group_break group line gap height spacing e l g h n =
       let c = cut is_break before in
       let more = c.open' ++ s ∷ [] in
@@ -229,15 +240,14 @@ module _ (before : List Spot) (s : Spot) (given : Option ℕ) (info : FontInfo) 
       n ∙ ap (λ (g : Group). cond g.line.any g.line.spacing info.line_spacing) from
       ∙ ap (λ (f : FontInfo). cond (list_any is_glyph c.open') (line_spacing c.open') f.line_spacing) is.font
       ∙ sym (largest_break (λ t. t.at.font.line_spacing) c.open' s glyphs no_glyph) in
-      let grouped : group.closed + (gap + height) ≡ group.closed + gap + height = omega arith in
-      let total : group.closed + (gap + height) ≡ height_of (c.closed ++ more ∷ []) =
-      grouped ∙ more_height c.closed more group gap height spacing (ap (λ (g : Group). g.closed) from) (ap (λ (g : Group). g.last) from) g spaced high in
+      let total : held (group.closed + (gap + height)) ≡ held (height_of (c.closed ++ more ∷ [])) =
+      more_height c.closed more group gap height spacing (ap (λ (g : Group). g.closed) from) (ap (λ (g : Group). g.last) from) g spaced high in
       let last : ended given spacing ≡ option_map ended_sum (last_or None (c.closed ++ more ∷ [])) =
       ap (ended given) spaced
       ∙ ap (λ o. ended o (line_spacing more)) (sym (gap_of_break c.open' s given glyphs is.put))
       ∙ ap (option_map ended_sum) (sym (last_or_push None c.closed more)) in
-      let counted : group.ended + 1 ≡ length (c.closed ++ more ∷ []) = omega (arith, ap (λ (g : Group). g.ended) from, length-append c.closed (more ∷ [])) in
-      same_group (group.ended + 1) (length (c.closed ++ more ∷ [])) (group.closed + (gap + height)) (height_of (c.closed ++ more ∷ [])) (ended given spacing) (option_map ended_sum (last_or None (c.closed ++ more ∷ []))) line (line_sum []) counted total last l
+      let ended_is : counted (group.ended + 1) ≡ counted (length (c.closed ++ more ∷ [])) = omega (arith, ap (λ (g : Group). g.ended) from, length-append c.closed (more ∷ [])) in
+      same_group (counted (group.ended + 1)) (counted (length (c.closed ++ more ∷ []))) (held (group.closed + (gap + height))) (held (height_of (c.closed ++ more ∷ []))) (ended given spacing) (option_map ended_sum (last_or None (c.closed ++ more ∷ []))) line (line_sum []) ended_is total last l
       ∙ sym (sums_push before s true is_nl)
 
 -- THE HEIGHT OF A GROUP
@@ -255,20 +265,20 @@ module _ (group : List Spot) (placing : All IsPlacing group) (sums : Group) (e :
   any_is b h = ap (λ (g : Group). g.line.any) (sym (e ∙ sums_are group)) ∙ h
 
   -- where no character stands on the present line, the ended lines are all
-  pub height_ended : sums.line.any ≡ false → sums.closed ≡ height_of (lines_of group)
+  pub height_ended : sums.line.any ≡ false → sums.closed ≡ held (height_of (lines_of group))
   height_ended h =
       let c = cut is_break group in
       ap (λ (g : Group). g.closed) (e ∙ sums_are group)
-      ∙ ap height_of (sym (append-nil c.closed) ∙ ap (λ l. c.closed ++ l) (sym (part_none c.open' (open_glyphs group placing) (any_is false h))) ∙ sym (cut_behind_is is_break group))
+      ∙ ap (λ l. held (height_of l)) (sym (append-nil c.closed) ∙ ap (λ l. c.closed ++ l) (sym (part_none c.open' (open_glyphs group placing) (any_is false h))) ∙ sym (cut_behind_is is_break group))
 
   -- else the present line is one more
   pub height_present : sums.line.any ≡ true → (gap height : ℕ) → gap ≡ option_map_or (λ ended. unwrap_or ended.gap (average ended.spacing sums.line.spacing)) sums.last 0 → height ≡ sums.line.height
-      → sums.closed + gap + height ≡ height_of (lines_of group)
+      → held (sums.closed + (gap + height)) ≡ held (height_of (lines_of group))
   height_present h gap height g n =
       let c = cut is_break group in
       let from : sums ≡ cut_sums c = e ∙ sums_are group in
       more_height c.closed c.open' sums gap height sums.line.spacing (ap (λ (g : Group). g.closed) from) (ap (λ (g : Group). g.last) from) g (ap (λ (g : Group). g.line.spacing) from) (n ∙ ap (λ (g : Group). g.line.height) from)
-      ∙ ap height_of (ap (λ l. c.closed ++ l) (sym (part_some c.open' (any_is true h))) ∙ sym (cut_behind_is is_break group))
+      ∙ ap (λ l. held (height_of l)) (ap (λ l. c.closed ++ l) (sym (part_some c.open' (any_is true h))) ∙ sym (cut_behind_is is_break group))
 
 -- characters, a character and characters are characters
 pub all_glyphs : (before : List Spot) (x : Spot) (behind : List Spot) → AllPass is_glyph before → is_glyph x ≡ true → AllPass is_glyph behind → AllPass is_glyph (before ++ x ∷ behind)

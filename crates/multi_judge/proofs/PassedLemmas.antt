@@ -1,15 +1,15 @@
 -- One more item is passed: the group that it joins, and the line that it ends.
-use Rattle.multi_judge.proofs.Common.{order_of, eq-eqb, or_parts, lt-ltb, line_number_known, nat_lt, line_number, ◌||◌, ◌&&◌, LineJust, width_in, rules, ◌≡◌, ℕ, ◌+◌, ◌*◌, ◌≤◌, ◌<◌, ◌==◌, Bool, true, false, cond, List, [], ◌∷◌, ◌++◌, length, Option, Some, None, Result, Ok, Err, refl, sym, ap, subst, ◌∙◌, arith, inl, inr, cases_lt, after_last, list_any, le-leb, false≢true, page_number, page_number_known, Off, Words, SignData, cell_in, Spot, clashes, is_break, in_group, filled, laid_items, Tag, Does, Meaning, Shows, begins_area, has_place, offence, unsized_offence, area_fits_always, begins_line, LineFill, SyntaxError, JudgesTag, offends_as_laid, laid_plain, laid_tag, unsized_if, present_area, ended_lines, Area, Attributes, Character, Group, Line, Order, Pass, Split, State, ReachesGroup, character_of, EndsLine, FillsGroup, IsSplitBelow, order_sum, split_sum, IsFilledFor, IsPassOf, fill_of, IsCellPut, IsItemJudged, IsItemPassed, next_group, IsLimited, IsMost, IsStateOf, IsBelow, IsGroupBelow, area_sum, group_sum, area_of, is_glyph, conflicts, AddsCharacter, PutsCell, not}
+use Rattle.multi_judge.proofs.Common.{order_of, eq-eqb, or_parts, lt-ltb, line_number_known, nat_lt, line_number, ◌||◌, ◌&&◌, LineJust, width_in, ◌≡◌, ℕ, ◌≤◌, ◌<◌, ◌==◌, Bool, true, false, cond, List, [], ◌∷◌, ◌++◌, Option, Some, None, Result, Ok, Err, refl, sym, ap, subst, ◌∙◌, arith, inl, inr, cases_lt, after_last, list_any, le-leb, false≢true, page_number, page_number_known, Off, Words, SignData, cell_in, Spot, clashes, is_break, in_group, filled, laid_items, Tag, Does, Meaning, Shows, begins_area, has_place, offence, unsized_offence, area_fits_always, begins_line, LineFill, SyntaxError, JudgesTag, offends_as_laid, laid_plain, laid_tag, unsized_if, present_area, ended_lines, Area, Attributes, Character, Group, Line, Order, Pass, Split, State, ReachesGroup, character_of, EndsLine, FillsGroup, order_sum, split_sum, IsFilledFor, IsPassOf, fill_of, IsCellPut, IsItemJudged, IsItemPassed, next_group, IsLimited, IsMost, IsStateOf, area_sum, group_sum, area_of, is_glyph, conflicts, AddsCharacter, PutsCell, not}
 use Rattle.multi_meaning.specs.Codes.{code_of}
 use Rattle.multi_judge.specs.KnownItem.{ends_line}
-use Rattle.multi_judge.proofs.Sums.{area_filled, line_clashes, nothing_yet, reached_below, reached_group, reached_line, regrouped_below}
+use Rattle.multi_judge.proofs.Sums.{area_filled, line_clashes, nothing_yet, reached_group, reached_line}
 use Rattle.multi_judge.proofs.LimitLemmas.{character_judged}
 use Rattle.multi_judge.proofs.PlacingLemmas as steps
 use Rattle.multi_judge.proofs.PlacingLemmas.{plain_passed}
 use Rattle.multi_judge.proofs.FilledJudgedLemmas.{FillsArea, IsTagJudged, filled_free, judged-begins, judged-stays}
 use Rattle.multi_judge.proofs.FilledStateLemmas.{order_more}
 use Rattle.multi_judge.proofs.RunReadLemmas.{cell_of_width}
-use Rattle.multi_judge.proofs.ReadLemmas.{filled_put, judged_unfilled, laid_count}
+use Rattle.multi_judge.proofs.ReadLemmas.{filled_put, judged_unfilled}
 
 -- the state is that of the items as they are laid out
 pub state_of : (words : Bool) (sign : SignData) (kept : Pass) (items : List Meaning) → IsPassOf words sign kept items → IsStateOf sign (laid_items (fill_of words) sign items items) kept.state
@@ -154,16 +154,7 @@ module _ (kept : Pass) (reached : Bool) (area : Area) (height : ℕ) (r : Reache
   abbrev at : Attributes
   at = kept.state.attributes
 
-  -- the sums before it are small
-  pub split_small : (k : ℕ) → IsSplitBelow k kept.split → IsSplitBelow k split
-  split_small k small = first_of (search (rules, cases_lt), grind (arith, cases_lt))
-
-  module _ (group : Group) (split' : Option Split) (grows : (k : ℕ) → IsGroupBelow k area.group → IsSplitBelow k split → IsGroupBelow (k + 1024) group × IsSplitBelow (k + 1024) split') where
-    -- and so are those behind it
-    pub cell_below : (k : ℕ) → IsBelow k kept.state.area → IsSplitBelow k kept.split → IsBelow (k + 1024) (record area { group = group }) × IsSplitBelow (k + 1024) split'
-    cell_below k below small =
-        (regrouped_below r (page_number_known at.page_just) k below group (λ g. (grows k g (split_small k small)).0), (grows k (reached_below r (page_number_known at.page_just) k below).2 (split_small k small)).1)
-
+  module _ (group : Group) (split' : Option Split) where
     module _ (sign : SignData) (items : List Meaning) (is : IsFilledFor sign kept items) (number width : ℕ) (own : width_in sign at.font.number number ≡ Some width)
         (page n : ℕ) (page_is : page ≡ page_number at.page_just) (n_is : n ≡ line_number at.line_just) (free : (nat_lt page kept.state.area.present || ((page == kept.state.area.present) && (nat_lt n kept.order || ((n == 5) && (order_of kept.order).has_parts)))) ≡ false)
         (most : ℕ) (room : IsMost at.rectangle.width area.group.line kept.state.limits.width → IsMost at.rectangle.width group.line most) (ended : Option Line) (character : Character) (is_character : character ≡ character_of at width)
@@ -176,21 +167,20 @@ module _ (kept : Pass) (reached : Bool) (area : Area) (height : ℕ) (r : Reache
       line_room = reached_line r (page_number_known at.page_just) at.rectangle.width kept.state.limits.width is.of.limited.width
 
       area_fills : FillsArea (page_number at.page_just) at.rectangle.width kept.state.area kept.split (character_of at width) (number == 32) (record area { group = group }) split' ended
-      area_fills old more cells s placing placing' e order on own space fits apart o =
+      area_fills old more cells s small placing placing' e order on own space fits apart o =
           let page = page_number at.page_just in
           let turned = (r.goes (r.order ∙ le-leb kept.state.area.present page order)).sum old placing e in
           let open' : split ≡ split_sum (after_last is_break (filled (Some at.rectangle.width) cells)) = elim (cases_lt kept.state.area.present page) [
             | inl later ↦ parts.0 later ∙ nothing_yet old cells page at.rectangle.width on.before kept.state.area e later
             | inr goes ↦ parts.1 goes ∙ o (omega (arith, order, goes))
           ] in
-          let (grown, parts', ended', before) = subst (λ (k : Character). FillsGroup at.rectangle.width area.group split k (number == 32) group split' ended) is_character (fills line_room) cells s placing' own space fits apart (ap (λ (a : Area). a.group) turned ∙ ap group_sum on.before) open' in
+          let (grown, parts', ended', before) = subst (λ (k : Character). FillsGroup at.rectangle.width area.group split k (number == 32) group split' ended) is_character (fills line_room) cells s small placing' own space fits apart (ap (λ (a : Area). a.group) turned ∙ ap group_sum on.before) open' in
           (area_filled old more cells s page at.rectangle.width on area _ turned refl refl refl grown, parts', ended', before)
 
       pub cell_put : IsCellPut true sign items number kept (Ok ended) new
       cell_put =
           let (c, some, wide) = cell_of_width (cell_in sign at.font.number number) width (sym own) in
-          let (below, small) = cell_below (1024 * length items) (subst (λ n. IsBelow (1024 * n) kept.state.area) (laid_count sign items) is.of.state_is.below) is.of.split_below in
           filled_put sign items kept is number c some (filled_free sign items kept is.of number c some _ (clash_by (order_of kept.order) at.line_just n n_is) (rw page_is at free)) (page == kept.state.area.present) (ap (λ n. n == kept.state.area.present) page_is)
           (character_of at width) refl refl wide refl (record area { group = group }) split' ended (λ cell found. area_fills)
           new.state.limits (record { width = room line_room; height = λ some. reached_group r (page_number_known at.page_just) is.of.limited.height })
-          new.order (order_with kept.order at.line_just n (page == kept.state.area.present) n_is) below small
+          new.order (order_with kept.order at.line_just n (page == kept.state.area.present) n_is)

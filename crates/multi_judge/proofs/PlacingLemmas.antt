@@ -1,5 +1,5 @@
 -- What a placing item makes of the state, from what the sums of the present area answer.
-use Rattle.multi_judge.proofs.Common.{◌≡◌, ℕ, ◌+◌, ◌*◌, ◌≤◌, inl, inr, Bool, true, false, cond, not, List, [], ◌∷◌, ◌++◌, length, Option, Some, None, refl, sym, ap, ◌∙◌, arith, append-nil, rules, subst, All, after_last, list_any, option_map, unwrap_or, false≢true, none_more, NewLine, NewPage, Back, Rect, page_number, Off, too_big, SizedCell, CellData, SignData, cell_in, cell_numbered, Break, Glyph, Spot, area_of, in_group, is_break, is_glyph, spots, standing, Cover, Meaning, Shows, Does, clashes, conflicts, never_big, offence, offence_by, unsized_offence, present_area, IsPlacing, ended_lines, area_placing, in_group_other, own_group, ended_break, ended_glyph, offence-break, offence-character, offence-undefined, present_area-placing, no_conflict, present_area-nothing, present_area-cover, Tag, unsized_if, Area, Attributes, Character, State, IsStateOf, IsLimited, IsUnfilledOf, IsBelow, IsBreak, IsCharacter, area_sum, line_sum, Line, EndsLine, Pass, cases_Option, Put, has_place, begins_area, laid_plain, IsItemPassed}
+use Rattle.multi_judge.proofs.Common.{◌≡◌, ℕ, ◌≤◌, inl, inr, Bool, true, false, cond, not, List, [], ◌∷◌, ◌++◌, Option, Some, None, refl, sym, ap, ◌∙◌, arith, append-nil, rules, subst, All, after_last, list_any, option_map, unwrap_or, false≢true, none_more, NewLine, NewPage, Back, Rect, page_number, Off, too_big, SizedCell, CellData, SignData, cell_in, cell_numbered, Break, Glyph, Spot, area_of, in_group, is_break, is_glyph, spots, standing, Cover, Meaning, Shows, Does, clashes, conflicts, never_big, offence, offence_by, unsized_offence, present_area, IsPlacing, ended_lines, area_placing, in_group_other, own_group, ended_break, ended_glyph, offence-break, offence-character, offence-undefined, present_area-placing, no_conflict, present_area-nothing, present_area-cover, Tag, unsized_if, Area, Attributes, Character, State, IsStateOf, IsLimited, IsUnfilledOf, IsBreak, IsCharacter, area_sum, line_sum, Line, EndsLine, Pass, cases_Option, Put, has_place, begins_area, laid_plain, IsItemPassed}
 use Rattle.multi_judge.proofs.Sums.{no_back, no_clash, present_behind, cell_found, state-same_page}
 use Rattle.multi_judge.specs.KnownItem.{ends_line}
 
@@ -74,12 +74,12 @@ module _ (sign : SignData) (items : List Meaning) (state : State) (st : IsStateO
   placed_order p apart =
       no_back (spots sign items) (spot_of sign items p) (page_number state.attributes.page_just) state.area.present (ap page_number page_here) (ap (λ (a : Area). a.present) st.area) apart
 
-  pub state-placed : (p : Placed) → IsFound sign items p → (area : Area) → area ≡ area_sum (present_area sign items ++ spot_of sign items p ∷ []) → IsBelow (1024 * length items + 1024) area
+  pub state-placed : (p : Placed) → IsFound sign items p → (area : Area) → area ≡ area_sum (present_area sign items ++ spot_of sign items p ∷ [])
       → IsStateOf sign (items ++ item_of p ∷ []) (record state { area = area })
-  state-placed (shown number cell) found area sum below =
-      state-same_page sign items state (record state { area = area }) (Shows number) st refl refl refl st.attributes (sum ∙ ap area_sum (sym (placed_area sign items (shown number cell) found))) st.font below
-  state-placed (line_end gap) found area sum below =
-      state-same_page sign items state (record state { area = area }) (Does (NewLine gap)) st refl refl refl st.attributes (sum ∙ ap area_sum (sym (placed_area sign items (line_end gap) found))) st.font below
+  state-placed (shown number cell) found area sum =
+      state-same_page sign items state (record state { area = area }) (Shows number) st refl refl refl st.attributes (sum ∙ ap area_sum (sym (placed_area sign items (shown number cell) found))) st.font st.small
+  state-placed (line_end gap) found area sum =
+      state-same_page sign items state (record state { area = area }) (Does (NewLine gap)) st refl refl refl st.attributes (sum ∙ ap area_sum (sym (placed_area sign items (line_end gap) found))) st.font st.small
 
   -- a character that doesn't conflict, whose sums are these with it
   pub character-grown : (number : ℕ) (c : SizedCell) (cell : CellData) → c.width ≡ cell.width → conflicts (spots sign items) (spot_of sign items (shown number cell)) ≡ false
@@ -105,10 +105,10 @@ module _ (sign : SignData) (items : List Meaning) (state : State) (st : IsStateO
       → (area : Area)
       → ((xs : List Spot) (s : Spot) → All IsPlacing xs → state.area ≡ area_sum xs → IsCharacter s character → s.at.page_just ≡ state.attributes.page_just → state.area.present ≤ page_number state.attributes.page_just
       → list_any (clashes s) (after_last is_break (in_group (page_number state.attributes.page_just) xs)) ≡ false → area ≡ area_sum (xs ++ s ∷ []))
-      → IsBelow (1024 * length items + 1024) area → unsized_offence sign items (Shows number) ≡ None → IsStateOf sign (items ++ Shows number ∷ []) (record state { area = area })
-  character-accepted number c some character just spacing wide font area sum below fine =
+      → unsized_offence sign items (Shows number) ≡ None → IsStateOf sign (items ++ Shows number ∷ []) (record state { area = area })
+  character-accepted number c some character just spacing wide font area sum fine =
       let (cell, found, width) = cell_found sign items state st number c some in
-      state-placed (shown number cell) found area (character-grown number c cell width (placed_free sign items (shown number cell) found fine) character just spacing wide font area sum) below
+      state-placed (shown number cell) found area (character-grown number c cell width (placed_free sign items (shown number cell) found fine) character just spacing wide font area sum)
 
   -- it doesn't conflict then
   pub character-free : (number : ℕ) (c : SizedCell) → cell_in sign state.attributes.font.number number ≡ Some c → (r : Bool)
@@ -129,8 +129,8 @@ module _ (sign : SignData) (items : List Meaning) (state : State) (st : IsStateO
   -- an `nl` that doesn't offend
   pub break-accepted : (gap : Option ℕ) (area : Area)
       → ((xs : List Spot) (s : Spot) → All IsPlacing xs → state.area ≡ area_sum xs → IsBreak s gap state.attributes.font → s.at.page_just ≡ state.attributes.page_just → state.area.present ≤ page_number state.attributes.page_just → area ≡ area_sum (xs ++ s ∷ []))
-      → IsBelow (1024 * length items + 1024) area → unsized_offence sign items (Does (NewLine gap)) ≡ None → IsStateOf sign (items ++ Does (NewLine gap) ∷ []) (record state { area = area })
-  break-accepted gap area sum below fine = state-placed (line_end gap) tt area (break-grown gap (placed_free sign items (line_end gap) tt fine) area sum) below
+      → unsized_offence sign items (Does (NewLine gap)) ≡ None → IsStateOf sign (items ++ Does (NewLine gap) ∷ []) (record state { area = area })
+  break-accepted gap area sum fine = state-placed (line_end gap) tt area (break-grown gap (placed_free sign items (line_end gap) tt fine) area sum)
 
   -- it doesn't conflict then
   pub break-free : (gap : Option ℕ) (r : Bool)

@@ -1,7 +1,7 @@
 -- What is kept behind one more character, where lines are filled.
-use Rattle.multi_judge.proofs.Common.{order_of, ◌≡◌, ℕ, ◌+◌, ◌*◌, ◌≤◌, Bool, true, false, ◌==◌, inl, inr, List, [], ◌∷◌, ◌++◌, length, Option, Some, None, refl, sym, ap, subst, ◌∙◌, arith, append-nil, rules, ◌^◌, ◌<◌, drop, map, slice_get, append_assoc, Result, Ok, Err, not, after_last, list_any, All, and_parts, cases_eq, eq-eqb, eqb-true, false≢true, cases_lt, ne_eqb, length-append, length-drop, All-push, All-nil, sum_by-append, page_number, LineFill, Words, Off, SizedCell, SignData, CellData, cell_in, cell_numbered, Spot, Standing, group_of, in_group, is_break, spots, standing, filled, area_fits, line_fits, laid_item, laid_items, Meaning, Shows, meaning, clashes, conflicts, first_code, offence, unsized_offence, present_area, in_group_other, own_group, are_laid, standing_push, present_area-placing, each_after_length, none_more, Token, IsTokenOf, cycle, ended_times, pages_of, SyntaxError, some_after, Area, Attributes, Split, Pass, Character, Order, Limits, Line, IsFilledFor, IsFilledOf, IsFilledReady, EndsLine, IsSplitBelow, order_sum, split_sum, IsLimited, IsReady, IsStateOf, IsUnfilledOf, attributes_of, IsJudged, IsBelow, IsCharacter, area_sum, State, ReadSoFar, IsCellPut, IsPassOf, drop_all, map-append, slice_get-get_or, spaces_is, Item, IsItem, spelling, spell, HasNoItem, IsReading, item_of, Accepted, IsCycle, IsVerdict, Refused, broken, of_first, item_refused, length-meanings, offences_push, one_verdict, IsPassReady, fill_of}
-use Rattle.multi_judge.proofs.Sums.{both_fit, group_behind, no_back, no_clash, present_push, shown_free, ready, split_more, judged-undefined}
-use Rattle.multi_judge.proofs.Common.{line_in_force, placing_group, line_sum, IsReady, Order, IfSome}
+use Rattle.multi_judge.proofs.Common.{order_of, ◌≡◌, ℕ, ◌+◌, ◌≤◌, Bool, true, false, ◌==◌, inl, inr, List, [], ◌∷◌, ◌++◌, length, Option, Some, None, refl, sym, ap, subst, ◌∙◌, arith, append-nil, rules, ◌<◌, drop, map, slice_get, append_assoc, Result, Ok, Err, not, after_last, list_any, All, and_parts, cases_eq, eq-eqb, eqb-true, false≢true, cases_lt, ne_eqb, length-append, length-drop, All-push, All-nil, sum_by-append, page_number, LineFill, Words, Off, SizedCell, SignData, CellData, cell_in, cell_numbered, Spot, Standing, group_of, in_group, is_break, spots, standing, filled, area_fits, line_fits, laid_items, Meaning, Shows, meaning, clashes, conflicts, first_code, offence, unsized_offence, present_area, in_group_other, own_group, are_laid, standing_push, present_area-placing, none_more, Token, IsTokenOf, cycle, ended_times, pages_of, SyntaxError, some_after, Area, Attributes, Split, Pass, Character, Order, Limits, Line, IsFilledFor, IsFilledOf, IsFilledReady, EndsLine, order_sum, split_sum, IsLimited, IsStateOf, IsUnfilledOf, attributes_of, IsJudged, IsCharacter, area_sum, State, ReadSoFar, IsCellPut, IsPassOf, drop_all, map-append, slice_get-get_or, spaces_is, Item, IsItem, spelling, spell, HasNoItem, IsReading, item_of, Accepted, IsCycle, IsVerdict, Refused, broken, of_first, item_refused, offences_push, one_verdict, IsPassReady, fill_of}
+use Rattle.multi_judge.proofs.Sums.{both_fit, group_behind, no_back, no_clash, present_push, shown_free, ready, judged-undefined}
+use Rattle.multi_judge.proofs.Common.{line_in_force, placing_group, line_sum, Order, IfSome}
 use Rattle.multi_judge.specs.FilledState.{IsOrderedBy}
 use Rattle.std.proofs.lemmas.List.Concat.{flat_map-append}
 use Rattle.multi_token.proofs.ReadingLemmas.{none_found, spelling_some}
@@ -16,10 +16,6 @@ none_of_both : (a b : Bool) → first_code ((a, 11) ∷ (b, 5) ∷ []) ≡ None 
 none_of_both true b e = cc
 none_of_both false true e = cc
 none_of_both false false e = (refl, refl)
-
--- as many items are laid out as there are
-pub laid_count : (sign : SignData) (items : List Meaning) → length (laid_items Words sign items items) ≡ length items
-laid_count sign items = each_after_length (laid_item Words sign items) items
 
 module _ (sign : SignData) (items : List Meaning) (number : ℕ) (cell : CellData) (found : cell_numbered (standing sign items).font number ≡ Some cell) where
   abbrev s : Spot
@@ -68,18 +64,15 @@ module _ (sign : SignData) (items : List Meaning) (number : ℕ) (cell : CellDat
     pub kept_with : (area' : Area) (limits' : Limits) (split' : Option Split) (order' : ℕ) → area' ≡ area_sum (area_with sign items number cell found)
         → split' ≡ split_sum (after_last is_break (filled (Some s.at.rectangle.width) (group_of s (spots sign items) ++ s ∷ [])))
         → order_of order' ≡ order_sum (after_last is_break (in_group (page_number s.at.page_just) (present_area sign more)))
-        → IsBelow (1024 * length items + 1024) area' → IsSplitBelow (1024 * length items + 1024) split'
         → line_fits s.at.rectangle.width (after_last is_break (filled (Some s.at.rectangle.width) (group_of s (spots sign items) ++ s ∷ []))) ≡ true
         → area_fits s.at.rectangle.height (area_with sign items number cell found) ≡ true → IsLimited (record kept.state { area = area'; limits = limits' })
         → IsFilledOf sign more (record { state = record kept.state { area = area'; limits = limits' }; split = split'; order = order' })
-    kept_with area' limits' split' order' area split order below split_below fits high limited =
+    kept_with area' limits' split' order' area split order fits high limited =
         let present : area'.present ≡ page_number s.at.page_just = ap (λ (a : Area). a.present) area ∙ (goes_behind sign items number cell found apart).last in
-        let count : 1024 * length more ≡ 1024 * length items + 1024 = omega (arith, length-append items (Shows number ∷ [])) in
-        let laid : 1024 * length (laid_items Words sign more more) ≡ 1024 * length items + 1024 = ap (λ n. 1024 * n) (laid_count sign more) ∙ count in
         filled_of sign items more kept (record { state = record kept.state { area = area'; limits = limits' }; split = split'; order = order' }) of
-        (filled_state Words sign items number cell found kept.state area' limits' of.state_is area (subst (λ n. IsBelow n area') (sym laid) below)) limited
+        (filled_state Words sign items number cell found kept.state area' limits' of.state_is area) limited
         (ap (λ (t : Standing). area_fits t.rectangle.height (area_with sign items number cell found)) ((are_laid Words sign more more [] (sym (append-nil more))).0 ∙ standing_push sign items (Shows number)) ∙ high)
-        (subst (λ n. IsSplitBelow n split') (sym count) split_below) width_more (page_number s.at.page_just) present other (group_of s (spots sign items) ++ s ∷ []) own split
+        width_more (page_number s.at.page_just) present other (group_of s (spots sign items) ++ s ∷ []) own split
         (order ∙ ap (λ l. order_sum (after_last is_break l)) own) fits
 
 -- a character that doesn't offend isn't before the present group
@@ -102,8 +95,7 @@ module _ (sign : SignData) (items : List Meaning) (kept : Pass) (is : IsFilledFo
     (fills : (cell : CellData) (found : cell_numbered (standing sign items).font number ≡ Some cell) → Fills sign items kept is.of number c some character (number == 32) area' split' ended (page_number kept.state.attributes.page_just) kept.state.attributes.rectangle.width)
     (limits' : Limits) (limited : IsLimited (record kept.state { area = area'; limits = limits' }))
     (order' : ℕ) (sum : (line : List Spot) (s : Spot) → s.at.line_just ≡ character.just → list_any (clashes s) line ≡ false
-    → (goes_on ≡ true → order_of kept.order ≡ order_sum line) → (goes_on ≡ false → line ≡ []) → order_of order' ≡ order_sum (line ++ s ∷ []))
-    (below : IsBelow (1024 * length items + 1024) area') (split_below : IsSplitBelow (1024 * length items + 1024) split') where
+    → (goes_on ≡ true → order_of kept.order ≡ order_sum line) → (goes_on ≡ false → line ≡ []) → order_of order' ≡ order_sum (line ++ s ∷ [])) where
   pub filled_put : IsCellPut true sign items number kept (Ok ended) (record { state = record kept.state { area = area'; limits = limits' }; split = split'; order = order' })
   filled_put =
       let of = is.of in
@@ -119,7 +111,7 @@ module _ (sign : SignData) (items : List Meaning) (kept : Pass) (is : IsFilledFo
       let (area, split, line_ended, before) = filled_grown sign items kept of number c some cell found apart character is' (number == 32) space area' split' ended (fills cell found) in
       let on = goes_behind sign items number cell found apart in
       let new = area_with sign items number cell found in
-      let (told, size) = filled_size sign items kept of number c some cell found apart character is' (number == 32) space area' split' ended (fills cell found) limits' (1024 * length items + 1024) below limited in (
+      let (told, size) = filled_size sign items kept of number c some cell found apart character is' (number == 32) space area' split' ended (fills cell found) limits' limited in (
         ap (λ (setting : LineFill). offence setting sign items (Shows number)) is.words ∙ size,
         λ both.
             let (wide_fits, high_fits) = and_parts (line_fits w (after_last is_break (in_group (page_number s.at.page_just) new))) (area_fits s.at.rectangle.height new)
@@ -127,7 +119,7 @@ module _ (sign : SignData) (items : List Meaning) (kept : Pass) (is : IsFilledFo
             let line_fits' = ap (λ l. line_fits w (after_last is_break l)) (sym on.after) ∙ wide_fits in
             let order = order_with sign items number cell found kept of apart goes_on goes at character is' order' sum in
             record {
-              of = record { words = is.words; of = kept_with sign items number cell found kept of apart area' limits' split' order' area split order below split_below line_fits' high_fits limited };
+              of = record { words = is.words; of = kept_with sign items number cell found kept of apart area' limits' split' order' area split order line_fits' high_fits limited };
               present = ap (λ (a : Area). a.present) area ∙ on.last ∙ sym page;
               order = omega (arith, page, back sign items number cell found kept of apart);
               others = λ j other. on.others j (λ e. other (e ∙ sym page));
@@ -144,16 +136,12 @@ at_end octets at within none = elim (cases_lt at (length octets)) [
 ]
 
 pub nothing_read : (sign : SignData) (octets : List ℕ) (IsKept : List Meaning → Type 0) → IsKept [] → ReadSoFar sign octets 0 IsKept
-nothing_read sign octets IsKept is = record { items = []; each = All-nil IsItem; front = refl; place = refl; within = omega arith; none = refl; is = is; few = omega arith }
+nothing_read sign octets IsKept is = record { items = []; each = All-nil IsItem; front = refl; place = refl; within = omega arith; none = refl; is = is }
 
 spell_push : (items : List Item) (item : Item) → spell (items ++ item ∷ []) ≡ spell items ++ spelling item
 spell_push items item = flat_map-append spelling items (item ∷ []) ∙ ap (λ l. spell items ++ l) (append-nil (spelling item))
 
 module _ (sign : SignData) (octets : List ℕ) (at : ℕ) (IsKept : List Meaning → Type 0) (r : ReadSoFar sign octets at IsKept) where
-  -- the items are few
-  pub few_here : length octets < 2 ^ 32 → length (map meaning r.items) ≤ 2 ^ 32
-  few_here short = omega (arith, r.few, r.within, length-meanings r.items)
-
   module _ (t : Token) (here : t.at ≡ at) (stands : IsTokenOf octets t) where
     -- the string is the items so far, this one, and what stands behind it
     spelled : octets ≡ spell r.items ++ (spelling (item_of octets t) ++ drop (t.at + t.len) octets)
@@ -199,10 +187,6 @@ module _ (sign : SignData) (octets : List ℕ) (at : ℕ) (IsKept : List Meaning
 
 -- where lines aren't filled
 module _ (sign : SignData) (octets : List ℕ) (at : ℕ) (state : State) (r : ReadSoFar sign octets at (IsUnfilledOf sign state)) where
-  -- the state is small enough
-  pub ready_here : length octets < 2 ^ 32 → IsReady state
-  ready_here short = ready sign (map meaning r.items) state r.is.state_is (few_here sign octets at (IsUnfilledOf sign state) r short)
-
   module _ (t : Token) (here : t.at ≡ at) (stands : IsTokenOf octets t) where
     pub unfilled_more : (new : State) → offence Off sign (map meaning r.items) (meaning (item_of octets t)) ≡ None → IsStateOf sign (map meaning r.items ++ meaning (item_of octets t) ∷ []) new → IsLimited new
         → ReadSoFar sign octets (at + t.len) (IsUnfilledOf sign new)
@@ -212,19 +196,16 @@ module _ (sign : SignData) (octets : List ℕ) (at : ℕ) (state : State) (r : R
         (record { off = r.is.off; fine = none_more (offence Off sign) (map meaning r.items) (meaning (item_of octets t)) r.is.fine fine; state_is = st; limited = limited })
 
 module _ (sign : SignData) (items : List Meaning) (kept : Pass) (of : IsFilledOf sign items kept) where
-  -- what is kept of few items is small enough
-  pub filled_ready : length items ≤ 2 ^ 32 → IsFilledReady kept
-  filled_ready few =
+  -- what clashes with its lines clashes with its order
+  pub filled_ready : IsFilledReady kept
+  filled_ready =
       let present = kept.state.area.present in
       let line : line_in_force kept.state ≡ line_sum (after_last is_break (filled (Some (standing sign items).rectangle.width) (in_group present (present_area sign items)))) =
       ap (λ (a : Area). a.group.line) of.state_is.area ∙ ap (λ (a : Area). line_sum (after_last is_break (in_group a.present (present_area sign (laid_items Words sign items items))))) (sym of.state_is.area) ∙ ap (λ l. line_sum (after_last is_break l)) (group_laid sign items present) in
       let (own, behind) = open_ordered (standing sign items).rectangle.width (in_group present (present_area sign items)) (placing_group present (present_area sign items) (in_area_placing (standing sign items).area (spots sign items))) in
-      let small : IsReady kept.state = search (rules, laid_count, ready) in
-      let parts : IsSplitBelow (2 ^ 62) kept.split = search (rules, split_more) in
       let order = order_sum (after_last is_break (in_group present (present_area sign items))) in
       record {
-        state = small;
-        split = parts;
+        state = ready sign (laid_items Words sign items items) kept.state of.state_is;
         line = subst (λ (o : Order). IsOrderedBy o (line_in_force kept.state)) (sym of.order_is) (subst (IsOrderedBy order) (sym line) own);
         behind = subst (λ (o : Order). IfSome kept.split (λ s. IsOrderedBy o s.behind)) (sym of.order_is) (subst (λ o. IfSome o (λ s. IsOrderedBy order s.behind)) (sym of.split_is) behind);
       }
@@ -235,10 +216,6 @@ module _ (sign : SignData) (items : List Meaning) (kept : Pass) (of : IsFilledOf
 
   pub kept_times : kept.state.cycle ≡ cycle (ended_times sign items)
   kept_times = of.state_is.times ∙ ap cycle (same_times Words sign items items [] (sym (append-nil items)))
-
-module _ (sign : SignData) (octets : List ℕ) (at : ℕ) (kept : Pass) (r : ReadSoFar sign octets at (IsFilledFor sign kept)) where
-  pub filled_ready_here : length octets < 2 ^ 32 → IsFilledReady kept
-  filled_ready_here short = filled_ready sign (map meaning r.items) kept r.is.of (few_here sign octets at (IsFilledFor sign kept) r short)
 
 -- whether lines are filled, as a number that isn't 0
 pub is_true : (n : ℕ) → (n ≡ 0 → ⊥) → not (n == 0) ≡ true
@@ -270,11 +247,10 @@ pass_undefined sign items pass true is number none =
 pass_undefined sign items pass false is number none =
     subst (λ (setting : LineFill). offence setting sign items (Shows number) ≡ Some 7) (sym is.off) (judged-undefined sign items pass.state is.state_is number none)
 
-module _ (sign : SignData) (octets : List ℕ) (at : ℕ) (pass : Pass) where
-  -- what is kept of a string that was read so far is small enough
-  pub pass_ready_here : (words : Bool) → ReadSoFar sign octets at (IsPassOf words sign pass) → length octets < 2 ^ 32 → IsPassReady words pass
-  pass_ready_here true r short = filled_ready_here sign octets at pass r short
-  pass_ready_here false r short = ready_here sign octets at pass.state r short
+-- a pass over lines of either kind is ready
+pub pass_ready : (words : Bool) (sign : SignData) (pass : Pass) (items : List Meaning) → IsPassOf words sign pass items → IsPassReady words pass
+pass_ready true sign pass items is = filled_ready sign items pass is.of
+pass_ready false sign pass items is = ready sign items pass.state is.state_is
 
 -- where lines aren't filled the limits are known
 pub limited_of : (words : Bool) → words ≡ false → (sign : SignData) (pass : Pass) (items : List Meaning) → IsPassOf words sign pass items → IsLimited pass.state

@@ -1,15 +1,14 @@
 -- One more octet of a run, in the string that is read.
-use Rattle.multi_judge.proofs.Common.{order_of, ◌≡◌, ℕ, suc, ◌+◌, ◌^◌, ◌<◌, ◌≤◌, List, [], ◌∷◌, ◌++◌, length, map, drop, take, slice_get, Option, Some, None, refl, sym, ◌∙◌, arith, true, false, ◌&&◌, ◌||◌, ◌==◌, ap, ◌-◌, ◌*◌, Bool, cond, subst, rules, nat_le, nat_lt, All, after_last, AllPass, list_any, and_from, and_right, le-leb, le-ltb, eq-eqb, false≢true, option_map, unwrap_or, length-drop, All-head, All-tail, sum_by-append, line_number, page_number, Off, IsPlain, Token, IsTokenOf, SizedCell, SignData, cell_in, IsWithin, HasWidth, width_in, Spot, area_of, is_break, is_glyph, in_group, Meaning, Shows, meaning, conflicts, offence, clashes, some_after, none_mapped, filled, is_space, line_number_known, Area, Line, State, ReadSoFar, IsRun, is_within, kept_height, lengthened, line_in_force, lengthened_area, lengthened_line, IsStateOf, IsUnfilledOf, area_sum, line_sum, IsBelow, IsCharacter, IsLineBelow, area_sum_in, group_sum, AddsCharacter, character_of, order_sum, IsSplitBelow, split_sum, Attributes, Split, Pass, IsFilledRun, even_line, longer_line, with_run, with_run_behind, IsFilledFor, sum_by, length-take-le, take-append-drop, IsBehindOne, GoesOnBehind}
-use Rattle.multi_judge.proofs.Sums.{conflicts_kept, own_line, area_filled, group_of_own, some_mapped, part_below, no_character}
+use Rattle.multi_judge.proofs.Common.{counted, order_of, ◌≡◌, ℕ, suc, ◌+◌, ◌^◌, ◌<◌, ◌≤◌, List, [], ◌∷◌, ◌++◌, length, map, drop, take, slice_get, Option, Some, None, refl, sym, ◌∙◌, arith, true, false, ◌&&◌, ◌||◌, ◌==◌, ap, ◌-◌, Bool, cond, subst, rules, nat_le, nat_lt, All, after_last, AllPass, list_any, and_from, and_right, le-leb, le-ltb, eq-eqb, false≢true, option_map, unwrap_or, length-drop, All-head, All-tail, sum_by-append, line_number, page_number, Off, IsPlain, Token, IsTokenOf, SizedCell, SignData, cell_in, IsWithin, HasWidth, width_in, Spot, area_of, is_break, is_glyph, in_group, Meaning, Shows, meaning, conflicts, offence, clashes, some_after, none_mapped, filled, is_space, Area, Line, State, ReadSoFar, IsRun, is_within, kept_height, held, lengthened, lengthened_by, line_in_force, lengthened_area, present_area, IsStateOf, IsUnfilledOf, area_sum, line_sum, IsCharacter, area_sum_in, group_sum, AddsCharacter, character_of, order_sum, split_sum, Attributes, Split, Pass, IsFilledRun, even_line, longer_line, with_run, with_run_behind, IsFilledFor, sum_by, length-take-le, take-append-drop, IsBehindOne, GoesOnBehind}
+use Rattle.multi_judge.proofs.Sums.{conflicts_kept, own_line, area_filled, group_of_own, some_mapped, no_character}
 use Rattle.multi_token.proofs.PlaceLemmas.{drop_read, read_drop, single_token}
 use Rattle.multi_judge.proofs.LimitLemmas.{character_judged}
-use Rattle.multi_judge.proofs.ReadLemmas.{unfilled_more, filled_put, laid_count, read_more}
-use Rattle.multi_judge.proofs.RunLemmas.{area_beside, behind_stays, longer_below, run_stays, line_lengthened}
+use Rattle.multi_judge.proofs.ReadLemmas.{unfilled_more, filled_put, read_more}
+use Rattle.multi_judge.proofs.RunLemmas.{area_beside, behind_stays, run_stays, line_lengthened}
 use Rattle.multi_judge.proofs.FilledStateLemmas.{order_apart, order_stays}
 use Rattle.multi_judge.proofs.FillGroupLemmas.{Joins, present_glyphs, present_line, stands_there, split_none, split_space, split_word}
 use Rattle.multi_judge.proofs.FilledJudgedLemmas.{FillsArea, filled_free}
 use Rattle.multi_token.specs.declared.token.Kind.TheVariants as kinds
-use Rattle.multi_judge.proofs.JudgedLemmas as bounds
 
 -- a cell of which the width is known
 pub cell_of_width : (o : Option SizedCell) (width : ℕ) → Some width ≡ option_map (λ (c : SizedCell). c.width) o → (c : SizedCell) × (o ≡ Some c) × (width ≡ c.width)
@@ -24,7 +23,7 @@ module _ (sign : SignData) (items : List Meaning) (state : State) (st : IsStateO
     (number : ℕ) (cell : SizedCell) (found : cell_in sign state.attributes.font.number number ≡ Some cell) (small : cell.width ≤ 64)
     (none : some_after (offence Off sign) items ≡ []) where
   abbrev longer : State
-  longer = lengthened ((line_in_force state).part.width + (gap + cell.width)) ((line_in_force state).part.count + 1) state
+  longer = lengthened_by (gap + cell.width) 1 state
 
   -- it doesn't conflict
   agrees : (before : List Spot) (s : Spot) → state.area ≡ area_sum (area_of s before) → is_glyph s ≡ true → s.at.page_just ≡ state.attributes.page_just → s.at.line_just ≡ state.attributes.line_just
@@ -43,14 +42,14 @@ module _ (sign : SignData) (items : List Meaning) (state : State) (st : IsStateO
   -- it is added
   added : AddsCharacter state cell.width longer
   added =
-      grind (arith, area_beside state run.behind gap run.gap_is cell, behind_stays state ((line_in_force state).part.width + (gap + cell.width)) ((line_in_force state).part.count + 1) run.behind)
+      grind (arith, area_beside state run.behind gap run.gap_is cell, behind_stays state (held ((line_in_force state).part.width + (gap + cell.width))) (counted ((line_in_force state).part.count + 1)) run.behind)
 
   pub run_goes_on : (line_in_force state).part.width + (gap + cell.width) ≤ state.limits.width
       → (offence Off sign items (Shows number) ≡ None) × IsStateOf sign (items ++ Shows number ∷ []) longer
   run_goes_on fits =
       let within : is_within longer ≡ true =
-      and_from (nat_le ((line_in_force state).part.width + (gap + cell.width)) state.limits.width) (nat_le (kept_height state.area.group) state.limits.height)
-      (le-leb ((line_in_force state).part.width + (gap + cell.width)) state.limits.width fits) run.height in
+      and_from (nat_le (held ((line_in_force state).part.width + (gap + cell.width))) state.limits.width) (nat_le (kept_height state.area.group) state.limits.height)
+      (le-leb (held ((line_in_force state).part.width + (gap + cell.width))) state.limits.width (omega (arith, fits))) run.height in
       let (fine, behind) = character_judged sign items state st longer refl none run.limited number cell found cell.width refl added false agrees refl in
       (fine ∙ rw within refl, behind)
 
@@ -64,22 +63,40 @@ module _ (sign : SignData) (octets : List ℕ) (at : ℕ) (state : State) (r : R
 
   module _ (gap : ℕ) (run : IsRun state gap) (wide : ℕ) (width_is : Some wide ≡ option_map (λ (c : SizedCell). c.width) (cell_in sign state.attributes.font.number octet)) where
     pub octet_goes_on : wide ≤ 64 → (line_in_force state).part.width + (gap + wide) ≤ state.limits.width
-        → ReadSoFar sign octets (at + 1) (IsUnfilledOf sign (lengthened ((line_in_force state).part.width + (gap + wide)) ((line_in_force state).part.count + 1) state))
+        → ReadSoFar sign octets (at + 1) (IsUnfilledOf sign (lengthened_by (gap + wide) 1 state))
     octet_goes_on narrow fits =
         let (cell, found, is) = cell_of_width (cell_in sign state.attributes.font.number octet) wide width_is in
         let st = r.is.state_is in
         let behind = run_goes_on sign (map meaning r.items) state st gap run octet cell found (omega (arith, narrow, is)) r.is.fine (omega (arith, fits, is)) in
-        let longer = unfilled_more sign octets at state r token refl stands (lengthened ((line_in_force state).part.width + (gap + cell.width)) ((line_in_force state).part.count + 1) state) behind.0 behind.1
+        let longer = unfilled_more sign octets at state r token refl stands (lengthened_by (gap + cell.width) 1 state) behind.0 behind.1
         (record { width = r.is.limited.width; height = r.is.limited.height }) in
         rw is longer
 
+-- a state that was lengthened, once more
+pub lengthened_more : (state : State) (pixels count more : ℕ) → lengthened_by more 1 (lengthened_by pixels count state) ≡ lengthened_by (pixels + more) (count + 1) state
+lengthened_more state pixels count more =
+    let part = (line_in_force state).part in
+    let wide : held (held (part.width + pixels) + more) ≡ held (part.width + (pixels + more)) = omega arith in
+    let many : counted (counted (part.count + count) + 1) ≡ counted (part.count + (count + 1)) = omega arith in
+    λ i. lengthened (wide i) (many i) state
+
+-- by nothing
+pub lengthened_none : (spots : List Spot) (state : State) → state.area ≡ area_sum spots → lengthened_by 0 0 state ≡ state
+lengthened_none spots state e =
+    let part = (line_in_force state).part in
+    let wide : held (part.width + 0) ≡ part.width = omega (arith, ap (λ (a : Area). a.group.line.part.width) e) in
+    let many : counted (part.count + 0) ≡ part.count = omega (arith, ap (λ (a : Area). a.group.line.part.count) e) in
+    λ i. lengthened (wide i) (many i) state
+
 -- the same, where the run began in a state whose segment has been lengthened since
-module _ (sign : SignData) (octets : List ℕ) (at : ℕ) (state : State) (width count : ℕ) (r : ReadSoFar sign octets at (IsUnfilledOf sign (lengthened width count state))) where
+module _ (sign : SignData) (octets : List ℕ) (at : ℕ) (state : State) (pixels count : ℕ) (r : ReadSoFar sign octets at (IsUnfilledOf sign (lengthened_by pixels count state))) where
   module _ (octet : ℕ) (short : length octets < 2 ^ 63) (here : slice_get octets at ≡ Some octet) (plain : IsPlain octet)
       (gap : ℕ) (run : IsRun state gap) (wide : ℕ) (width_is : Some wide ≡ option_map (λ (c : SizedCell). c.width) (cell_in sign state.attributes.font.number octet)) where
-    pub more_goes_on : wide ≤ 64 → width + (gap + wide) ≤ state.limits.width → ReadSoFar sign octets (at + 1) (IsUnfilledOf sign (lengthened (width + (gap + wide)) (count + 1) state))
+    pub more_goes_on : wide ≤ 64 → (line_in_force state).part.width + pixels + (gap + wide) ≤ state.limits.width → ReadSoFar sign octets (at + 1) (IsUnfilledOf sign (lengthened_by (pixels + (gap + wide)) (count + 1) state))
     more_goes_on narrow fits =
-        octet_goes_on sign octets at (lengthened width count state) r octet short here plain gap (run_stays state gap width count run) wide width_is narrow fits
+        let part = (line_in_force state).part in
+        subst (λ s. ReadSoFar sign octets (at + 1) (IsUnfilledOf sign s)) (lengthened_more state pixels count (gap + wide))
+        (octet_goes_on sign octets at (lengthened_by pixels count state) r octet short here plain gap (run_stays state gap (held (part.width + pixels)) (counted (part.count + count)) run) wide width_is narrow (omega (arith, fits)))
 
 pub behind_first : {x y : ℕ} {xs ys : List ℕ} → x ∷ xs ≡ y ∷ ys → xs ≡ ys
 behind_first e = cc
@@ -112,22 +129,25 @@ module _ (octets : List ℕ) (gap limit : ℕ) (width_of : ℕ → Option ℕ) (
       rw (← to, ← wider, ← number) all
 
   -- so it does behind the front of what stands there
-  pub front_taken : (at width count len pixels : ℕ) → P at width count → at + len ≤ length octets → All IsOne (take len (drop at octets)) → HasWidth width_of gap (take len (drop at octets)) pixels
-      → width + pixels ≤ limit → P (at + len) (width + pixels) (count + len)
-  front_taken at width count len pixels p within ones has narrow =
+  pub front_taken : (at len pixels : ℕ) → P at 0 0 → at + len ≤ length octets → All IsOne (take len (drop at octets)) → HasWidth width_of gap (take len (drop at octets)) pixels → pixels ≤ limit → P (at + len) pixels len
+  front_taken at len pixels p within ones has narrow =
       let size = length-take-le len (drop at octets) (rw (length-drop at octets) (omega (arith, within))) in
-      let all = text_taken (take len (drop at octets)) (drop len (drop at octets)) has.widths at width count p (sym (take-append-drop len (drop at octets))) ones has.each has.within (omega (arith, narrow, has.together)) in
-      grind (arith, size, all)
+      let all = text_taken (take len (drop at octets)) (drop len (drop at octets)) has.widths at 0 0 p (sym (take-append-drop len (drop at octets))) ones has.each has.within (omega (arith, narrow, has.together)) in
+      let wide : 0 + sum_by (λ w. gap + w) has.widths ≡ pixels = omega (arith, has.together) in
+      let many : 0 + length (take len (drop at octets)) ≡ len = omega (arith, size) in
+      subst (λ (x : ℕ × ℕ × ℕ). P x.0 x.1 x.2) (λ i. (at + size i, wide i, many i)) all
 
 -- the front of what stands behind a character with the same attributes
 module _ (sign : SignData) (octets : List ℕ) (at : ℕ) (state : State) (r : ReadSoFar sign octets at (IsUnfilledOf sign state)) (short : length octets < 2 ^ 63) (gap : ℕ) (run : IsRun state gap) where
   pub front_read : (len pixels : ℕ) → at + len ≤ length octets → All IsPlain (take len (drop at octets)) → HasWidth (width_in sign state.attributes.font.number) gap (take len (drop at octets)) pixels
       → (line_in_force state).part.width + pixels ≤ state.limits.width
-      → ReadSoFar sign octets (at + len) (IsUnfilledOf sign (lengthened ((line_in_force state).part.width + pixels) ((line_in_force state).part.count + len) state))
+      → ReadSoFar sign octets (at + len) (IsUnfilledOf sign (lengthened_by pixels len state))
   front_read len pixels within plain has narrow =
-      front_taken octets gap state.limits.width (width_in sign state.attributes.font.number) IsPlain (λ at width count. ReadSoFar sign octets at (IsUnfilledOf sign (lengthened width count state)))
-      (λ at width count octet wide r here plain is within fits. more_goes_on sign octets at state width count r octet short here plain gap run wide is within.1 fits)
-      at (line_in_force state).part.width (line_in_force state).part.count len pixels r within plain has narrow
+      let part = (line_in_force state).part in
+      let start = subst (λ s. ReadSoFar sign octets at (IsUnfilledOf sign s)) (sym (lengthened_none (present_area sign (map meaning r.items)) state r.is.state_is.area)) r in
+      front_taken octets gap (state.limits.width - part.width) (width_in sign state.attributes.font.number) IsPlain (λ at pixels count. ReadSoFar sign octets at (IsUnfilledOf sign (lengthened_by pixels count state)))
+      (λ at pixels count octet wide r here plain is within fits. more_goes_on sign octets at state pixels count r octet short here plain gap run wide is within.1 (omega (arith, fits, within.0)))
+      at len pixels start within plain has (omega (arith, narrow))
 
 -- a line of characters is lengthened
 pub run_some : (here : Attributes) (gap pixels count : ℕ) (line : Line) → line.any ≡ true → with_run here gap pixels count line ≡ longer_line pixels count line
@@ -179,22 +199,10 @@ module _ (here : Attributes) (gap width : ℕ) (gap_is : gap ≡ unwrap_or here.
           (record { segment = one.segment; parts = one.parts; any = one.any; height = one.height; spacing = one.spacing; last = one.last })
       by_any false none = rw none (record { segment = refl; parts = refl; any = refl; height = omega arith; spacing = omega arith; last = refl })
 
-  -- its numbers grow by no more than the character's
-  pub split_grows : (k : ℕ) (space : Bool) (line : Line) (split : Option Split) → gap ≤ 255 → width ≤ 64 → IsLineBelow k line → IsSplitBelow k split → IsSplitBelow (k + 1024) (split_one here gap width space line split)
-  split_grows k true line split narrow small below b =
-      (bounds.line_more k (k + 1024) line (omega arith) below, record { left = omega arith; centre = omega arith; right = omega arith; part = record { width = omega arith; count = omega arith }; known = omega arith })
-  split_grows k false line None narrow small below b = tt
-  split_grows k false line (Some parts) narrow small below b = (bounds.line_more k (k + 1024) parts.before (omega arith) b.0, by_any parts.behind.any refl)
-    where
-      by_any : (a : Bool) → parts.behind.any ≡ a → IsLineBelow (k + 1024) (with_run here gap (gap + width) 1 parts.behind)
-      by_any true some = subst (IsLineBelow (k + 1024)) (sym (run_some here gap (gap + width) 1 parts.behind some))
-          (part_below k (parts.behind.part.width + (gap + width)) (parts.behind.part.count + 1) parts.behind b.1 (omega (arith, b.1.part.width, narrow, small)) (omega (arith, b.1.part.count)))
-      by_any false none = let l = b.1 in rw none (record { left = omega (arith, l.left); centre = omega (arith, l.centre); right = omega (arith, l.right); part = record { width = omega (arith, small); count = omega arith }; known = (line_number_known here.line_just).1 })
-
 -- what is kept with one more character of this width
 abbrev pub with_one : ℕ → ℕ → Bool → Pass → Pass
 with_one gap width space kept = record {
-  state = lengthened ((line_in_force kept.state).part.width + (gap + width)) ((line_in_force kept.state).part.count + 1) kept.state;
+  state = lengthened_by (gap + width) 1 kept.state;
   split = split_one kept.state.attributes gap width space (line_in_force kept.state) kept.split;
   order = kept.order;
 }
@@ -207,13 +215,13 @@ module _ (kept : Pass) (run : IsFilledRun kept) (gap : ℕ) (runs : IsRun kept.s
   line = line_in_force kept.state
 
   abbrev one_longer : Line
-  one_longer = lengthened_line (line.part.width + (gap + width)) (line.part.count + 1) line
+  one_longer = longer_line (gap + width) 1 line
 
   abbrev area' : Area
-  area' = lengthened_area (line.part.width + (gap + width)) (line.part.count + 1) kept.state.area
+  area' = lengthened_area (held (line.part.width + (gap + width))) (counted (line.part.count + 1)) kept.state.area
 
   still_fits : nat_le one_longer.part.width kept.state.limits.width ≡ true
-  still_fits = le-leb (line.part.width + (gap + width)) kept.state.limits.width fits
+  still_fits = le-leb (held (line.part.width + (gap + width))) kept.state.limits.width (omega (arith, fits))
 
   -- what is kept with it is that of a run
   pub one_goes_on : IsFilledRun (with_one gap width space kept)
@@ -221,11 +229,11 @@ module _ (kept : Pass) (run : IsFilledRun kept) (gap : ℕ) (runs : IsRun kept.s
 
   -- the group grows by it
   fills_one : FillsArea (page_number here.page_just) here.rectangle.width kept.state.area kept.split (character_of here width) space area' (split_one here gap width space line kept.split) None
-  fills_one old new group s placing placing' e order on is spaces fits' apart o =
+  fills_one old new group s small placing placing' e order on is spaces fits' apart o =
       let w = here.rectangle.width in
       let area = kept.state.area in
       let own : area.group ≡ group_sum (filled (Some w) group) = group_of_own old area e (page_number here.page_just) (sym run.behind.group) ∙ ap group_sum on.before in
-      let j : Joins w group s (character_of here width) area.group = record { placing = placing'; is = is; fits = fits'; apart = apart; sum = own } in
+      let j : Joins w group s (character_of here width) area.group = record { small = small; placing = placing'; is = is; fits = fits'; apart = apart; sum = own } in
       let glyphs = present_glyphs j in
       let one = run.behind.line in
       let open' = after_last is_break (filled (Some w) group) in
@@ -247,9 +255,8 @@ module _ (sign : SignData) (octets : List ℕ) (at : ℕ) (kept : Pass) (r : Rea
       let st = of.state_is in
       let attributes = kept.state.attributes in
       let line = line_in_force kept.state in
-      let below = subst (λ n. IsBelow (1024 * n) kept.state.area) (laid_count sign items) st.below in
-      let one_longer = lengthened_line (line.part.width + (gap + wide)) (line.part.count + 1) line in
-      let area : Area = lengthened_area (line.part.width + (gap + wide)) (line.part.count + 1) kept.state.area in
+      let one_longer = longer_line (gap + wide) 1 line in
+      let area : Area = lengthened_area (held (line.part.width + (gap + wide))) (counted (line.part.count + 1)) kept.state.area in
       let put = filled_put sign items kept r.is octet cell found
       (filled_free sign items kept of octet cell found false
       (λ line s e just. sym (order_apart line s (order_of kept.order) e (run.order.0 ∙ ap line_number (sym just)) (run.order.1 ∙ ap (λ j. nat_lt (line_number j) 5) (sym just))))
@@ -258,9 +265,7 @@ module _ (sign : SignData) (octets : List ℕ) (at : ℕ) (kept : Pass) (r : Rea
       (character_of attributes wide) refl refl is refl area (split_one attributes gap wide (octet == 32) line kept.split) None
       (λ cell found. fills_one kept run gap runs wide fits (octet == 32))
       kept.state.limits (record { width = of.limited.width; height = of.limited.height })
-      kept.order (λ line s just apart goes stays. order_stays line s (order_of kept.order) (goes refl) (run.order.0 ∙ ap line_number (sym just)) (run.order.1 ∙ ap (λ j. nat_lt (line_number j) 5) (sym just)))
-      (longer_below (1024 * length items) (line.part.width + (gap + wide)) (line.part.count + 1) kept.state.area below (omega (arith, below.group.line.part.width, runs.narrow, small)) (omega (arith, below.group.line.part.count)))
-      (split_grows attributes gap wide runs.gap_is (1024 * length items) (octet == 32) line kept.split runs.narrow small below.group.line of.split_below) in
+      kept.order (λ line s just apart goes stays. order_stays line s (order_of kept.order) (goes refl) (run.order.0 ∙ ap line_number (sym just)) (run.order.1 ∙ ap (λ j. nat_lt (line_number j) 5) (sym just))) in
       let fits' = and_from (nat_le one_longer.part.width kept.state.limits.width) (nat_le (kept_height area.group) kept.state.limits.height) (still_fits kept run gap runs wide fits (octet == 32)) runs.height in
       let token : Token = record { at = at; len = 1; kind = kinds.Char octet } in
       read_more sign octets at (IsFilledFor sign kept) r token refl (single_token octets at octet short here plain) (IsFilledFor sign (with_one gap wide (octet == 32) kept))

@@ -1,5 +1,5 @@
 -- One more character or end of a line, put into the present area.
-use Rattle.std.specs.Prelude.{◌≡◌, ℕ, ◌+◌, ◌<◌, ◌≤◌, Bool, true, false, nat_le, List, [], ◌∷◌, ◌++◌, Option}
+use Rattle.std.specs.Prelude.{◌≡◌, ℕ, ◌<◌, ◌≤◌, Bool, true, false, nat_le, List, [], ◌∷◌, ◌++◌, Option}
 use Rattle.std.specs.List.{All, AllPass, after_last, list_any}
 use Rattle.multi_tag.specs.Just.{page_number}
 use Rattle.multi_meaning.specs.Address.{Spot, in_group, is_break, is_glyph}
@@ -11,7 +11,7 @@ use Rattle.multi_judge.specs.declared.line.Line.{Line}
 use Rattle.multi_judge.specs.declared.state.State.{State}
 use Rattle.multi_judge.specs.Run.{IsBehindOne}
 use Rattle.multi_judge.specs.State.{IsLimited, group_room}
-use Rattle.multi_judge.specs.Sums.{Character, IsBelow, IsBreak, IsCharacter, IsGroupBelow, area_sum, area_sum_in, line_sum}
+use Rattle.multi_judge.specs.Sums.{Character, IsBreak, IsCharacter, area_sum, area_sum_in, line_sum}
 
 -- a line has the present segment of another, and the same segments before it (own)
 pub record IsSameBefore (old new : Line) : Type 0 where
@@ -26,10 +26,9 @@ pub record PutsCharacter (old : Line) (character : Character) (new : Line) : Typ
   pub behind : IsBehindOne character.just character.font new
 
 -- an area is the old one, and its present group is the one with this page justification, which isn't before; a group that begins has no
--- character, no number grows by more than 1,024, and a line without a character stays bare (own)
+-- character (own)
 pub record GoesOnTo (page_just : ℕ) (old new : Area) : Type 0 where
   pub sum : (area : List Spot) → All IsPlacing area → old ≡ area_sum area → new ≡ area_sum_in page_just area
-  pub grows : (k : ℕ) → IsBelow k old → (new.top ≤ k + 1024) × (new.middle ≤ k + 1024) × IsGroupBelow k new.group
   pub present : new.present ≡ page_just
   pub stays : page_just ≡ old.present → new ≡ old
   pub begins : old.present < page_just → new.group.line.any ≡ false
@@ -47,26 +46,24 @@ abbrev pub character_of : Attributes → ℕ → Character
 character_of here width = record { just = here.line_just; spacing = here.spacing; width = width; font = here.font }
 
 -- the new state is the old one with one more character of this width, which is then the last one, and its limits are known where they
--- were; no number grows by more than 1,024 (own)
+-- were (own)
 pub record AddsCharacter (old : State) (width : ℕ) (new : State) : Type 0 where
   pub sum : (area : List Spot) (s : Spot) → All IsPlacing area → old.area ≡ area_sum area
       → IsCharacter s (character_of old.attributes width)
       → s.at.page_just ≡ old.attributes.page_just → old.area.present ≤ page_number old.attributes.page_just
       → list_any (clashes s) (after_last is_break (in_group (page_number old.attributes.page_just) area)) ≡ false
       → new.area ≡ area_sum (area ++ s ∷ [])
-  pub grows : (k : ℕ) → IsBelow k old.area → IsBelow (k + 1024) new.area
   pub behind : (new.area.present ≡ page_number old.attributes.page_just)
       × IsBehindOne old.attributes.line_just old.attributes.font new.area.group.line
   pub same : new ≡ record old { area = new.area; limits = new.limits }
   pub limited : IsLimited old → IsLimited new
 
--- the new state is the old one with one more end of a line, which gave this gap, and its limits are known where they were; no number grows
--- by more than 1,024, the line in force has no character, and the group in force is the present one where none is behind it (own)
+-- the new state is the old one with one more end of a line, which gave this gap, and its limits are known where they were; the line in
+-- force has no character, and the group in force is the present one where none is behind it (own)
 pub record AddsBreak (old : State) (gap : Option ℕ) (new : State) : Type 0 where
   pub sum : (area : List Spot) (s : Spot) → All IsPlacing area → old.area ≡ area_sum area → IsBreak s gap old.attributes.font
       → s.at.page_just ≡ old.attributes.page_just → old.area.present ≤ page_number old.attributes.page_just
       → new.area ≡ area_sum (area ++ s ∷ [])
-  pub grows : (k : ℕ) → IsBelow k old.area → IsBelow (k + 1024) new.area
   pub present : old.area.present ≤ page_number old.attributes.page_just → new.area.present ≡ page_number old.attributes.page_just
   pub none : new.area.group.line.any ≡ false
   pub same : new ≡ record old { area = new.area; limits = new.limits }

@@ -1,7 +1,7 @@
 -- What is kept of an open line where lines are filled: the sums around its last space.
-use Rattle.std.specs.Prelude.{◌≡◌, ◌&&◌, ℕ, Bool, true, false, nat_lt, List, [], ◌∷◌, ◌++◌, Option, None, Some}
+use Rattle.std.specs.Prelude.{◌≡◌, ◌&&◌, ℕ, ◌^◌, ◌<◌, Bool, true, false, nat_lt, List, [], ◌∷◌, ◌++◌, Option, None, Some}
 use Rattle.std.specs.List.{All, after_last, list_any}
-use Rattle.std.specs.Option.{IfSome, option_map}
+use Rattle.std.specs.Option.{option_map}
 use Rattle.multi_tag.specs.Just.{line_number}
 use Rattle.sign_font.specs.Sign.{info_of}
 use Rattle.multi_meaning.specs.Address.{Spot, is_break}
@@ -14,7 +14,7 @@ use Rattle.multi_judge.specs.declared.area.Group.{Group}
 use Rattle.multi_judge.specs.declared.fill.Split.{Split}
 use Rattle.multi_judge.specs.declared.line.Line.{Line}
 use Rattle.multi_judge.specs.Run.{FitsBefore}
-use Rattle.multi_judge.specs.Sums.{Character, IsCharacter, IsLineBelow, group_sum, line_sum}
+use Rattle.multi_judge.specs.Sums.{Character, IsCharacter, group_sum, line_sum}
 
 -- the sums around a space of a line: of the characters before it, its font, and of those behind it (own)
 abbrev pub parts_sum : CutAt Spot → Split
@@ -40,10 +40,6 @@ order_sum line = record {
   has_parts = list_any (λ t. nat_lt (line_number t.at.line_just) 5) line;
 }
 
--- the numbers of the parts of a line are at most k (own)
-abbrev pub IsSplitBelow : ℕ → Option Split → Type 0
-IsSplitBelow k split = IfSome split (λ s. IsLineBelow k s.before × IsLineBelow k s.behind)
-
 -- a group has the ended lines that it had, or one more, whose characters begin the line that was the present one, and have these sums (own)
 abbrev pub EndsLine : List Spot → List Spot → Option Line → Type 0
 EndsLine old new None = ended_lines new ≡ ended_lines old
@@ -52,12 +48,12 @@ EndsLine old new (Some line) =
     × ((behind : List Spot) × (after_last is_break old ≡ characters ++ behind))
     × (is_break end ≡ true) × (ended_lines new ≡ ended_lines old ++ (characters ++ end ∷ []) ∷ [])
 
--- a character joins a group whose lines are filled to this width, where these are the sums of the group and of its open line's
+-- a character joins a group whose lines are filled to this width of 16 bits, where these are the sums of the group and of its open line's
 -- parts before it: if the open line fits and the character clashes with none of it, then group and split are those with it, the
 -- line is ended that is, and the segments before the present one fit (own)
 abbrev pub FillsGroup : ℕ → Group → Option Split → Character → Bool → Group → Option Split → Option Line → Type 0
 FillsGroup width old split character space new split' ended =
-    (group : List Spot) (s : Spot) → All IsPlacing group → IsCharacter s character → is_space s ≡ space
+    (group : List Spot) (s : Spot) → width < 2 ^ 16 → All IsPlacing group → IsCharacter s character → is_space s ≡ space
     → line_fits width (after_last is_break (filled (Some width) group)) ≡ true
     → list_any (clashes s) (after_last is_break (filled (Some width) group)) ≡ false
     → old ≡ group_sum (filled (Some width) group) → split ≡ split_sum (after_last is_break (filled (Some width) group))

@@ -9,8 +9,8 @@ use Rattle.multi_judge.specs.declared.fill.Split.{Split}
 use Rattle.multi_judge.specs.declared.pass.Pass.{Pass}
 use Rattle.multi_judge.specs.FillSums.{Order, order_of}
 use Rattle.multi_judge.specs.declared.line.Line.{Line}
-use Rattle.multi_judge.specs.Sums.{line_sum}
-use Rattle.multi_judge.specs.Run.{IsBehindCharacter, IsBehindOne, IsOpen, lengthened, lengthened_line, line_in_force}
+use Rattle.multi_judge.specs.Sums.{counted, held, line_sum}
+use Rattle.multi_judge.specs.Run.{IsBehindCharacter, IsBehindOne, IsOpen, lengthened_line, line_in_force, lengthened_by}
 
 -- the order is that of characters of which the last has this line justification (own)
 abbrev pub IsOrderOf : ℕ → Order → Type 0
@@ -32,13 +32,13 @@ pub record IsFilledRun (kept : Pass) : Type 0 where
 
 -- a line whose present segment has so many more pixels and characters (own)
 abbrev pub longer_line : ℕ → ℕ → Line → Line
-longer_line pixels count line = lengthened_line (line.part.width + pixels) (line.part.count + count) line
+longer_line pixels count line = lengthened_line (held (line.part.width + pixels)) (counted (line.part.count + count)) line
 
 -- a line of no character, begun with so many characters with these attributes, of so many pixels (own)
 abbrev pub even_line : Attributes → ℕ → ℕ → Line → Line
 even_line here pixels count line = record line {
   present = line_number here.line_just;
-  part = record { width = pixels; count = count; last = Some here.font.char_spacing };
+  part = record { width = held pixels; count = counted count; last = Some here.font.char_spacing };
   has_parts = nat_lt (line_number here.line_just) 5;
   height = here.font.height;
   spacing = here.font.line_spacing;
@@ -58,7 +58,7 @@ with_run_behind here gap pixels count split = record split { behind = with_run h
 -- what is kept with so many more characters of a run, of so many pixels with this gap before each; none is a space (own)
 abbrev pub with_word : ℕ → ℕ → ℕ → Pass → Pass
 with_word gap pixels count kept = record {
-  state = lengthened ((line_in_force kept.state).part.width + pixels) ((line_in_force kept.state).part.count + count) kept.state;
+  state = lengthened_by pixels count kept.state;
   split = option_map (with_run_behind kept.state.attributes gap pixels count) kept.split;
   order = kept.order;
 }
@@ -66,7 +66,7 @@ with_word gap pixels count kept = record {
 -- what is kept with a space behind a run, of so many pixels with the gap before it: the line may be broken there (own)
 abbrev pub with_space : ℕ → Pass → Pass
 with_space pixels kept = record {
-  state = lengthened ((line_in_force kept.state).part.width + pixels) ((line_in_force kept.state).part.count + 1) kept.state;
+  state = lengthened_by pixels 1 kept.state;
   split = Some (record { before = line_in_force kept.state; font = kept.state.attributes.font; behind = line_sum [] });
   order = kept.order;
 }

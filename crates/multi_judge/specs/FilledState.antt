@@ -1,5 +1,5 @@
 -- What is kept of the items that were read, where lines are filled (own).
-use Rattle.std.specs.Prelude.{◌≡◌, ◌≤◌, Bool, true, false, ◌*◌, ◌^◌, List, length, Some}
+use Rattle.std.specs.Prelude.{◌≡◌, ◌≤◌, Bool, true, false, List, Some}
 use Rattle.std.specs.List.{after_last}
 use Rattle.std.specs.Option.{IfSome}
 use Rattle.multi_tag.specs.declared.tag.Tag.{Tag}
@@ -15,12 +15,12 @@ use Rattle.multi_meaning.specs.kept.Present.{present_area}
 use Rattle.multi_judge.specs.declared.line.Line.{Line}
 use Rattle.multi_judge.specs.declared.pass.Pass.{Pass}
 use Rattle.multi_judge.specs.Run.{line_in_force}
-use Rattle.multi_judge.specs.FillSums.{IsSplitBelow, Order, order_of, order_sum, split_sum}
+use Rattle.multi_judge.specs.FillSums.{Order, order_of, order_sum, split_sum}
 use Rattle.multi_judge.specs.State.{AreaFits, IsLimited, IsReady, IsStateOf}
 
 -- it is what is kept of these items: the state of the items as they are laid out, the parts of the present line around its last
--- space, and the order of all characters of the present group since the last `nl`; the limits are known, no sum overflows, and the open
--- lines and the area fit (own)
+-- space, and the order of all characters of the present group since the last `nl`; the limits are known, and the open lines and the
+-- area fit (own)
 pub record IsFilledOf (sign : SignData) (items : List Meaning) (kept : Pass) : Type 0 where
   pub state_is : IsStateOf sign (laid_items Words sign items items) kept.state
   pub split_is :
@@ -29,7 +29,6 @@ pub record IsFilledOf (sign : SignData) (items : List Meaning) (kept : Pass) : T
       (after_last is_break
       (filled (Some (standing sign items).rectangle.width) (in_group kept.state.area.present (present_area sign items))))
   pub order_is : order_of kept.order ≡ order_sum (after_last is_break (in_group kept.state.area.present (present_area sign items)))
-  pub split_below : IsSplitBelow (1024 * length items) kept.split
   pub limited : IsLimited kept.state
   pub area_fits : AreaFits sign (laid_items Words sign items items)
   pub fits : AllOpenFit (Some (standing sign items).rectangle.width) (present_area sign items)
@@ -43,10 +42,9 @@ pub record IsFilledFor (sign : SignData) (kept : Pass) (items : List Meaning) : 
 abbrev pub IsOrderedBy : Order → Line → Type 0
 IsOrderedBy order line = (line.present ≤ order.largest) × (line.has_parts ≡ true → order.has_parts ≡ true)
 
--- it is small enough that no sum overflows, and what clashes with the present line clashes with those that the order is judged by (own)
+-- the times are within their bound, and what clashes with the present line clashes with those that the order is judged by (own)
 pub record IsFilledReady (kept : Pass) : Type 0 where
   pub state : IsReady kept.state
-  pub split : IsSplitBelow (2 ^ 62) kept.split
   pub line : IsOrderedBy (order_of kept.order) (line_in_force kept.state)
   pub behind : IfSome kept.split (λ s. IsOrderedBy (order_of kept.order) s.behind)
 

@@ -16,7 +16,6 @@ pub record ReadSoFar (sign : SignData) (octets : List ℕ) (at : ℕ) (IsKept : 
   pub within : at ≤ length octets
   pub none : offences sign items ≡ []
   pub is : IsKept (map meaning items)
-  pub few : length items ≤ at
 
 -- the items before an offset are judged, and each of their octets took one to nine steps, three fewer in all (own)
 pub record IsBehind (sign : SignData) (octets : List ℕ) (at : ℕ) (IsKept : List Meaning → Type 0) (source : Counted) : Type 0 where

@@ -20,7 +20,7 @@ abbrev pub IsPassOf : Bool → SignData → Pass → List Meaning → Type 0
 IsPassOf true sign pass items = IsFilledFor sign pass items
 IsPassOf false sign pass items = IsUnfilledOf sign pass.state items
 
--- a pass over lines of this kind is small enough that no sum overflows (own)
+-- the times of a pass over lines of this kind are within their bound, and where lines are filled, its order is that of its lines (own)
 abbrev pub IsPassReady : Bool → Pass → Type 0
 IsPassReady true pass = IsFilledReady pass
 IsPassReady false pass = IsReady pass.state

@@ -1,6 +1,6 @@
 -- Where a character stands, by what is kept of its area (own).
-use Rattle.std.specs.Prelude.{◌≡◌, ℕ, ◌<◌, ◌≤◌, Bool, true, false, List, [], ◌∷◌, ◌++◌, length}
-use Rattle.std.specs.List.{count_by, list_any}
+use Rattle.std.specs.Prelude.{◌≡◌, ℕ, ◌≤◌, Bool, true, false, List, [], ◌∷◌, ◌++◌}
+use Rattle.std.specs.List.{list_any}
 use Rattle.multi_tag.specs.Just.{page_number}
 use Rattle.multi_meaning.specs.declared.place.Place.{Place}
 use Rattle.multi_meaning.specs.Address.{Spot, area_of, group_of, in_group, is_break, is_glyph, line_before, lines_of}
@@ -20,9 +20,9 @@ use Rattle.multi_judge.specs.Table.{table_of}
 -- counted lines of its group (own)
 abbrev pub PlacesCharacter : Attributes → Area → List CountedLine → ℕ → Place → Type 0
 PlacesCharacter attributes area lines width place =
-    (before all : List Spot) (spot : Spot) → is_glyph spot ≡ true → attributes ≡ attributes_of spot.at → glyph_width spot ≡ width
+    (before all rest : List Spot) (spot : Spot) → is_glyph spot ≡ true → attributes ≡ attributes_of spot.at → glyph_width spot ≡ width
     → area ≡ area_sum (area_of spot before ++ spot ∷ []) → lines ≡ table_of (lines_of (group_of spot all))
-    → count_by is_break (group_of spot before) < length (lines_of (group_of spot all))
+    → group_of spot all ≡ group_of spot before ++ spot ∷ rest
     → list_any (clashes spot) (line_before before spot) ≡ false
     → largest (λ t. page_number t.at.page_just) (area_of spot before) ≤ page_number attributes.page_just
     → place ≡ place_of before all spot

@@ -20,7 +20,7 @@ pub use Rattle.multi_meaning.specs.Offence.{clashes, conflicts}
 pub use Rattle.multi_meaning.specs.Place.{start, spread}
 pub use Rattle.multi_meaning.specs.kept.Present.{IsPlacing, standing_behind, present_area, IsNarrow}
 pub use Rattle.multi_judge.specs.Adding.{ReachesGroup, character_of, IsSameBefore, PutsCharacter, AddsBreak, AddsCharacter}
-pub use Rattle.multi_judge.specs.FillSums.{FillsGroup, IsSplitBelow}
+pub use Rattle.multi_judge.specs.FillSums.{FillsGroup}
 pub use Rattle.multi_judge.specs.FilledRun.{GoesOnBehind, IsFilledRun, IsOpenAround, with_run_behind}
 pub use Rattle.multi_judge.specs.FilledState.{IsFilledReady, IsFilledOf}
 pub use Rattle.multi_judge.specs.Judging.{IsAt, IsBehind}
@@ -28,9 +28,9 @@ pub use Rattle.multi_judge.specs.KnownItem.{IsOctet, is_setting, meant_by}
 pub use Rattle.multi_judge.specs.PassState.{IsPassBehind, IsPassReady, IsPassOf}
 pub use Rattle.multi_judge.specs.Passed.{JudgesCell, JudgesItem, PutsCell}
 pub use Rattle.multi_judge.specs.Placing.{PlacesCharacter, TellsEnd}
-pub use Rattle.multi_judge.specs.Run.{kept_height, IsBehindOne, IsOpen, kept_width, IsBehindCharacter, IsRun, IsRunPassed, gap_here, is_within, lengthened, line_in_force}
-pub use Rattle.multi_judge.specs.State.{IsSimple, attributes_of, IsLimited, IsMost, JudgesTag, IsReady, Judges, IsStateOf, whole_times}
-pub use Rattle.multi_judge.specs.Sums.{group_sum, area_sum, IsBreak, IsGroupBelow, IsBelow, IsCharacter, IsLineBelow, line_sum}
+pub use Rattle.multi_judge.specs.Run.{kept_height, IsBehindOne, IsOpen, kept_width, IsBehindCharacter, IsRun, IsRunPassed, gap_here, is_within, line_in_force, lengthened_by}
+pub use Rattle.multi_judge.specs.State.{IsSimple, attributes_of, IsLimited, IsMost, IsSmall, JudgesTag, IsReady, Judges, IsStateOf, whole_times}
+pub use Rattle.multi_judge.specs.Sums.{group_sum, area_sum, held, IsBreak, IsCharacter, line_sum}
 pub use Rattle.multi_judge.specs.Table.{group_lines, line_count, line_entry, TableLines, IsOrdered, split_lines}
 pub use Rattle.multi_judge.specs.Text.{TakesSpace}
 pub use Rattle.multi_judge.specs.declared.table.CountedLine.{CountedLine}

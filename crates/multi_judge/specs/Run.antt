@@ -15,6 +15,7 @@ use Rattle.multi_judge.specs.declared.area.Group.{Group}
 use Rattle.multi_judge.specs.declared.line.Line.{Line}
 use Rattle.multi_judge.specs.declared.state.State.{State}
 use Rattle.multi_judge.specs.State.{IsLimited}
+use Rattle.multi_judge.specs.Sums.{counted, held}
 
 -- the width of the characters with a line justification, by what is kept of the line: left 2, centre 3, right 4, full 5 (own)
 abbrev pub kept_width : ℕ → Line → ℕ
@@ -30,8 +31,8 @@ kept_fits width line = fit (kept_width 2 line) (kept_width 3 line) (kept_width 4
 -- the height of a group, by what is kept of it (own)
 abbrev pub kept_height : Group → ℕ
 kept_height group =
-    if group.line.any then group.closed + option_map_or (λ ended. unwrap_or ended.gap (average ended.spacing group.line.spacing)) group.last
-    0 + group.line.height
+    if group.line.any
+    then held (group.closed + (option_map_or (λ ended. unwrap_or ended.gap (average ended.spacing group.line.spacing)) group.last 0 + group.line.height))
     else group.closed
 
 -- by what is kept, the present segment and the present group have at most what they may have (own)
@@ -75,6 +76,11 @@ lengthened width count state = record state { area = lengthened_area width count
 abbrev pub line_in_force : State → Line
 line_in_force state = state.area.group.line
 
+-- a state whose present segment has so many more pixels and characters (own)
+abbrev pub lengthened_by : ℕ → ℕ → State → State
+lengthened_by pixels count state =
+    lengthened (held ((line_in_force state).part.width + pixels)) (counted ((line_in_force state).part.count + count)) state
+
 -- the last character was put into the present area with the attributes in force (own)
 pub record IsBehindCharacter (state : State) : Type 0 where
   pub group : state.area.present ≡ page_number state.attributes.page_just
@@ -95,9 +101,8 @@ pub record IsRun (state : State) (gap : ℕ) : Type 0 where
 
 -- the octets between two offsets are characters that lengthen the segment of the one before them, by these pixels: where what is there is
 -- within its limits, it still is with them, and the new state is the old one with them (own)
-pub record IsRunPassed (sign : SignData) (octets : List ℕ) (at : ℕ) (state : State) (at' : ℕ) (state' : State) : Type 0 where
+pub record IsRunPassed (sign : SignData) (octets : List ℕ) (at : ℕ) (pixels : ℕ) (state : State) (at' : ℕ) (state' : State) : Type 0 where
   pub gap : ℕ
-  pub pixels : ℕ
   pub forward : at ≤ at'
   pub within : at' ≤ length octets
   pub plain : All IsPlain (slice_range octets at at')
@@ -105,4 +110,4 @@ pub record IsRunPassed (sign : SignData) (octets : List ℕ) (at : ℕ) (state :
   pub gap_is : gap ≡ gap_here state
   pub narrow : gap ≤ 255
   pub run : is_within state ≡ true → IsRun state gap × ((line_in_force state).part.width + pixels ≤ state.limits.width)
-  pub is : state' ≡ lengthened ((line_in_force state).part.width + pixels) ((line_in_force state).part.count + (at' - at)) state
+  pub is : state' ≡ lengthened_by pixels (at' - at) state

@@ -1,11 +1,12 @@
 -- What is kept of the items that were read (own).
-use Rattle.std.specs.Prelude.{◌≡◌, ℕ, ◌+◌, ◌*◌, ◌^◌, ◌≤◌, true, List, [], ◌∷◌, ◌++◌, length, Some, None, Result, Ok, Err}
+use Rattle.std.specs.Prelude.{◌≡◌, ℕ, ◌+◌, ◌*◌, ◌^◌, ◌<◌, ◌≤◌, true, List, [], ◌∷◌, ◌++◌, Some, None, Result, Ok, Err}
 use Rattle.multi_tag.specs.declared.tag.Tag.{Tag}
 use Rattle.multi_tag.specs.declared.tag.Tag.TheVariants.{NewPage, NewLine, Font, Rect}
 use Rattle.sign_font.specs.declared.parts.LineFill.TheVariants.{Off}
 use Rattle.sign_font.specs.Sign.{SignData, font_numbered, info_of}
 use Rattle.multi_meaning.specs.declared.fault.SyntaxError.{SyntaxError}
 use Rattle.multi_meaning.specs.Codes.{code_of}
+use Rattle.multi_meaning.specs.declared.attributes.Rectangle.{Rectangle}
 use Rattle.multi_meaning.specs.kept.Fits.{area_fits, room_for}
 use Rattle.multi_meaning.specs.Meaning.{Meaning}
 use Rattle.multi_meaning.specs.kept.Bounds.{has_place}
@@ -19,7 +20,7 @@ use Rattle.multi_judge.specs.declared.attributes.Attributes.{Attributes}
 use Rattle.multi_judge.specs.declared.state.State.{State}
 use Rattle.multi_judge.specs.declared.area.Area.{Area}
 use Rattle.multi_judge.specs.declared.line.Line.{Line}
-use Rattle.multi_judge.specs.Sums.{IsBelow, area_sum}
+use Rattle.multi_judge.specs.Sums.{area_sum}
 
 -- what is kept of the values in force (own)
 abbrev pub attributes_of : Standing → Attributes
@@ -36,16 +37,20 @@ attributes_of at = record {
   rectangle = at.rectangle;
 }
 
+-- the sides of a rectangle are numbers of 16 bits (own)
+abbrev pub IsSmall : Rectangle → Type 0
+IsSmall rectangle = (rectangle.width < 2 ^ 16) × (rectangle.height < 2 ^ 16)
+
 -- the state is that of these items: their pages, their ended pages' times, the values in force behind them, and the sums of
--- their present area; the font in force is the sign's (own)
+-- their present area; the font in force is the sign's, and the rectangle in force is small (own)
 pub record IsStateOf (sign : SignData) (items : List Meaning) (state : State) : Type 0 where
   pub pages : state.pages ≡ pages_of items
   pub times : state.cycle ≡ cycle (ended_times sign items)
   pub attributes : state.attributes ≡ attributes_of (standing sign items)
   pub area : state.area ≡ area_sum (present_area sign items)
   pub font : font_numbered sign (standing sign items).font.number ≡ Some (standing sign items).font
-  pub below : IsBelow (1024 * length items) state.area
   pub short : state.cycle ≤ 510 * state.pages
+  pub small : IsSmall state.attributes.rectangle
 
 -- the times of all pages of a string that ends in this state, in tenths of a second (own)
 abbrev pub whole_times : State → ℕ
@@ -76,9 +81,8 @@ pub record IsUnfilledOf (sign : SignData) (state : State) (items : List Meaning)
   pub state_is : IsStateOf sign items state
   pub limited : IsLimited state
 
--- the state is small enough that no sum overflows (own)
+-- the ended pages' times are within their bound: 510 tenths of a second each (own)
 pub record IsReady (state : State) : Type 0 where
-  pub below : IsBelow (2 ^ 62) state.area
   pub short : state.cycle ≤ 510 * state.pages
 
 -- one more item is judged where lines aren't filled: it doesn't offend and the state is then that

@@ -1,5 +1,5 @@
 -- The running sums of an area: what is kept of its items, in place of the items.
-use Rattle.std.specs.Prelude.{◌≡◌, ℕ, ◌≤◌, true, nat_lt, List, length, Option, None, if◌then◌else◌}
+use Rattle.std.specs.Prelude.{◌≡◌, ℕ, ◌-◌, ◌^◌, ◌%◌, true, min, nat_lt, List, length, Option, None, if◌then◌else◌}
 use Rattle.std.specs.List.{filter_map, last_or, list_any, after_last}
 use Rattle.std.specs.Option.{option_map}
 use Rattle.multi_tag.specs.Just.{line_number, page_number}
@@ -16,17 +16,25 @@ use Rattle.multi_judge.specs.declared.area.Ended.{Ended}
 use Rattle.multi_judge.specs.declared.area.Group.{Group}
 use Rattle.multi_judge.specs.declared.area.Area.{Area}
 
+-- what is kept of a width or a height: the largest number of 64 bits in place of a larger one (own)
+abbrev pub held : ℕ → ℕ
+held n = min n (2 ^ 64 - 1)
+
+-- what is kept of a count: its last 64 bits. It is looked up, and never compared with a limit (own)
+abbrev pub counted : ℕ → ℕ
+counted n = n % 2 ^ 64
+
 -- the width of a line's characters with one line justification, how many they are, and the spacing of the last one's font (own)
 abbrev pub segment_sum : ℕ → List Spot → Segment
 segment_sum just line = record {
-  width = width_of (segment just line);
-  count = length (segment just line);
+  width = held (width_of (segment just line));
+  count = counted (length (segment just line));
   last = option_map (λ t. t.at.font.char_spacing) (last_or None (segment just line));
 }
 
 -- the width of a line's characters with a line justification before that of the present segment (own)
 abbrev pub width_before : ℕ → ℕ → List Spot → ℕ
-width_before present just line = if nat_lt just present then width_of (segment just line) else 0
+width_before present just line = if nat_lt just present then held (width_of (segment just line)) else 0
 
 -- the sums of a line of characters whose present segment has this line justification: the widths of the segments before it,
 -- that segment, whether a character isn't full, the line's height and spacing, and whether there is a character (own)
@@ -54,15 +62,15 @@ ended_sum line = record { gap = last_or None (filter_map given_gap line); spacin
 -- the sums of a group: how many lines are ended, their height with the gaps between them, the last of them, and the present line (own)
 abbrev pub group_sum : List Spot → Group
 group_sum group = record {
-  ended = length (ended_lines group);
-  closed = height_of (ended_lines group);
+  ended = counted (length (ended_lines group));
+  closed = held (height_of (ended_lines group));
   last = option_map ended_sum (last_or None (ended_lines group));
   line = line_sum (after_last is_break group);
 }
 
 -- the height of the group with a page justification before that of the present one (own)
 abbrev pub height_before : ℕ → ℕ → List Spot → ℕ
-height_before present just area = if nat_lt just present then height_of (lines_of (in_group just area)) else 0
+height_before present just area = if nat_lt just present then held (height_of (lines_of (in_group just area))) else 0
 
 -- the sums of an area whose present group has this page justification: the heights of the groups before it, and that group (own)
 abbrev pub area_sum_in : ℕ → List Spot → Area
@@ -96,40 +104,3 @@ pub record IsCharacter (s : Spot) (character : Character) : Type 0 where
 pub record IsBreak (s : Spot) (gap : Option ℕ) (info : FontInfo) : Type 0 where
   pub put : s.put ≡ Break gap
   pub font : info ≡ info_of s.at.font
-
--- the width and the number of a segment's characters are at most k (own)
-pub record IsSegmentBelow (k : ℕ) (segment : Segment) : Type 0 where
-  pub width : segment.width ≤ k
-  pub count : segment.count ≤ k
-
--- the numbers of a line's segments are at most k, and the justification of the present one is none or a known one (own)
-pub record IsLineBelow (k : ℕ) (line : Line) : Type 0 where
-  pub left : line.left ≤ k
-  pub centre : line.centre ≤ k
-  pub right : line.right ≤ k
-  pub part : IsSegmentBelow k line.part
-  pub known : line.present ≤ 5
-
--- the number and the height of a group's ended lines, and the numbers of its present line, are at most k (own)
-pub record IsGroupBelow (k : ℕ) (group : Group) : Type 0 where
-  pub ended : group.ended ≤ k
-  pub closed : group.closed ≤ k
-  pub line : IsLineBelow k group.line
-
--- an area without an item has no height, nor has it an ended line (own)
-pub record IsEmptied (area : Area) : Type 0 where
-  pub top : area.top ≡ 0
-  pub middle : area.middle ≡ 0
-  pub ended : area.group.ended ≡ 0
-  pub closed : area.group.closed ≡ 0
-  pub last : area.group.last ≡ None
-
--- the heights of an area's groups and the numbers of the present one are at most k, and its justification is none or a known one,
--- and a known one where its present line has a character; where there is none, nothing is kept of one (own)
-pub record IsBelow (k : ℕ) (area : Area) : Type 0 where
-  pub top : area.top ≤ k
-  pub middle : area.middle ≤ k
-  pub group : IsGroupBelow k area.group
-  pub known : area.present ≤ 4
-  pub some : area.group.line.any ≡ true → 2 ≤ area.present
-  pub empty : area.present ≡ 0 → IsEmptied area

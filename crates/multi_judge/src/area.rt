@@ -1,7 +1,7 @@
-//! The running sums of an area's groups.
+//! The running sums of an area's groups: heights saturate, and a count begins again behind its last number.
 
 ghost use Rattle.std.specs.Prelude.{◌≡◌, ◌≢◌, ℕ, ◌+◌, ◌^◌, ◌<◌, ◌≤◌, ◌&&◌, true, false, List, [], ◌∷◌, ◌++◌};
-ghost use Rattle.multi_judge.specs.Prelude.{All, page_number, Spot, in_group, lines_of, height_of, IsPlacing, ReachesGroup, kept_height, group_sum, area_sum, IsBreak, IsGroupBelow, IsBelow};
+ghost use Rattle.multi_judge.specs.Prelude.{All, page_number, Spot, in_group, lines_of, held, height_of, IsPlacing, ReachesGroup, kept_height, group_sum, area_sum, IsBreak};
 
 use crate::attributes::Attributes;
 use crate::line::{Line, gap_or_average, room_for};
@@ -47,10 +47,8 @@ impl Group {
     /// Adds an `nl` of this group.
     #[inline(always)]
     pub(crate) fn add_break(&mut self, gap: Option<u8>, font: &FontInfo)
-        requires below { IsGroupBelow (2 ^ 62) self.old }
         ensures sum { (group : List Spot) (s : Spot) → All IsPlacing group → self.old ≡ group_sum group → IsBreak s gap font.now
             → self.new ≡ group_sum (group ++ s ∷ []) }
-        ensures grows { (k : ℕ) → IsGroupBelow k self.old → IsGroupBelow (k + 1024) self.new }
         ensures none { self.new.line.any ≡ false }
     {
         if !self.line.any {
@@ -60,7 +58,7 @@ impl Group {
             self.line.any = true;
         }
         self.closed = self.height();
-        self.ended += 1;
+        self.ended = self.ended.wrapping_add(1);
         self.last = Some(Ended {
             gap,
             spacing: self.line.spacing,
@@ -71,11 +69,9 @@ impl Group {
     /// The height of the group's lines in pixels, with the gaps between them.
     #[inline(always)]
     pub fn height(self) -> u64
-        requires below { self.closed ≤ 2 ^ 62 + 1024 }
         ensures sum { (group : List Spot) → All IsPlacing group → self ≡ group_sum group
-            → result ≡ height_of (lines_of group) }
+            → result ≡ held (height_of (lines_of group)) }
         ensures kept { result ≡ kept_height self }
-        ensures below { result ≤ self.closed + 1024 }
     {
         if !self.line.any {
             return self.closed;
@@ -84,7 +80,8 @@ impl Group {
             Some(ended) => gap_or_average(ended.gap, ended.spacing, self.line.spacing),
             None => 0,
         };
-        self.closed + u64::from(gap) + u64::from(self.line.height)
+        let more = u64::from(gap) + u64::from(self.line.height);
+        self.closed.saturating_add(more)
     }
 }
 
@@ -93,7 +90,6 @@ impl Area {
     /// The answer is whether it isn't before.
     #[inline(always)]
     pub(crate) fn reach(&mut self, here: &Attributes, most: &mut u64) -> bool
-        requires below { IsBelow (2 ^ 62) self.old }
         ensures reached { ReachesGroup (page_number here.now.page_just) here.now.rectangle.height
             self.old most.old result self.new most.new }
     {
@@ -101,14 +97,12 @@ impl Area {
         if page_just <= self.present {
             return page_just == self.present;
         }
-        if self.present > 0 {
-            match self.present {
-                2 => self.top = self.group.height(),
-                3 => self.middle = self.group.height(),
-                _ => {}
-            }
-            self.group = Group::default();
+        match self.present {
+            2 => self.top = self.group.height(),
+            3 => self.middle = self.group.height(),
+            _ => {}
         }
+        self.group = Group::default();
         self.present = page_just;
         *most = room_for(self.present, self.top, self.middle, here.rectangle.height);
         true
@@ -119,7 +113,6 @@ impl Area {
     pub fn group_for(&self, page_just: PageJust) -> Group
         ensures sum { (area : List Spot) → self.now ≡ area_sum area → self.now.present ≤ page_number page_just
             → result ≡ group_sum (in_group (page_number page_just) area) }
-        ensures below { (k : ℕ) → IsBelow k self.now → IsGroupBelow k result }
     {
         if page_just.number() == self.present {
             self.group

@@ -1,7 +1,7 @@
 //! The attributes in force.
 
 ghost use Rattle.std.specs.Prelude.{◌≡◌};
-ghost use Rattle.multi_judge.specs.Prelude.{unwrap_or, Standing, whole_sign, Does, standing_behind, IsSimple, attributes_of};
+ghost use Rattle.multi_judge.specs.Prelude.{unwrap_or, Standing, whole_sign, Does, standing_behind, IsSimple, IsSmall, attributes_of};
 
 use crate::terms::Terms;
 use multi_meaning::{FlashTimes, Rectangle};
@@ -28,7 +28,8 @@ pub struct Attributes {
 
 /// The whole sign.
 pub(crate) fn whole_sign(sign: &Terms<'_>) -> Rectangle
-    ensures { result ≡ whole_sign sign.now }
+    ensures is { result ≡ whole_sign sign.now }
+    ensures small { IsSmall result }
 {
     Rectangle {
         left: 0,

@@ -1,7 +1,7 @@
 //! Lines that are filled by words: the open line is broken at its last space, which is dropped.
 
 ghost use Rattle.std.specs.Prelude.{◌≡◌, ℕ, ◌+◌, ◌^◌, true};
-ghost use Rattle.multi_judge.specs.Prelude.{FillsGroup, GoesOnBehind, character_of, IsBehindOne, IsOpenAround, IsSplitBelow, IsMost, IsGroupBelow};
+ghost use Rattle.multi_judge.specs.Prelude.{FillsGroup, GoesOnBehind, character_of, IsBehindOne, IsOpenAround, IsMost};
 
 use crate::area::Group;
 use crate::attributes::Attributes;
@@ -33,16 +33,12 @@ impl Group {
         split: &mut Option<Split>,
         most: &mut u64,
     ) -> Option<Line>
-        requires below { IsGroupBelow (2 ^ 62) self.old }
-        requires parts { IsSplitBelow (2 ^ 62) split.old }
         requires open { IsOpenAround here.now.line_just self.old.line split.old }
         ensures sum { IsMost here.now.rectangle.width self.old.line most.old
             → FillsGroup here.now.rectangle.width self.old split.old (character_of here.now cell_width) space self.new split.new result }
         ensures most { IsMost here.now.rectangle.width self.old.line most.old → IsMost here.now.rectangle.width self.new.line most.new }
         ensures behind { self.new.line.any ≡ true → IsBehindOne here.now.line_just here.now.font self.new.line }
         ensures goes_on { GoesOnBehind here.now.line_just here.now.font split.new }
-        ensures grows { (k : ℕ) → IsGroupBelow k self.old → IsSplitBelow k split.old
-            → IsGroupBelow (k + 1024) self.new × IsSplitBelow (k + 1024) split.new }
     {
         let before = self.line;
         self.line.put(here, cell_width, most);

@@ -1,7 +1,7 @@
 //! The verdict on a string, in one reading from the left with running sums.
 
 ghost use Rattle.std.specs.Prelude.{◌≡◌, ◌+◌, ◌-◌, ◌≤◌, ◌==◌, if◌then◌else◌, length, IfSome, IfNone, Some, None, [], ◌∷◌, ◌++◌, ◌^◌};
-ghost use Rattle.multi_judge.specs.Prelude.{RisesBetween, Does, JudgesTag, IsLimited, IsReady, Judges, is_inside, rectangle};
+ghost use Rattle.multi_judge.specs.Prelude.{RisesBetween, Does, JudgesTag, IsLimited, IsReady, IsSmall, Judges, is_inside, rectangle};
 
 use crate::area::Area;
 use crate::attributes::whole_sign;
@@ -69,7 +69,6 @@ fn judge_font(
     source: &mut Source<'_>,
     pick: Option<FontPick>,
 ) -> Result<(), SyntaxError>
-    requires { IsReady state.old }
     ensures judged { Judges sign.now state.old (Does (Tag.Font pick)) result state.new }
     ensures limited { IsLimited state.old → IsLimited state.new }
     ensures steps { RisesBetween source.old source.new 0 1 }
@@ -91,6 +90,7 @@ fn judge_font(
 /// The rectangle of a tag, whose upper left pixel is counted from 1, if it is inside the sign.
 fn rectangle(sign: &Terms<'_>, x: u32, y: u32, w: u32, h: u32) -> Option<Rectangle>
     ensures inside { result ≡ if is_inside sign.now x y w h then Some (rectangle sign.now x y w h) else None }
+    ensures small { IfSome result IsSmall }
 {
     let (left, width) = part_of(sign.bare.width(), x, w)?;
     let (top, height) = part_of(sign.bare.height(), y, h)?;

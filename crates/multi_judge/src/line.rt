@@ -1,7 +1,7 @@
-//! The running sums of a line's characters.
+//! The running sums of a line's characters: widths saturate, and a count begins again behind its last number.
 
 ghost use Rattle.std.specs.Prelude.{◌≡◌, ℕ, ◌+◌, ◌^◌, ◌<◌, ◌≤◌, true, false, not, Some, List, [], ◌∷◌, ◌++◌};
-ghost use Rattle.multi_judge.specs.Prelude.{AllPass, list_any, unwrap_or, line_number, Spot, is_glyph, room_for, average, clashes, IsSameBefore, PutsCharacter, IsBehindOne, IsOpen, kept_width, IsMost, line_sum, IsCharacter, IsLineBelow, character_of};
+ghost use Rattle.multi_judge.specs.Prelude.{AllPass, list_any, unwrap_or, line_number, Spot, is_glyph, room_for, average, clashes, IsSameBefore, PutsCharacter, IsBehindOne, IsOpen, kept_width, IsMost, line_sum, IsCharacter, character_of};
 
 use crate::attributes::Attributes;
 
@@ -43,10 +43,8 @@ impl Line {
     /// earlier one.
     #[inline(always)]
     pub(crate) fn add(&mut self, here: &Attributes, cell_width: u8)
-        requires below { IsLineBelow (2 ^ 62) self.old }
         ensures sum { (line : List Spot) (s : Spot) → AllPass is_glyph line → IsCharacter s (character_of here.now cell_width)
             → self.old ≡ line_sum line → list_any (clashes s) line ≡ false → self.new ≡ line_sum (line ++ s ∷ []) }
-        ensures grows { (k : ℕ) → IsLineBelow k self.old → IsLineBelow (k + 1024) self.new }
         ensures behind { (self.old.any ≡ true → IsOpen here.now.line_just self.old)
             → IsBehindOne here.now.line_just here.now.font self.new }
         ensures before { self.old.any ≡ false → (self.new.left ≡ 0) × (self.new.centre ≡ 0) }
@@ -80,8 +78,9 @@ impl Line {
             Some(earlier) => gap_or_average(here.spacing, earlier, spacing),
             None => 0,
         };
-        self.part.width += u64::from(gap) + u64::from(cell_width);
-        self.part.count += 1;
+        let more = u64::from(gap) + u64::from(cell_width);
+        self.part.width = self.part.width.saturating_add(more);
+        self.part.count = self.part.count.wrapping_add(1);
         self.part.last = Some(spacing);
         self.has_parts |= just < 5;
         self.height = self.height.max(here.font.height);
@@ -92,12 +91,10 @@ impl Line {
     /// segment may have then. If it clashes, nothing changes, and the answer is false.
     #[inline(always)]
     pub(crate) fn put(&mut self, here: &Attributes, cell_width: u8, most: &mut u64) -> bool
-        requires below { IsLineBelow (2 ^ 62) self.old }
         ensures apart { (line : List Spot) (s : Spot) → AllPass is_glyph line → self.old ≡ line_sum line
             → s.at.line_just ≡ here.now.line_just → not result ≡ list_any (clashes s) line }
         ensures open { (self.old.any ≡ true → IsOpen here.now.line_just self.old) → result ≡ true }
         ensures put { result ≡ true → PutsCharacter self.old (character_of here.now cell_width) self.new }
-        ensures grows { (k : ℕ) → IsLineBelow k self.old → IsLineBelow (k + 1024) self.new }
         ensures most { IsMost here.now.rectangle.width self.old most.old → IsMost here.now.rectangle.width self.new most.new }
     {
         if !self.any {

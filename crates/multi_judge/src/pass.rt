@@ -1,7 +1,7 @@
 //! One pass over a string from the left: what is kept of its items, and how each of them is judged.
 
 ghost use Rattle.std.specs.Prelude.{◌≡◌, ◌+◌, ◌^◌, true, List, [], OnOk};
-ghost use Rattle.multi_judge.specs.Prelude.{RisesBetween, charged, Words, SignData, AreWidthsOf, laid_items, Meaning, Shows, present_area, IsFilledOf, IsFilledReady, IsFilledRun, line_in_force, IsOctet, meant_by, IsPassBehind, IsPassReady, JudgesCell, JudgesItem, PutsCell, IsStateOf, IsBelow};
+ghost use Rattle.multi_judge.specs.Prelude.{RisesBetween, charged, Words, SignData, AreWidthsOf, laid_items, Meaning, Shows, present_area, IsFilledOf, IsFilledReady, IsFilledRun, line_in_force, IsOctet, meant_by, IsPassBehind, IsPassReady, JudgesCell, JudgesItem, PutsCell, IsStateOf};
 
 use crate::fill::Split;
 use crate::item::KnownItem;
@@ -133,7 +133,6 @@ impl Pass {
     fn fill_cell(&mut self, number: u16, cell_width: u8) -> Result<Option<Line>, SyntaxError>
         requires ready { IsFilledReady self.old }
         ensures put { PutsCell true self.old number cell_width result self.new }
-        ensures below { OnOk result (IsBelow (2 ^ 62 + 1024) self.new.state.area) }
         ensures behind { OnOk result ((line_in_force self.new.state).any ≡ true → IsFilledRun self.new) }
         ensures same { self.new.state.attributes ≡ self.old.state.attributes }
     {

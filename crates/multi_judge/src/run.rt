@@ -2,7 +2,7 @@
 //! each space does so, as long as it stays on its line.
 
 ghost use Rattle.std.specs.Prelude.{All, ◌≡◌, ◌+◌, ◌-◌, ◌*◌, ◌^◌, ◌<◌, ◌≤◌, ℕ, true, false, drop, length, option_map, slice_get, take};
-ghost use Rattle.multi_judge.specs.Prelude.{charged, RisesBetween, SignData, AreWidthsOf, IsNoSpace, IsSplitBelow, with_run_behind, IsFilledReady, IsPassBehind, IsPassOf, IsAt, IsBehind, IsBehindCharacter, IsRunPassed, lengthened, line_in_force, IsLimited, IsReady, TakesSpace};
+ghost use Rattle.multi_judge.specs.Prelude.{charged, RisesBetween, SignData, AreWidthsOf, IsNoSpace, with_run_behind, IsPassBehind, IsPassOf, IsAt, IsBehind, IsBehindCharacter, IsRunPassed, line_in_force, lengthened_by, IsLimited, TakesSpace};
 
 use crate::fill::Split;
 use crate::line::Line;
@@ -25,13 +25,12 @@ impl State {
     ) -> Run
         requires character { IsBehindCharacter self.old }
         requires limited { IsLimited self.old }
-        requires small { (IsReady self.old) × (length source.old.octets < 2 ^ 32) }
+        requires short { length source.old.octets < 2 ^ 32 }
         requires within { at ≤ length source.old.octets }
         ensures within { at + result.len ≤ length source.old.octets }
         ensures run { (sign : SignData) → AreWidthsOf sign self.old.attributes.font.number cells.now
-            → IsRunPassed sign source.old.octets at self.old (at + result.len) self.new }
+            → IsRunPassed sign source.old.octets at result.width self.old (at + result.len) self.new }
         ensures word { word ≡ true → All IsNoSpace (take result.len (drop at source.old.octets)) }
-        ensures pixels { (line_in_force self.new).part.width ≡ (line_in_force self.old).part.width + result.width }
         ensures next { result.next ≡ slice_get source.old.octets (at + result.len) }
         ensures steps { RisesBetween source.old source.new (2 * result.len + 1) (2 * result.len + 2) }
     {
@@ -43,19 +42,20 @@ impl State {
         let room = left.min(0x7fff) as u32;
         let gap = u32::from(self.attributes.gap());
         let run = source.read_run(at, cells.advances(word), gap, 0, room);
-        self.lengthen(u64::from(run.width), run.len as u64);
+        // the room is what is left
+        let part = &mut self.area.group.line.part;
+        part.width += u64::from(run.width);
+        part.count = part.count.wrapping_add(run.len as u64);
         run
     }
 
     /// Adds a width and a number of characters to the present segment.
     pub fn lengthen(&mut self, width: u64, count: u64)
-        requires width { (line_in_force self.old).part.width + width < 2 ^ 64 }
-        requires count { (line_in_force self.old).part.count + count < 2 ^ 64 }
-        ensures { self.new
-            ≡ lengthened ((line_in_force self.old).part.width + width) ((line_in_force self.old).part.count + count) self.old }
+        ensures { self.new ≡ lengthened_by width count self.old }
     {
         let part = &mut self.area.group.line.part;
-        (part.width, part.count) = (part.width + width, part.count + count);
+        part.width = part.width.saturating_add(width);
+        part.count = part.count.wrapping_add(count);
     }
 }
 
@@ -63,16 +63,14 @@ impl Pass {
     /// Adds behind the last space so many characters of a word, of so many pixels with the gap before each: where nothing is there, the
     /// first one has none.
     fn take(&mut self, gap: u8, pixels: u64, count: u64)
-        requires parts { IsSplitBelow (2 ^ 62) self.old.split }
-        requires narrow { (pixels < 2 ^ 32) × (count < 2 ^ 32) }
         ensures { self.new
             ≡ record self.old { split = option_map (with_run_behind self.old.state.attributes gap pixels count) self.old.split } }
     {
         let here = &self.state.attributes;
         if let Some(Split { behind, .. }) = &mut self.split {
             if behind.any {
-                behind.part.width += pixels;
-                behind.part.count += count;
+                behind.part.width = behind.part.width.saturating_add(pixels);
+                behind.part.count = behind.part.count.wrapping_add(count);
             } else if count > 0 {
                 behind.present = here.line_just.number();
                 behind.part.width = pixels.saturating_sub(u64::from(gap));
@@ -88,7 +86,6 @@ impl Pass {
 
     /// Takes a space, if it has a cell and fits the present line, which may be broken there then. Looking for the cell is one step.
     fn take_space(&mut self, cells: &FontCells<'_>, source: &mut Source<'_>, gap: u8) -> bool
-        requires ready { IsFilledReady self.old }
         ensures taken { result ≡ true → (width : ℕ) × TakesSpace cells.now gap self.old width self.new }
         ensures left { result ≡ false → self.new ≡ self.old }
         ensures step { source.new ≡ charged source.old 1 }
@@ -98,7 +95,7 @@ impl Pass {
         };
         let taken = self.state.area.group.line.part.width;
         let pixels = u64::from(gap) + u64::from(width);
-        if taken + pixels > self.state.limits.width {
+        if pixels > self.state.limits.width.saturating_sub(taken) {
             return false;
         }
         self.split = Some(Split {

@@ -1,7 +1,7 @@
 //! What is kept of the items that were read.
 
 ghost use Rattle.std.specs.Prelude.{◌≡◌, ◌+◌, ◌*◌, ◌^◌, ◌≤◌, [], List, true, false, not};
-ghost use Rattle.multi_judge.specs.Prelude.{IsSound, Spot, area_of, is_glyph, conflicts, AddsBreak, AddsCharacter, area_sum, IsLimited, IsReady, IsStateOf, whole_times};
+ghost use Rattle.multi_judge.specs.Prelude.{IsSound, Spot, area_of, is_glyph, conflicts, AddsBreak, AddsCharacter, area_sum, IsLimited, IsStateOf, whole_times};
 
 use crate::area::Area;
 use crate::attributes::{Attributes, whole_sign};
@@ -59,7 +59,6 @@ impl State {
     /// Puts a character whose cell has this width in pixels, if it doesn't conflict with the items before it: whether it doesn't.
     #[inline(always)]
     pub fn put_character(&mut self, cell_width: u8) -> bool
-        requires ready { IsReady self.old }
         ensures conflicts { (before : List Spot) (s : Spot) → self.old.area ≡ area_sum (area_of s before) → is_glyph s ≡ true
             → s.at.page_just ≡ self.old.attributes.page_just → s.at.line_just ≡ self.old.attributes.line_just
             → not result ≡ conflicts before s }
@@ -79,7 +78,6 @@ impl State {
     /// Puts an `nl` with the gap that it gives, if it doesn't conflict with the items before it: whether it doesn't.
     #[inline(always)]
     pub fn put_break(&mut self, gap: Option<u8>) -> bool
-        requires ready { IsReady self.old }
         ensures conflicts { (before : List Spot) (s : Spot) → self.old.area ≡ area_sum (area_of s before) → is_glyph s ≡ false
             → s.at.page_just ≡ self.old.attributes.page_just → not result ≡ conflicts before s }
         ensures added { result ≡ true → AddsBreak self.old gap self.new }

@@ -45,7 +45,7 @@ impl CountedLine {
     pub fn of(line: &Line, bottom: u64) -> CountedLine
         requires narrow { (spots : List Spot) × (line.now ≡ line_sum spots) × IsNarrow spots }
         requires low { bottom ≤ 1024 }
-        ensures entry { (spots : List Spot) → line.now ≡ line_sum spots → result ≡ line_entry spots bottom }
+        ensures entry { (spots : List Spot) → line.now ≡ line_sum spots → IsNarrow spots → result ≡ line_entry spots bottom }
         ensures bottom { result.bottom ≡ bottom }
     {
         CountedLine {
@@ -63,14 +63,14 @@ impl CountedLine {
     }
 
     /// The width of its segment with this line justification: left 2, centre 3, right 4, full 5.
-    pub(crate) fn width(&self, just: u8) -> u64
+    pub(crate) fn width(&self, just: u8) -> u16
         ensures { result ≡ width_in just self.now }
     {
         match just {
-            2 => u64::from(self.left),
-            3 => u64::from(self.centre),
-            4 => u64::from(self.right),
-            _ => u64::from(self.full),
+            2 => self.left,
+            3 => self.centre,
+            4 => self.right,
+            _ => self.full,
         }
     }
 }

@@ -3,12 +3,13 @@ use Rattle.multi_layout.proofs.Common.{IsItemAt, ◌≡◌, ℕ, Bool, true, ◌
 use Rattle.std.proofs.Common.{length-append}
 use Rattle.std.proofs.lemmas.List.Elements.{All-nil, All-push}
 use Rattle.multi_judge.proofs.LimitLemmas.{limited_none}
+use Rattle.multi_judge.proofs.AreaSumLemmas.{group_known}
 use Rattle.multi_layout.specs.kept.AreaReading.{EndsGroup}
-use Rattle.multi_layout.proofs.AreaReadLemmas.{present_placing, read_state}
+use Rattle.multi_layout.proofs.AreaReadLemmas.{narrow_of, present_placing, read_state}
 use Rattle.multi_layout.proofs.FilledLemmas.{state_among, area_empty, laid_empty, state_begins, counted_whole}
 use Rattle.multi_layout.proofs.KnownLinesLemmas.{counted_at_end, known_none}
 use Rattle.multi_layout.proofs.PieceLemmas.{ends_laid, first_piece, laid_front, plain_laid}
-use Rattle.multi_layout.proofs.WalkLemmas.{item_is, few_placed, fine_items, none_at_end, placed_more, spell_of-append, within}
+use Rattle.multi_layout.proofs.WalkLemmas.{item_is, fine_items, none_at_end, placed_more, spell_of-append, within}
 
 abbrev item_at : LaidItem → Item
 item_at piece = piece.item
@@ -76,10 +77,7 @@ module _ (words : Bool) {sign : SignData} (kind : sign.line_fill ≡ fill_of wor
         laid = subst (λ l. map meant (l ++ behind) ≡ laid_meanings sign (items_of (l ++ behind))) (sym all) b.laid;
         placed = subst (λ l. IsPlaced sign octets (items_of l) (items_of behind) cursor.at) (sym all) b.placed;
         read = subst (λ l. IsReadOf words sign (items_of l) kept.state.area.present kept lines) (sym all) (record {
-          fine = record {
-            none = fine;
-            few = few_placed sign octets (items_of before) (items_of behind) cursor.at b.placed;
-          };
+          none = fine;
           of = made_of kept same (made sign ms) fine words kind state;
           known = subst (λ a. HasKnown kept.state.area.present a lines) (sym no_laid) (λ just least most. empty just ∙ ap table_of (sym (known_none kept.state.area.present just [] refl)));
         });
@@ -122,7 +120,7 @@ module _ {words : Bool} {sign : SignData} {octets : List ℕ} {before behind : L
 
     -- it doesn't offend
     pub so_next : IsNextRead sign (items_of done) n.piece.item next.item
-    so_next = first_of (search (rules, few_placed, left_nil, none, placed_then, some_after-append), grind (arith, few_placed, left_nil, none, placed_then, some_after-append))
+    so_next = first_of (search (rules, left_nil, none, placed_then, some_after-append), grind (arith, left_nil, none, placed_then, some_after-append))
 
     -- the reading goes on, and not past the end
     pub so_advances : (new : ℕ) → new ≡ at + next.len → (at < new) × (new ≤ length octets)
@@ -173,8 +171,8 @@ module _ {words : Bool} {sign : SignData} {octets : List ℕ} {before behind : L
       let st = read_state sound so.read in
       let present = kept.state.area.present in
       let is = ap (λ (a : Area). a.present) st.area in
-      counted_at_end (present_area sign laid) lines' (present + 1) (omega (arith, is)) (omega (arith, is, st.below.known))
-      (known (present + 1) (omega arith) (present_area sign laid) (present_placing sign laid) st.area so.read.known)
+      counted_at_end (present_area sign laid) lines' (present + 1) (omega (arith, is)) (omega (arith, is, group_known (present_area sign laid) kept.state.area st.area))
+      (known (present + 1) (omega arith) (present_area sign laid) (present_placing sign laid) (narrow_of sign sound (items_of done) so.read.none words kept so.read.of) st.area so.read.known)
 
   -- the end of the area
   pub area_read : sign.line_fill ≡ fill_of words → (start : Cursor) (read : AreaLines) → start.at ≡ length (spell_of before) → EndsArea (map meaning (items_of so.left))

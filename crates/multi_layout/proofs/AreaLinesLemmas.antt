@@ -1,12 +1,10 @@
 -- The first reading of an area from a cursor on, which goes behind the settings before the first other item; and its runs.
-use Rattle.multi_layout.proofs.Common.{IsDrawnUpTo, is_setting, IsItemAt, ◌≡◌, ℕ, Bool, true, ◌+◌, ◌-◌, ◌<◌, ◌≤◌, false, ◌⊎◌, inl, inr, slice_get, None, length, map, List, [], ◌∷◌, ◌++◌, Some, Option, refl, sym, ap, subst, ◌∙◌, arith, append-nil, suc, ◌^◌, drop, map-append, length-drop, length-take-le, take-append-drop, All-head, All-tail, All, unwrap_or, sum_by-append, IsPlain, spelling_some, SignData, cell_in, IsSound, standing, laid_items, EndsArea, begins_area, meaning, Shows, present_area, NextItem, Pass, State, LineTable, meant_by, fill_of, IsPassReady, IsStateOf, IsReady, drop_read, read_drop, width_in, unsized_if, IsBehindCharacter, lengthened, line_in_force, behind_stays, state_beside, behind_first, cell_of_width, Cursor, AreaLines, IsReadOf, IsFirst, IsPlaced, items_of, laid_meanings, meant, LaidItem, spell_of, Layer, BitPlane, IsPageDrawn, IsAreaDrawn, spelling}
+use Rattle.multi_layout.proofs.Common.{IsDrawnUpTo, is_setting, IsItemAt, ◌≡◌, ℕ, Bool, true, ◌+◌, ◌-◌, ◌<◌, ◌≤◌, false, ◌⊎◌, inl, inr, slice_get, None, length, map, List, [], ◌∷◌, ◌++◌, Some, Option, refl, sym, ap, subst, ◌∙◌, arith, append-nil, ◌^◌, map-append, unwrap_or, IsPlain, spelling_some, SignData, cell_in, IsSound, standing, laid_items, EndsArea, begins_area, meaning, Shows, present_area, NextItem, Pass, State, LineTable, meant_by, fill_of, IsPassReady, IsStateOf, IsReady, width_in, unsized_if, IsBehindCharacter, lengthened_by, behind_stays, state_beside, cell_of_width, Cursor, AreaLines, IsReadOf, IsFirst, IsPlaced, items_of, laid_meanings, meant, LaidItem, spell_of, Layer, BitPlane, IsPageDrawn, IsAreaDrawn, spelling}
 use Rattle.std.proofs.Common.{length-append}
 use Rattle.std.proofs.lemmas.List.Elements.{All-nil}
-use Rattle.std.specs.Prelude.{slice_range}
-use Rattle.std.specs.List.{sum_by}
-use Rattle.sign_font.specs.Sound.{IsWithin}
 use Rattle.multi_meaning.proofs.StandingLemmas.{present_area-nothing, same_area}
 use Rattle.multi_judge.specs.Run.{IsRunPassed}
+use Rattle.multi_judge.proofs.RunReadLemmas.{front_taken, lengthened_more, lengthened_none}
 use Rattle.multi_judge.proofs.PlacingLemmas.{plain_passed}
 use Rattle.multi_layout.specs.kept.AreaReading.{EndsGroup, ReadsOn}
 use Rattle.multi_layout.proofs.AreaReadLemmas.{next_fine, read_state, step_stays}
@@ -136,71 +134,46 @@ in_state kept state = record kept { state = state }
 
 -- what is kept with its segment lengthened
 abbrev longer : Pass → ℕ → ℕ → Pass
-longer kept width count = in_state kept (lengthened width count kept.state)
+longer kept pixels count = in_state kept (lengthened_by pixels count kept.state)
 
 module _ {sign : SignData} (sound : IsSound sign) {octets : List ℕ} (short : length octets < 2 ^ 63) {before behind : List LaidItem} (kept : Pass) (lines : LineTable) (b : IsBehindCharacter kept.state)
-    (gap : ℕ) (gap_is : gap ≡ unwrap_or kept.state.attributes.spacing kept.state.attributes.font.char_spacing) (narrow : gap ≤ 255) where
+    (gap : ℕ) (gap_is : gap ≡ unwrap_or kept.state.attributes.spacing kept.state.attributes.font.char_spacing) where
   -- one more octet
-  octet_passed : (at width count : ℕ) → SoFar false sign octets before behind at (longer kept width count) lines → (octet : ℕ) → slice_get octets at ≡ Some octet → IsPlain octet
-      → (w : ℕ) → Some w ≡ width_in sign kept.state.attributes.font.number octet → w ≤ 64 → SoFar false sign octets before behind (at + 1) (longer kept (width + (gap + w)) (count + 1)) lines
-  octet_passed at width count so octet here plain w w_is small =
+  octet_passed : (at pixels count octet w : ℕ) → SoFar false sign octets before behind at (longer kept pixels count) lines → slice_get octets at ≡ Some octet → IsPlain octet
+      → Some w ≡ width_in sign kept.state.attributes.font.number octet → SoFar false sign octets before behind (at + 1) (longer kept (pixels + (gap + w)) (count + 1)) lines
+  octet_passed at pixels count octet w so here plain w_is =
       let n = so_read so refl (record { item = known.Char octet; len = 1 }) (octet_item octets at octet short here plain) in
       let it = so_next so n in
       let items = map meaning (items_of (before ++ so.pieces)) in
       let of = so.read.of in
       let (cell, found, is) = cell_of_width (cell_in sign kept.state.attributes.font.number octet) w w_is in
       let fine = next_fine it in
-      let behind' = behind_stays kept.state width count b in
-      let st = state_beside (lengthened width count kept.state) behind' gap gap_is cell sign items of.state_is octet found narrow (omega (arith, is, small)) (unsized_if sign.line_fill sign items (Shows octet) fine _ refl) in
-      let wide = ap (λ n. lengthened (width + (gap + n)) (count + 1) kept.state) (sym is) in
-      let new = longer kept (width + (gap + cell.width)) (count + 1) in
-      let passed = plain_passed sign items (longer kept width count) new of octet fine st (record { width = of.limited.width; height = of.limited.height }) in
-      let r = subst (λ p. IsReadOf false sign (items_of (before ++ so.pieces)) p (longer kept width count) lines) b.group so.read in
+      let state = lengthened_by pixels count kept.state in
+      let st = subst (IsStateOf sign (items ++ Shows octet ∷ [])) (lengthened_more kept.state pixels count (gap + cell.width))
+      (state_beside state (behind_stays kept.state _ _ b) gap gap_is cell sign items of.state_is octet found (unsized_if sign.line_fill sign items (Shows octet) fine _ refl)) in
+      let wide = ap (λ n. lengthened_by (pixels + (gap + n)) (count + 1) kept.state) (sym is) in
+      let new = longer kept (pixels + (gap + cell.width)) (count + 1) in
+      let passed = plain_passed sign items (longer kept pixels count) new of octet fine st (record { width = of.limited.width; height = of.limited.height }) in
+      let r = subst (λ p. IsReadOf false sign (items_of (before ++ so.pieces)) p (longer kept pixels count) lines) b.group so.read in
       let read = step_stays sound r it passed refl in
       subst (λ s. SoFar false sign octets before behind (at + 1) (in_state kept s) lines) wide (read_on so n (at + 1) refl refl new lines read)
 
-  -- a text
-  text_passed : (text rest widths : List ℕ) (at width count : ℕ) → SoFar false sign octets before behind at (longer kept width count) lines → drop at octets ≡ text ++ rest → All IsPlain text
-      → map (width_in sign kept.state.attributes.font.number) text ≡ map Some widths → All (IsWithin 1 64) widths
-      → SoFar false sign octets before behind (at + length text) (longer kept (width + sum_by (λ w. gap + w) widths) (count + length text)) lines
-  text_passed [] rest [] at width count so e plain each within =
-      let to : at + 0 ≡ at = omega arith in
-      let wider : width + 0 ≡ width = omega arith in
-      let number : count + 0 ≡ count = omega arith in
-      rw (to, wider, number) so
-  text_passed [] rest (w ∷ widths) at width count so e plain each within = absurd (cc)
-  text_passed (octet ∷ text) rest [] at width count so e plain each within = absurd (cc)
-  text_passed (octet ∷ text) rest (w ∷ widths) at width count so e plain each within =
-      let here : slice_get octets at ≡ Some octet = read_drop octets at octet (text ++ rest) e in
-      let is : Some w ≡ width_in sign kept.state.attributes.font.number octet = cc in
-      let more : map (width_in sign kept.state.attributes.font.number) text ≡ map Some widths = cc in
-      let behind' : drop (at + 1) octets ≡ text ++ rest = behind_first (sym (drop_read octets at octet here) ∙ e) in
-      let total : sum_by (λ v. gap + v) (w ∷ widths) ≡ 0 + (gap + w) + sum_by (λ v. gap + v) widths = sum_by-append (λ v. gap + v) (w ∷ []) widths in
-      let one = octet_passed at width count so octet here (All-head IsPlain octet text plain) w is (All-head (IsWithin 1 64) w widths within).1 in
-      let all = text_passed text rest widths (at + 1) (width + (gap + w)) (count + 1) one behind' (All-tail IsPlain octet text plain) more (All-tail (IsWithin 1 64) w widths within) in
-      let to : at + 1 + length text ≡ at + suc (length text) = omega arith in
-      let wider : width + (gap + w) + sum_by (λ v. gap + v) widths ≡ width + sum_by (λ v. gap + v) (w ∷ widths) = omega (arith, total) in
-      let number : count + 1 + length text ≡ count + suc (length text) = omega arith in
-      rw (← to, ← wider, ← number) all
-
 -- the characters of a run are read
-pub run_read : {sign : SignData} → IsSound sign → {octets : List ℕ} → length octets < 2 ^ 63 → {before behind : List LaidItem} (at at' : ℕ) (kept : Pass) (state' : State) (lines : LineTable) → IsBehindCharacter kept.state
-    → SoFar false sign octets before behind at kept lines → IsRunPassed sign octets at kept.state at' state' → SoFar false sign octets before behind at' (in_state kept state') lines
-run_read {sign} sound {octets} short {before} {behind} at at' kept state' lines b so p =
-    let text = slice_range octets at at' in
-    let line = line_in_force kept.state in
-    let size : length text ≡ at' - at = length-take-le (at' - at) (drop at octets) (rw (length-drop at octets) (omega (arith, p.forward, p.within))) in
-    let all = text_passed sound short kept lines b p.gap p.gap_is p.narrow text (drop (at' - at) (drop at octets)) p.width.widths at line.part.width line.part.count so (sym (take-append-drop (at' - at) (drop at octets))) p.plain p.width.each p.width.within in
-    let to : at + length text ≡ at' = omega (arith, size, p.forward) in
-    let wide : line.part.width + sum_by (λ w. p.gap + w) p.width.widths ≡ line.part.width + p.pixels = ap (λ n. line.part.width + n) (sym p.width.together) in
-    let state : lengthened (line.part.width + sum_by (λ w. p.gap + w) p.width.widths) (line.part.count + length text) kept.state ≡ state' = (λ i. lengthened (wide i) (line.part.count + size i) kept.state) ∙ sym p.is in
-    subst (λ (x : ℕ × State). SoFar false sign octets before behind x.0 (in_state kept x.1) lines) (λ i. (to i, state i)) all
+pub run_read : {sign : SignData} → IsSound sign → {octets : List ℕ} → length octets < 2 ^ 63 → {before behind : List LaidItem} (at at' pixels : ℕ) (kept : Pass) (state' : State) (lines : LineTable) → IsBehindCharacter kept.state
+    → SoFar false sign octets before behind at kept lines → IsRunPassed sign octets at pixels kept.state at' state' → SoFar false sign octets before behind at' (in_state kept state') lines
+run_read {sign} sound {octets} short {before} {behind} at at' pixels kept state' lines b so p =
+    let start = subst (λ s. SoFar false sign octets before behind at (in_state kept s) lines) (sym (lengthened_none (present_area sign (map meaning (items_of (before ++ so.pieces)))) kept.state so.read.of.state_is.area)) so in
+    let all = front_taken octets p.gap pixels (width_in sign kept.state.attributes.font.number) IsPlain (λ at pixels count. SoFar false sign octets before behind at (longer kept pixels count) lines)
+    (λ at pixels count octet wide so here plain is within fits. octet_passed sound short kept lines b p.gap p.gap_is at pixels count octet wide so here plain is)
+    at (at' - at) pixels start (omega (arith, p.forward, p.within)) p.plain p.width (omega arith) in
+    let to : at + (at' - at) ≡ at' = omega (arith, p.forward) in
+    subst (λ (x : ℕ × State). SoFar false sign octets before behind x.0 (in_state kept x.1) lines) (λ i. (to i, sym p.is i)) all
 
 -- lines aren't filled then
-pub run_gone : {words : Bool} {sign : SignData} → words ≡ false → IsSound sign → {octets : List ℕ} → length octets < 2 ^ 63 → {before behind : List LaidItem} (at at' : ℕ) (kept : Pass) (state' : State) (lines : LineTable)
-    → IsBehindCharacter kept.state → SoFar words sign octets before behind at kept lines → IsRunPassed sign octets at kept.state at' state' → SoFar words sign octets before behind at' (in_state kept state') lines
-run_gone {words} {sign} off sound {octets} short {before} {behind} at at' kept state' lines b so run =
-    subst (λ w. SoFar w sign octets before behind at' (in_state kept state') lines) (sym off) (run_read sound short at at' kept state' lines b (subst (λ w. SoFar w sign octets before behind at kept lines) off so) run)
+pub run_gone : {words : Bool} {sign : SignData} → words ≡ false → IsSound sign → {octets : List ℕ} → length octets < 2 ^ 63 → {before behind : List LaidItem} (at at' pixels : ℕ) (kept : Pass) (state' : State) (lines : LineTable)
+    → IsBehindCharacter kept.state → SoFar words sign octets before behind at kept lines → IsRunPassed sign octets at pixels kept.state at' state' → SoFar words sign octets before behind at' (in_state kept state') lines
+run_gone {words} {sign} off sound {octets} short {before} {behind} at at' pixels kept state' lines b so run =
+    subst (λ w. SoFar w sign octets before behind at' (in_state kept state') lines) (sym off) (run_read sound short at at' pixels kept state' lines b (subst (λ w. SoFar w sign octets before behind at kept lines) off so) run)
 
 -- what is ready for either kind of lines has a state that is
 pub ready_state : (words : Bool) (kept : Pass) → IsPassReady words kept → IsReady kept.state

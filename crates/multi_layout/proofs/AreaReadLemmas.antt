@@ -1,5 +1,5 @@
 -- The first reading of an area, at one more item.
-use Rattle.multi_layout.proofs.Common.{nat_tests, ◌&&◌, ◌⊎◌, inl, inr, nat_lt, ◌≡◌, ℕ, Bool, ◌*◌, ◌^◌, ◌≤◌, true, false, List, [], ◌∷◌, ◌++◌, length, map, None, refl, sym, ap, subst, ◌∙◌, arith, ◌<◌, cond, Option, Some, rules, All, map-append, Item, page_number, SignData, IsSound, Break, Spot, in_group, spots, standing, laid_item, laid_items, Does, Meaning, Shows, has_place, meaning, offence, present_area, IsPlacing, IsNarrowArea, ended_lines, offences, placing_group, laid_plain, unsized_if, length-meanings, last_fine, each_after_length, Area, Group, Pass, KnownItem, Char, LineTable, laid_area, IsNextRead, IsReadOf, meant_by, HasKnown, HasRoom, next_group, IsPassOf, IsPassReady, fill_of, IsStateOf, IsBelow, area_sum, group_of_own, below_more, ready, height_of, page_number_known, CountedLine, group_lines, line_count, line_entry}
+use Rattle.multi_layout.proofs.Common.{nat_tests, ◌&&◌, ◌⊎◌, inl, inr, nat_lt, ◌≡◌, ℕ, Bool, ◌^◌, ◌≤◌, true, false, List, [], ◌∷◌, ◌++◌, map, None, refl, sym, ap, subst, ◌∙◌, arith, ◌<◌, cond, Option, Some, rules, All, map-append, Item, page_number, SignData, IsSound, Break, Spot, in_group, spots, standing, laid_items, Does, Meaning, Shows, has_place, meaning, offence, present_area, IsPlacing, IsNarrowArea, ended_lines, offences, placing_group, laid_plain, unsized_if, last_fine, Area, Group, Pass, KnownItem, Char, LineTable, laid_area, IsNextRead, IsReadOf, meant_by, HasKnown, HasRoom, next_group, IsPassOf, IsPassReady, fill_of, IsStateOf, area_sum, group_of_own, height_of, page_number_known, CountedLine, group_lines, line_count, line_entry}
 use Rattle.multi_meaning.specs.kept.Present.{IsNarrow}
 use Rattle.multi_meaning.proofs.GroupLemmas.{area_placing}
 use Rattle.multi_meaning.proofs.RoomLemmas.{narrow_area, narrow_front, room}
@@ -10,7 +10,7 @@ use Rattle.multi_judge.specs.declared.state.State.{State}
 use Rattle.multi_layout.specs.kept.AreaReading.{EndsGroup, KnowsArea, KnowsOn}
 use Rattle.multi_judge.specs.Run.{kept_height}
 use Rattle.multi_judge.specs.Sums.{line_sum}
-use Rattle.multi_judge.proofs.ReadLemmas.{goes_on, filled_ready}
+use Rattle.multi_judge.proofs.ReadLemmas.{goes_on, pass_ready}
 use Rattle.multi_layout.proofs.FilledLemmas.{laid_narrow, laid_room}
 use Rattle.multi_judge.proofs.PlacingLemmas as steps
 use Rattle.multi_judge.proofs.RunLemmas.{kept_height_is}
@@ -21,8 +21,8 @@ use Rattle.multi_layout.proofs.KnownLinesLemmas.{entry_ended, known_pushed, know
 -- WHAT IS KEPT
 
 -- a group is at least as high as its ended lines
-closed_most : (group : Group) → group.closed ≤ kept_height group
-closed_most group = first_of (search (rules), grind (arith))
+closed_most : (group : Group) → group.closed < 2 ^ 64 → group.closed ≤ kept_height group
+closed_most group small = first_of (search (rules), grind (arith))
 
 -- what the present area has is placing items
 pub present_placing : (sign : SignData) (items : List Meaning) → All IsPlacing (present_area sign items)
@@ -33,11 +33,8 @@ pub closed_below : (spots : List Spot) (area : Area) → area ≡ area_sum spots
 closed_below spots area is placing narrow just low high own =
     let sum = group_of_own spots area is just (sym own) in
     let tall = (narrow just low high).1 in
-    let most : area.group.closed ≤ kept_height area.group = closed_most area.group in
+    let most : area.group.closed ≤ kept_height area.group = closed_most area.group (omega (arith, ap (λ (g : Group). g.closed) sum)) in
     omega (arith, most, kept_height_is (in_group just spots) area.group (placing_group just spots placing) sum, tall)
-
-ready_of : (words : Bool) (sign : SignData) (kept : Pass) (items : List Meaning) → IsPassOf words sign kept items → length items ≤ 2 ^ 32 → IsPassReady words kept
-ready_of words sign kept items of few = grind (arith, filled_ready, ready)
 
 module _ (sign : SignData) (sound : IsSound sign) (items : List Item) (none : offences sign items ≡ []) where
   -- the lines are few and narrow
@@ -60,36 +57,32 @@ module _ {words : Bool} {sign : SignData} (sound : IsSound sign) {items : List I
   pub read_state : IsStateOf sign laid kept.state
   read_state = state_of words sign kept ms r.of
 
-  -- the sums are small
+  -- it is ready for the next item
   pub read_ready : IsPassReady words kept
-  read_ready = ready_of words sign kept ms r.of (omega (arith, length-meanings items, r.fine.few))
-
-  read_below : IsBelow (2 ^ 42) kept.state.area
-  read_below = below_more (1024 * length laid) (2 ^ 42) kept.state.area (omega (arith, each_after_length (laid_item (fill_of words) sign ms) ms, length-meanings items, r.fine.few)) read_state.below
+  read_ready = pass_ready words sign kept ms r.of
 
   -- the lines are few and narrow
   pub read_lines : KnowsArea present kept.state.area lines
   read_lines = record {
-    below = read_below;
     spots = present_area sign laid;
     placing = present_placing sign laid;
     sum = read_state.area;
     known = r.known;
-    room = room_of sign sound items r.fine.none words kept r.of;
-    narrow = narrow_of sign sound items r.fine.none words kept r.of;
+    room = room_of sign sound items r.none words kept r.of;
+    narrow = narrow_of sign sound items r.none words kept r.of;
   }
 
 -- the group before the item is left, if the item belongs to a later one
-group_left : {words : Bool} {sign : SignData} {items : List Item} {kept : Pass} {lines : LineTable} → IsReadOf words sign items kept.state.area.present kept lines → (x : Meaning) (lines' : LineTable)
+group_left : {words : Bool} {sign : SignData} → IsSound sign → {items : List Item} {kept : Pass} {lines : LineTable} → IsReadOf words sign items kept.state.area.present kept lines → (x : Meaning) (lines' : LineTable)
     → KnowsOn kept.state.area (next_group kept.state x) lines lines'
     → IsReadOf words sign items (next_group kept.state x) kept lines'
-group_left {words} {sign} {items} {kept} {lines} r x lines' known =
+group_left {words} {sign} sound {items} {kept} {lines} r x lines' known =
     let ms = map meaning items in
     let laid = laid_items (fill_of words) sign ms ms in
     record {
-      fine = r.fine;
+      none = r.none;
       of = r.of;
-      known = known (present_area sign laid) (present_placing sign laid) (state_of words sign kept ms r.of).area r.known;
+      known = known (present_area sign laid) (present_placing sign laid) (narrow_of sign sound items r.none words kept r.of) (state_of words sign kept ms r.of).area r.known;
     }
 
 -- ONE MORE ITEM
@@ -97,7 +90,7 @@ group_left {words} {sign} {items} {kept} {lines} r x lines' known =
 module _ {sign : SignData} {items : List Item} {item : Item} {read : KnownItem} (next : IsNextRead sign items item read) where
   -- it doesn't offend
   pub next_fine : offence sign.line_fill sign (map meaning items) (meant_by read) ≡ None
-  next_fine = subst (λ m. offence sign.line_fill sign (map meaning items) m ≡ None) next.meant (last_fine sign items item next.fine.none).1
+  next_fine = subst (λ m. offence sign.line_fill sign (map meaning items) m ≡ None) next.meant (last_fine sign items item next.none).1
 
   pub items_with : map meaning (items ++ item ∷ []) ≡ map meaning items ++ meant_by read ∷ []
   items_with = map-append meaning items (item ∷ []) ∙ ap (λ m. map meaning items ++ m ∷ []) next.meant
@@ -116,11 +109,11 @@ next_order words sign items kept of item (known.Tag tag) next place =
     steps.order sign (laid_items (fill_of words) sign ms ms) kept.state (state_of words sign kept ms of) (Does tag) (tag_unsized words sign kept ms of tag (next_fine next)) place
 
 -- the group before the item is left, if the item belongs to a later one
-pub left_if : {words : Bool} {sign : SignData} {items : List Item} {kept : Pass} {lines : LineTable} → IsReadOf words sign items kept.state.area.present kept lines → {item : Item} {read : KnownItem} → IsNextRead sign items item read → (lines' : LineTable)
+pub left_if : {words : Bool} {sign : SignData} → IsSound sign → {items : List Item} {kept : Pass} {lines : LineTable} → IsReadOf words sign items kept.state.area.present kept lines → {item : Item} {read : KnownItem} → IsNextRead sign items item read → (lines' : LineTable)
     → (place : Bool) → place ≡ has_place (meant_by read) → (number : ℕ) → number ≡ page_number kept.state.attributes.page_just
     → (((place && nat_lt kept.state.area.present number) ≡ true) × EndsGroup kept.state.area lines lines') ⊎ (((place && nat_lt kept.state.area.present number) ≡ false) × (lines' ≡ lines))
     → IsReadOf words sign items (next_group kept.state (meant_by read)) kept lines'
-left_if {words} {sign} {items} {kept} {lines} r {item} {read} next lines' place place_is number number_is how = of place place_is how
+left_if {words} {sign} sound {items} {kept} {lines} r {item} {read} next lines' place place_is number number_is how = of place place_is how
   where
     here : (p : Bool) → p ≡ has_place (meant_by read) → next_group kept.state (meant_by read) ≡ cond p (page_number kept.state.attributes.page_just) kept.state.area.present
     here p is = ap (λ b. cond b (page_number kept.state.attributes.page_just) kept.state.area.present) (sym is)
@@ -137,7 +130,7 @@ left_if {words} {sign} {items} {kept} {lines} r {item} {read} next lines' place 
 
     of : (p : Bool) → p ≡ has_place (meant_by read) → (((p && nat_lt kept.state.area.present number) ≡ true) × EndsGroup kept.state.area lines lines') ⊎ (((p && nat_lt kept.state.area.present number) ≡ false) × (lines' ≡ lines))
         → IsReadOf words sign items (next_group kept.state (meant_by read)) kept lines'
-    of true is (inl (later, ends)) = group_left r (meant_by read) lines' (subst (λ p. KnowsOn kept.state.area p lines lines') (sym (here true is)) (ends (page_number kept.state.attributes.page_just) (less later)))
+    of true is (inl (later, ends)) = group_left sound r (meant_by read) lines' (subst (λ p. KnowsOn kept.state.area p lines lines') (sym (here true is)) (ends (page_number kept.state.attributes.page_just) (less later)))
     of true is (inr (not, same)) = stays (least not (here true is) (next_order words sign items kept r.of item read next (sym is))) same
     of false is (inl (later, ends)) = absurd (cc)
     of false is (inr (not, same)) = stays (here false is) same
@@ -191,7 +184,7 @@ module _ {words : Bool} {sign : SignData} (sound : IsSound sign) {items : List I
     high_page = omega (arith, at, page_number_known old.state.attributes.page_just)
 
     narrow_more : IsNarrowArea area_more
-    narrow_more = subst (λ l. IsNarrowArea (laid_area words sign l)) (items_with next) (narrow_of sign sound (items ++ item ∷ []) next.fine.none words new of_more)
+    narrow_more = subst (λ l. IsNarrowArea (laid_area words sign l)) (items_with next) (narrow_of sign sound (items ++ item ∷ []) next.none words new of_more)
 
     -- its group is the present one, and the groups behind have no line
     pub step_just : (2 ≤ new.state.area.present) × (new.state.area.present ≤ 4)
@@ -204,21 +197,24 @@ module _ {words : Bool} {sign : SignData} (sound : IsSound sign) {items : List I
     pub step_room : line_count lines < 128
     step_room =
         pushed_room page area area_more b.others (characters ++ own_line.1 ∷ []) lines low_page high_page own_line.5 r.known
-        (subst (λ l. HasRoom (laid_area words sign l)) (items_with next) (room_of sign sound (items ++ item ∷ []) next.fine.none words new of_more))
+        (subst (λ l. HasRoom (laid_area words sign l)) (items_with next) (room_of sign sound (items ++ item ∷ []) next.none words new of_more))
+
+    line_narrow : IsNarrow characters
+    line_narrow = narrow_front characters own_line.3.0 (subst IsNarrow own_line.3.1 (narrow_of sign sound items r.none words old r.of page low_page high_page).0)
 
     pub step_narrow : (spots : List Spot) × (line ≡ line_sum spots) × IsNarrow spots
-    step_narrow = (characters, own_line.2, narrow_front characters own_line.3.0 (subst IsNarrow own_line.3.1 (narrow_of sign sound items r.fine.none words old r.of page low_page high_page).0))
+    step_narrow = (characters, own_line.2, line_narrow)
 
     pub step_closed : new.state.area.group.closed ≤ 1024
     step_closed = closed_below area_more new.state.area new_state.area (present_placing sign (laid_items (fill_of words) sign more more)) narrow_more new.state.area.present step_just.0 step_just.1 refl
 
     -- it is put into the table
-    pub step_ended : (entry : CountedLine) (lines' : LineTable) → ((spots : List Spot) → line ≡ line_sum spots → entry ≡ line_entry spots new.state.area.group.closed)
+    pub step_ended : (entry : CountedLine) (lines' : LineTable) → ((spots : List Spot) → line ≡ line_sum spots → IsNarrow spots → entry ≡ line_entry spots new.state.area.group.closed)
         → Pushed new.state.area.present entry lines lines' → IsReadOf words sign (items ++ item ∷ []) new.state.area.present new lines'
     step_ended entry lines' made pushed =
         let group = group_of_own area_more new.state.area new_state.area page (sym b.present) in
-        let height : new.state.area.group.closed ≡ height_of (ended_lines (in_group page area_more)) = ap (λ (g : Group). g.closed) group in
+        let height : new.state.area.group.closed ≡ height_of (ended_lines (in_group page area_more)) = omega (arith, ap (λ (g : Group). g.closed) group, step_closed) in
         known_more lines'
         (known_pushed page area area_more b.others (characters ++ own_line.1 ∷ []) lines low_page high_page own_line.5 r.known entry lines'
-        (made characters own_line.2 ∙ ap (line_entry characters) height ∙ sym (entry_ended characters own_line.1 (height_of (ended_lines (in_group page area_more))) own_line.4))
+        (made characters own_line.2 line_narrow ∙ ap (line_entry characters) height ∙ sym (entry_ended characters own_line.1 (height_of (ended_lines (in_group page area_more))) own_line.4))
         (subst (λ n. Pushed n entry lines lines') b.present pushed))

@@ -1,5 +1,5 @@
 -- A character stands beside the one before it, where both have the same attributes.
-use Rattle.multi_layout.proofs.Common.{not-false, ◌*◌, ◌⊎◌, inl, inr, IsBelow, below_more, state-limits, area_of, below_more, IsBelow, state-limits, IfSome, not, spelling_some, IsBeside, CountedLine, meant_by, Option, ◌≡◌, ℕ, ◌+◌, ◌-◌, ◌^◌, ◌≤◌, Bool, true, false, cond, ◌==◌, List, [], ◌∷◌, ◌++◌, length, take, map, Some, None, refl, sym, ap, subst, ◌∙◌, arith, append_assoc, rules, if◌then◌else◌, count_by, option_map, unwrap_or, eq-eqb, line_number, page_number, BitPlane, SignData, CellData, cell_in, cell_numbered, Place, Glyph, Put, Spot, Standing, group_of, in_area, in_group, is_break, is_glyph, lines_of, segment, spots, standing, glyph_width, height_of, width_of, Meaning, Shows, unsized_offence, place_of, standing_push, Attributes, Cursor, NextItem, Layer, State, AreaLines, HasCounted, IsAreaDrawn, IsNextDrawn, IsRunDrawn, StandsAt, IsBetween, meant, IsBehindCharacter, lengthened, line_in_force, IsStateOf, PlacesCharacter, attributes_of, area_sum, group_lines, unsized-undefined, state_beside}
+use Rattle.multi_layout.proofs.Common.{not-false, ◌*◌, ◌⊎◌, inl, inr, state-limits, area_of, state-limits, IfSome, not, spelling_some, IsBeside, CountedLine, meant_by, Option, ◌≡◌, ℕ, ◌+◌, ◌-◌, ◌^◌, ◌<◌, ◌≤◌, Bool, true, false, cond, ◌==◌, List, [], ◌∷◌, ◌++◌, length, take, map, Some, None, refl, sym, ap, subst, ◌∙◌, arith, append_assoc, rules, if◌then◌else◌, count_by, option_map, unwrap_or, eq-eqb, line_number, page_number, BitPlane, SignData, CellData, cell_in, cell_numbered, Place, Glyph, Put, Spot, Standing, group_of, in_area, in_group, is_break, is_glyph, lines_of, segment, spots, standing, glyph_width, height_of, width_of, Meaning, Shows, unsized_offence, place_of, standing_push, Attributes, Cursor, NextItem, Layer, State, AreaLines, HasCounted, IsAreaDrawn, IsNextDrawn, IsRunDrawn, StandsAt, IsBetween, meant, IsBehindCharacter, lengthened_by, IsStateOf, PlacesCharacter, attributes_of, area_sum, group_lines, unsized-undefined, state_beside}
 use Rattle.multi_meaning.specs.Offence.{conflicts}
 use Rattle.multi_judge.specs.Adding.{AddsCharacter, character_of}
 use Rattle.multi_judge.proofs.LimitLemmas.{behind_added}
@@ -20,7 +20,7 @@ use Rattle.multi_layout.proofs.AreaDrawLemmas.{area_more}
 use Rattle.multi_layout.proofs.DrawLemmas.{glyph_found, stands_at}
 use Rattle.multi_judge.proofs.LineSumLemmas.{present_push}
 use Rattle.multi_judge.proofs.RunLemmas.{behind_stays, average_same}
-use Rattle.multi_layout.proofs.WalkLemmas.{few_between, between_more, map_split, never_offends}
+use Rattle.multi_layout.proofs.WalkLemmas.{between_more, map_split, never_offends}
 
 -- a value that is only there on a full line
 not_full : (b : Bool) (n : ℕ) → b ≡ false → cond b n 0 ≡ 0
@@ -166,7 +166,7 @@ module _ {sign : SignData} {octets : List ℕ} {layer : Layer} {page : ℕ} {rea
       pub state_is : IsStateOf sign (items ++ Shows number ∷ []) new
       pub character : IsBehindCharacter new
       pub stands : StandsAt sign items number (map meant n.rest) place
-      pub low : place.column ≤ 2 ^ 62 + 510 * cursor.at
+      pub low : place.column < 2 ^ 33 + 510 * cursor.at
 
     module _ {new : State} (a : IsAdded new) where
       adds : AddsCharacter cursor.state a.width new
@@ -176,12 +176,9 @@ module _ {sign : SignData} {octets : List ℕ} {layer : Layer} {page : ℕ} {rea
       state_added =
           let st = n.up_to.between.state_is in
           state-limits sign (items ++ Shows number ∷ []) cursor.state new adds.same
-          (character-accepted sign items cursor.state st number cell found (character_of cursor.state.attributes a.width) refl refl a.wide refl new.area adds.sum (adds.grows (1024 * length items) st.below) fine)
+          (character-accepted sign items cursor.state st number cell found (character_of cursor.state.attributes a.width) refl refl a.wide refl new.area adds.sum fine)
 
-      pub low_added : IsBelow (2 ^ 43) new.area
-      low_added = below_more (1024 * length items + 1024) (2 ^ 43) new.area (omega (arith, few_between sign octets n.before (n.item ∷ n.rest) cursor n.up_to.between)) (adds.grows (1024 * length items) n.up_to.between.state_is.below)
-
-      added_put : {lines : List CountedLine} → lines ≡ group_lines (page_number new.attributes.page_just) read.lines → {place : Place} → PlacesCharacter new.attributes new.area lines a.width place → place.column ≤ 2 ^ 62 → IsPut place new
+      added_put : {lines : List CountedLine} → lines ≡ group_lines (page_number new.attributes.page_just) read.lines → {place : Place} → PlacesCharacter new.attributes new.area lines a.width place → place.column < 2 ^ 33 → IsPut place new
       added_put {lines} lines_is {place} placed low =
           let counted = subst (λ (ms : List Meaning). HasCounted (in_area (standing sign items).area (spots sign ms)) read.lines) (map_split n.before n.rest n.item (Shows number) shows) n.left.counted in
           let same : new.attributes ≡ cursor.state.attributes = ap (λ (s : State). s.attributes) adds.same in
@@ -196,16 +193,16 @@ module _ {sign : SignData} {octets : List ℕ} {layer : Layer} {page : ℕ} {rea
     -- beside the one before it, or by the lines of its area
     abbrev pub IsPutSo : Place → State → Type 0
     IsPutSo place new =
-        ((beside ≡ Some place) × (new ≡ lengthened ((line_in_force cursor.state).part.width + advance) ((line_in_force cursor.state).part.count + 1) cursor.state))
-        ⊎ ((a : IsAdded new) × (lines : List CountedLine) × (lines ≡ group_lines (page_number new.attributes.page_just) read.lines) × PlacesCharacter new.attributes new.area lines a.width place × (place.column ≤ 2 ^ 62))
+        ((beside ≡ Some place) × (new ≡ lengthened_by advance 1 cursor.state))
+        ⊎ ((a : IsAdded new) × (lines : List CountedLine) × (lines ≡ group_lines (page_number new.attributes.page_just) read.lines) × PlacesCharacter new.attributes new.area lines a.width place × (place.column < 2 ^ 33))
 
     is_put : {place : Place} {new : State} → IsPutSo place new → IsPut place new
     is_put {place} {new} (inl (given, is)) =
         let b : IsBeside sign n.before (n.item ∷ n.rest) cursor place = subst (λ o. IfSome o (IsBeside sign n.before (n.item ∷ n.rest) cursor)) given n.stands in
         let longer : gap + cell.width ≡ advance = omega (arith, advance_is) in
         subst (IsPut place) (sym is) (record {
-          state_is = subst (λ k. IsStateOf sign (items ++ Shows number ∷ []) (lengthened ((line_in_force cursor.state).part.width + k) ((line_in_force cursor.state).part.count + 1) cursor.state)) longer
-              (state_beside cursor.state b.character gap gap_is cell sign items n.up_to.between.state_is number found narrow small fine);
+          state_is = subst (λ k. IsStateOf sign (items ++ Shows number ∷ []) (lengthened_by k 1 cursor.state)) longer
+              (state_beside cursor.state b.character gap gap_is cell sign items n.up_to.between.state_is number found fine);
           character = behind_stays cursor.state _ _ b.character;
           stands = λ c numbered. sym (subst (λ ms. NextStandsAt sign items ms place) (map_split n.before n.rest n.item (Shows number) shows) b.stands (record { at = standing sign items; put = Glyph c }) refl refl);
           low = b.low;

@@ -12,7 +12,7 @@ pub use Rattle.std.specs.Option.{unwrap_or, option_map}
 pub use Rattle.std.specs.Prelude.{IfSome, if◌then◌else◌, nat_lt}
 pub use Rattle.multi_judge.proofs.AreaSumLemmas.{group_of_own}
 pub use Rattle.multi_judge.proofs.FilledStateLemmas.{pages_at, same_times}
-pub use Rattle.multi_judge.proofs.JudgedLemmas.{pages_of-push, below_more, ready, unsized-undefined, state-limits}
+pub use Rattle.multi_judge.proofs.JudgedLemmas.{pages_of-push, ready, unsized-undefined, state-limits}
 pub use Rattle.multi_judge.proofs.PlaceLemmas.{open_entry}
 pub use Rattle.multi_judge.proofs.ReadLemmas.{at_end}
 pub use Rattle.multi_judge.proofs.RunLemmas.{behind_stays, state_beside}
@@ -23,9 +23,9 @@ pub use Rattle.multi_judge.specs.KnownItem.{ends_line, is_setting, meant_by}
 pub use Rattle.multi_judge.specs.PassState.{IsPassOf, fill_of, IsPassReady}
 pub use Rattle.multi_judge.specs.Passed.{laid_area, next_group}
 pub use Rattle.multi_judge.specs.Placing.{PlacesCharacter, TellsEnd}
-pub use Rattle.multi_judge.specs.Run.{IsBehindCharacter, lengthened, line_in_force}
+pub use Rattle.multi_judge.specs.Run.{IsBehindCharacter, lengthened_by, line_in_force}
 pub use Rattle.multi_judge.specs.State.{IsStateOf, IsReady, attributes_of}
-pub use Rattle.multi_judge.specs.Sums.{area_sum, IsBelow, group_sum}
+pub use Rattle.multi_judge.specs.Sums.{area_sum, group_sum}
 pub use Rattle.multi_judge.specs.Table.{group_lines, table_of, line_count, line_entry}
 pub use Rattle.multi_judge.specs.declared.area.Area.{Area}
 pub use Rattle.multi_judge.specs.declared.area.Group.{Group}

@@ -1,5 +1,5 @@
 -- What is drawn of one more item, and the steps over the plane that it takes.
-use Rattle.multi_layout.proofs.Common.{◌≡◌, ℕ, ◌+◌, ◌*◌, ◌^◌, ◌<◌, ◌≤◌, Bool, false, cond, ◌==◌, ◌⊎◌, List, [], ◌∷◌, ◌++◌, length, map, Option, Some, None, refl, sym, ap, subst, ◌∙◌, arith, ◌-◌, ◌&&◌, rules, nat_lt, unwrap_or, option_map, length-append, spelling, tag_of, Tag, Back, BitPlane, is_lit, Defaults, SignData, FontData, cell_in, largest, tallest, CellData, cell_numbered, Standing, standing, put_at, spots, Break, Glyph, Spot, group_of, in_group, lines_of, is_break, in_area, Meaning, Does, Shows, begins_area, is_new_page, meaning, has_colour, shown_colour, is_lit_at, covered_same, eq-eqb, same_page_behind, present_area-placing, Cursor, Layer, State, Attributes, HasCounted, IsDrawnTo, IsFilledBy, IsStateOf, IsBelow, area_sum, IsBetween, meant, LaidItem, below_more, count_by, filter-append, page_number, Place, place_of, present_area, unsized_offence, page_number_known, Area, LineTable, StandsAt, PlacesCharacter, group_lines, table_of}
+use Rattle.multi_layout.proofs.Common.{◌≡◌, ℕ, ◌+◌, ◌<◌, ◌≤◌, Bool, false, cond, ◌==◌, ◌⊎◌, List, [], ◌∷◌, ◌++◌, length, map, Option, Some, None, refl, sym, ap, ◌∙◌, arith, ◌-◌, ◌&&◌, rules, nat_lt, unwrap_or, option_map, length-append, spelling, tag_of, Tag, Back, BitPlane, is_lit, Defaults, SignData, FontData, cell_in, largest, tallest, CellData, cell_numbered, Standing, standing, put_at, spots, Break, Glyph, Spot, group_of, in_group, lines_of, in_area, Meaning, Does, Shows, begins_area, is_new_page, meaning, has_colour, shown_colour, is_lit_at, covered_same, eq-eqb, same_page_behind, present_area-placing, Layer, State, Attributes, HasCounted, IsDrawnTo, IsFilledBy, IsStateOf, area_sum, filter-append, page_number, Place, place_of, present_area, unsized_offence, page_number_known, Area, LineTable, StandsAt, PlacesCharacter, group_lines, table_of}
 use Rattle.std.proofs.Common.{max, Result}
 use Rattle.std.specs.Prelude.{find, nat_le}
 use Rattle.std.specs.Str.{str_to_ascii_lowercase}
@@ -20,10 +20,8 @@ use Rattle.multi_meaning.proofs.ItemAtLemmas.{does_tag}
 use Rattle.multi_meaning.proofs.StandingLemmas.{area_with_glyph}
 use Rattle.multi_layout.specs.kept.AreaDrawing.{IsCountedBy}
 use Rattle.multi_judge.proofs.JudgedLemmas.{cell_of_font, shown_free}
-use Rattle.multi_layout.proofs.WalkLemmas.{few_between}
 use Rattle.std.specs.List.{filter}
 use Rattle.multi_judge.proofs.AreaSumLemmas.{no_back, no_clash}
-use Rattle.multi_judge.proofs.PlaceLemmas.{line_is_there}
 
 -- A CHARACTER ON A PLANE
 
@@ -63,11 +61,10 @@ module _ (sign : SignData) (before : List Meaning) (state : State) (st : IsState
         ap (in_group (page_number at.page_just)) split
         ∙ filter-append (λ (t : Spot). page_number t.at.page_just == page_number at.page_just) (in_area at.area (spots sign before)) (spot ∷ more)
         ∙ ap (λ l. group_of spot (spots sign before) ++ l) own in
-        let there = line_is_there (group_of spot (spots sign before)) (in_group (page_number at.page_just) more) spot in
-        placed (spots sign before) (spots sign (before ++ Shows number ∷ rest)) spot refl st.attributes (ap (λ (z : cells.SizedCell). z.width) is)
+        placed (spots sign before) (spots sign (before ++ Shows number ∷ rest)) (in_group (page_number at.page_just) more) spot refl st.attributes (ap (λ (z : cells.SizedCell). z.width) is)
         (with ∙ ap area_sum (present_area-placing sign before (Shows number) (Glyph cell) refl (ap (option_map Glyph) numbered) refl))
         (counted (page_number state.attributes.page_just) known.0 known.1 ∙ ap (λ n. table_of (lines_of (in_group n (in_area at.area (spots sign (before ++ Shows number ∷ rest)))))) page)
-        (subst (λ g. count_by is_break (group_of spot (spots sign before)) < length (lines_of g)) (sym group) there)
+        group
         (no_clash (spots sign before) spot (page_number at.page_just) refl refl (shown_free sign before number cell numbered fine))
         (no_back (spots sign before) spot (page_number state.attributes.page_just) _ (sym page) refl (shown_free sign before number cell numbered fine))
 
@@ -161,6 +158,3 @@ no_page tag plain = grind (arith)
 -- no more than a row for each row of a font
 pub rows_few : (sign : SignData) {old new : BitPlane} {rows : ℕ} (octets : ℕ) → 1 ≤ octets → rows ≤ tallest sign → IsCountedBy old new rows → IsFilledBy sign old new octets
 rows_few sign octets some tall k = first_of (search (rules, le-mul_of_pos_right), grind (arith, le-mul_of_pos_right))
-
-pub low_between : (sign : SignData) (octets : List ℕ) (before behind : List LaidItem) (cursor : Cursor) → IsBetween sign octets before behind cursor → IsBelow (2 ^ 42) cursor.state.area
-low_between sign octets before behind cursor b = below_more (1024 * length (map meant before)) (2 ^ 42) cursor.state.area (omega (arith, few_between sign octets before behind cursor b)) b.state_is.below

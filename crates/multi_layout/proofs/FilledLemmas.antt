@@ -1,5 +1,5 @@
 -- What a character of an accepted string is laid out as: itself, or the end of its line, by the table of its area's lines.
-use Rattle.multi_layout.proofs.Common.{pages_of, ended_times, NextItem, Tag, Char, IsItemRead, IsRead, Off, meant_by, Cursor, ◌≡◌, ℕ, ◌≤◌, Bool, true, false, cond, ◌&&◌, ◌||◌, ◌==◌, inl, inr, ◌⊎◌, List, [], ◌∷◌, ◌++◌, map, Option, Some, None, refl, sym, ap, subst, ◌∙◌, not, append-nil, rules, arith, ◌+◌, length, append_assoc, All, after_last, option_map, eq-eqb, map-append, length-append, filter-append, NewLine, page_number, LineFill, SignData, CellData, cell_numbered, IsSound, Break, Glyph, Put, Spot, in_area, in_group, is_break, is_glyph, lines_of, put_at, spots, standing, Standing, laid_spot, too_big, laid_item, laid_of, laid_items, glyph_width, Does, Meaning, begins_area, Shows, has_place, meaning, Faulty, EndsArea, unsized_offence, first_code, offence, present_area, IsPlacing, IsNarrowArea, offends_as_laid, are_laid, laid_tag, present_area-placing, offence-faulty, standing_push, last_fine, area_ends, push_ind, each_after_length, each_after_push, page_number_known, Attributes, LineTable, TellsEnd, group_lines, table_of, Item, Tag, Words, offences, Pass, IsFilledOf, pages_at, same_times, State, IsStateOf, Cursor, HasCounted, whole_area, HasRoom, IsBetween, LaidItem, items_of, meant}
+use Rattle.multi_layout.proofs.Common.{pages_of, ended_times, NextItem, Tag, Char, IsItemRead, IsRead, Off, meant_by, Cursor, ◌≡◌, ℕ, ◌≤◌, Bool, true, false, cond, ◌&&◌, ◌||◌, ◌==◌, inl, inr, ◌⊎◌, List, [], ◌∷◌, ◌++◌, map, Option, Some, None, refl, sym, ap, subst, ◌∙◌, not, append-nil, rules, arith, ◌+◌, length, append_assoc, All, after_last, option_map, eq-eqb, map-append, length-append, filter-append, NewLine, page_number, LineFill, SignData, CellData, cell_numbered, IsSound, Break, Glyph, Put, Spot, in_area, in_group, is_break, is_glyph, lines_of, put_at, spots, standing, Standing, laid_spot, too_big, laid_item, laid_of, laid_items, glyph_width, Does, Meaning, begins_area, Shows, has_place, meaning, Faulty, EndsArea, unsized_offence, first_code, offence, present_area, IsPlacing, IsNarrowArea, offends_as_laid, are_laid, laid_tag, present_area-placing, offence-faulty, standing_push, last_fine, area_ends, push_ind, each_after_push, page_number_known, Attributes, LineTable, TellsEnd, group_lines, table_of, Item, Tag, Words, offences, Pass, IsFilledOf, pages_at, same_times, State, IsStateOf, Cursor, HasCounted, whole_area, HasRoom, IsBetween, LaidItem, items_of, meant}
 use Rattle.std.proofs.lemmas.List.Elements.{All-weaker}
 use Rattle.multi_layout.proofs.PieceLemmas.{read_tag, read_unfilled}
 use Rattle.multi_judge.specs.declared.item.KnownItem.TheVariants as known
@@ -295,9 +295,6 @@ module _ (setting : LineFill) (sign : SignData) (items rest : List Meaning) (sta
   times : ended_times sign one ≡ ended_times sign other
   times = same_times setting sign (items ++ rest) items rest refl ∙ sym (same_times setting sign items items [] (sym (append-nil items)))
 
-  long : length one ≡ length other
-  long = each_after_length (laid_item setting sign (items ++ rest)) items ∙ sym (each_after_length (laid_item setting sign items) items)
-
   pages : pages_of one ≡ pages_of other
   pages = pages_at sign one other (ap (λ (s : Standing). s.page) stands_alike)
 
@@ -305,7 +302,7 @@ module _ (setting : LineFill) (sign : SignData) (items rest : List Meaning) (sta
   none' = subst (λ l. present_area sign (laid_items setting sign l items) ≡ []) (append-nil items) (laid_empty setting sign items [] (area_empty setting sign items rest none))
 
   pub state_begins : IsStateOf sign one state → IsStateOf sign other state
-  state_begins = state_moved sign one other state stands_alike times pages (omega (arith, long)) none none'
+  state_begins = state_moved sign one other state stands_alike times pages none none'
 
   pub state_among : IsStateOf sign other state → IsStateOf sign one state
-  state_among = state_moved sign other one state (sym stands_alike) (sym times) (sym pages) (omega (arith, long)) none' none
+  state_among = state_moved sign other one state (sym stands_alike) (sym times) (sym pages) none' none

@@ -184,5 +184,5 @@ module _ (sign : SignData) (octets : List ℕ) (before behind : List Item) (curs
         orderly = subst (IsOrderly sign) (sym (ap (map meant) whole ∙ (pieces_are sign (before ++ behind)).1)) orderly;
         state_is = subst (λ l. IsStateOf sign l cursor.state) (sym means)
             (settled_at sign ms laid cursor.state here (same_times sign.line_fill sign all ms (map meaning behind) split) (pages_at sign laid ms (ap (λ (s : Standing). s.page) here))
-            (omega (arith, each_after_length (laid_item sign.line_fill sign all) ms)) begins (laid_begins_page ms begins) p.state_is);
+            begins (laid_begins_page ms begins) p.state_is);
       }

@@ -1,6 +1,6 @@
 -- The next item of an accepted string.
 use Rattle.multi_layout.specs.kept.Cursors.{PassesTag}
-use Rattle.multi_layout.proofs.Common.{◌≡◌, ℕ, IsRead, true, false, ◌+◌, ◌^◌, ◌<◌, ◌≤◌, inl, inr, List, [], ◌∷◌, ◌++◌, length, drop, take, map, slice_get, Some, None, refl, sym, ap, subst, ◌∙◌, arith, append_assoc, append-nil, rules, Bool, cond, not, suc, All, length-append, map-append, All-head, All-tail, filter-append, Counted, RisesBetween, charged, Token, IsPlain, Item, spelling, spell, item_of, single_token, spelling_some, rises_then, Off, SignData, each_after, laid_item, Faulty, Meaning, meaning, BeginsPage, Does, has_place, is_new_page, offence, unsized_offence, offence_by, fault_at, offences, pages_of, IsFaultAt, IsItemAt, IsOrderly, offence-faulty, standing_push, present_area-new, length-meanings, each_after-append, each_after_length, left_nil, push_ind, some_after-append, NextItem, IsReady, IsStateOf, meant_by, ready, below_more, pages_of-push, NewPage, LineFill, Standing, spots, standing, present_area, ended_times, State, Shows, Cursor, IsBetween, IsFirst, IsPlaced, LaidItem, items_of, laid_meanings, meant, spell_of, IsItemRead, IsPassing, unplaced}
+use Rattle.multi_layout.proofs.Common.{◌≡◌, ℕ, IsRead, true, false, ◌+◌, ◌^◌, ◌<◌, ◌≤◌, inl, inr, List, [], ◌∷◌, ◌++◌, length, drop, take, map, slice_get, Some, None, refl, sym, ap, subst, ◌∙◌, arith, append_assoc, append-nil, rules, Bool, cond, not, suc, All, length-append, map-append, All-head, All-tail, filter-append, Counted, RisesBetween, charged, Token, IsPlain, Item, spelling, spell, item_of, single_token, spelling_some, rises_then, Off, SignData, each_after, laid_item, Faulty, Meaning, meaning, BeginsPage, Does, has_place, is_new_page, offence, unsized_offence, offence_by, fault_at, offences, pages_of, IsFaultAt, IsItemAt, IsOrderly, offence-faulty, standing_push, present_area-new, length-meanings, each_after-append, each_after_length, left_nil, push_ind, some_after-append, NextItem, IsReady, IsStateOf, meant_by, ready, pages_of-push, NewPage, LineFill, Standing, spots, standing, present_area, ended_times, State, Shows, Cursor, IsBetween, IsFirst, IsPlaced, LaidItem, items_of, laid_meanings, meant, spell_of, IsItemRead, IsPassing, unplaced}
 use Rattle.std.specs.List.{cons_option}
 use Rattle.sign_font.specs.Sign.{font_numbered}
 use Rattle.std.proofs.Math.Seq.{drop-append_seam, take-append_seam}
@@ -24,11 +24,6 @@ All-right P (x ∷ xs) ys h = All-right P xs ys (All-tail P x (xs ++ ys) h)
 pub spell-append : (xs ys : List Item) → spell (xs ++ ys) ≡ spell xs ++ spell ys
 spell-append xs ys = flat_map-append spelling xs ys
 
--- items are no more than their octets
-pub few : (items : List Item) → length items ≤ length (spell items)
-few [] = omega arith
-few (x ∷ items) = omega (arith, few items, spelling_some x, length-append (spelling x) (spell items))
-
 module _ (sign : SignData) (octets : List ℕ) (before behind : List Item) (at : ℕ) (p : IsPlaced sign octets before behind at) where
   -- what stands from the offset on
   pub ahead : drop at octets ≡ spell behind
@@ -39,10 +34,6 @@ module _ (sign : SignData) (octets : List ℕ) (before behind : List Item) (at :
 
   pub within : at ≤ length octets
   within = omega (arith, p.place, total)
-
-  -- the items so far are few
-  pub few_placed : length before ≤ 2 ^ 32
-  few_placed = omega (arith, few before, total, p.accepted.short)
 
   -- at the end there is no item
   pub none_at_end : at ≡ length octets → behind ≡ []
@@ -160,13 +151,9 @@ few_pieces [] = refl
 few_pieces (p ∷ pieces) = ap (λ n. Prim.Native.Nat.suc n) (few_pieces pieces)
 
 module _ (sign : SignData) (octets : List ℕ) (before behind : List LaidItem) (cursor : Cursor) (b : IsBetween sign octets before behind cursor) where
-  -- the items so far are few
-  pub few_between : length (map meant before) ≤ 2 ^ 32
-  few_between = omega (arith, few_placed sign octets (items_of before) (items_of behind) cursor.at b.placed, few_pieces before)
-
-  -- the state is small enough
+  -- the times are within their bound
   pub ready_between : IsReady cursor.state
-  ready_between = ready sign (map meant before) cursor.state b.state_is few_between
+  ready_between = ready sign (map meant before) cursor.state b.state_is
 
   pub within_between : cursor.at ≤ length octets
   within_between = within sign octets (items_of before) (items_of behind) cursor.at b.placed
@@ -221,8 +208,8 @@ laid_here sign before rest piece laid =
 
 -- where the present area is empty, the state is that of all items with these pages, times and values in force
 pub state_moved : (sign : SignData) (one other : List Meaning) (state : State) → standing sign one ≡ standing sign other → ended_times sign one ≡ ended_times sign other → pages_of one ≡ pages_of other
-    → length one ≤ length other → present_area sign one ≡ [] → present_area sign other ≡ [] → IsStateOf sign one state → IsStateOf sign other state
-state_moved sign one other state here times pages long none none' st = first_of (search (rules, below_more), grind (arith, below_more))
+    → present_area sign one ≡ [] → present_area sign other ≡ [] → IsStateOf sign one state → IsStateOf sign other state
+state_moved sign one other state here times pages none none' st = first_of (search (rules), grind (arith))
 
 -- ONE MORE ITEM
 
@@ -258,28 +245,24 @@ module _ (sign : SignData) where
   offends_unplaced setting ms (Does NewPage) e = grind (arith, same_unplaced ms)
   offends_unplaced setting ms x e = grind (arith)
 
-  few_unplaced : (ms : List Meaning) → length (unplaced ms) ≤ length ms
-  few_unplaced = push_ind (λ ms. length (unplaced ms) ≤ length ms) (omega arith) (λ ms x ih. grind (arith, unplaced_stays, unplaced_grows, length-append))
-
   -- where a page begins, the state is that of all
   empty : (ms : List Meaning) → BeginsPage ms → (present_area sign ms ≡ []) × BeginsPage (unplaced ms)
   unfolding spots
   empty ms begins = grind (arith, present_area-new, unplaced_grows)
 
-  pub settled_at : (ms laid : List Meaning) (state : State) → standing sign laid ≡ standing sign ms → ended_times sign laid ≡ ended_times sign ms → pages_of laid ≡ pages_of ms → length ms ≤ length laid
+  pub settled_at : (ms laid : List Meaning) (state : State) → standing sign laid ≡ standing sign ms → ended_times sign laid ≡ ended_times sign ms → pages_of laid ≡ pages_of ms
       → BeginsPage ms → BeginsPage laid → IsStateOf sign (unplaced ms) state → IsStateOf sign laid state
-  settled_at ms laid state here' times' pages' long begins begins' =
+  settled_at ms laid state here' times' pages' begins begins' =
       let (here, times, pages) = same_unplaced ms in
       state_moved sign (unplaced ms) laid state (here ∙ sym here') (times ∙ sym times') (pages ∙ sym pages')
-      (omega (arith, few_unplaced ms, long)) (empty (unplaced ms) (empty ms begins).1).0 (empty laid begins').0
+      (empty (unplaced ms) (empty ms begins).1).0 (empty laid begins').0
 
 -- THE WAY
 
--- the state is small enough
+-- the times are within their bound
 pub ready_there : {sign : SignData} {octets : List ℕ} {before behind : List Item} {cursor : Cursor} → IsPassing sign octets before behind cursor → IsReady cursor.state
 ready_there {sign} {octets} {before} {behind} {cursor} p =
     ready sign (unplaced (map meaning before)) cursor.state p.state_is
-    (omega (arith, few_unplaced sign (map meaning before), length-meanings before, few_placed sign octets before behind cursor.at p.placed))
 
 module _ {sign : SignData} {octets : List ℕ} {before rest : List Item} {item : Item} {cursor : Cursor} (p : IsPassing sign octets before (item ∷ rest) cursor) {next : NextItem} (read : IsItemRead item next) where
   pub fine_passing : has_place (meant_by next.item) ≡ false → unsized_offence sign (unplaced (map meaning before)) (meant_by next.item) ≡ None

@@ -22,7 +22,6 @@ pub use Rattle.multi_judge.specs.Passed.{next_group}
 pub use Rattle.multi_judge.specs.PassState.{fill_of, IsPassOf}
 pub use Rattle.multi_judge.specs.Run.{IsBehindCharacter}
 pub use Rattle.multi_judge.specs.State.{IsReady, IsStateOf, IsLimited}
-pub use Rattle.multi_judge.specs.Sums.{IsBelow}
 pub use Rattle.multi_judge.specs.Table.{group_lines}
 pub use Rattle.multi_judge.specs.declared.item.KnownItem.TheVariants.{Char}
 pub use Rattle.multi_judge.specs.Judging.{IsAt}

@@ -1,5 +1,5 @@
 -- The first reading of an area, for the table of its lines (own).
-use Rattle.std.specs.Prelude.{◌≡◌, ℕ, ◌-◌, ◌*◌, ◌^◌, ◌<◌, ◌≤◌, Bool, List, [], ◌∷◌, ◌++◌, map, length, Option, None, Some}
+use Rattle.std.specs.Prelude.{◌≡◌, ℕ, ◌-◌, ◌*◌, ◌<◌, Bool, List, [], ◌∷◌, ◌++◌, map, Option, None, Some}
 use Rattle.std.specs.List.{All}
 use Rattle.multi_token.specs.Spelling.{Item}
 use Rattle.sign_font.specs.Sign.{SignData}
@@ -16,23 +16,17 @@ use Rattle.multi_judge.specs.KnownItem.{meant_by}
 use Rattle.multi_judge.specs.Passed.{laid_area}
 use Rattle.multi_layout.specs.kept.AreaDrawing.{HasKnown, HasRoom}
 use Rattle.multi_judge.specs.PassState.{IsPassOf}
-use Rattle.multi_judge.specs.Sums.{IsBelow, area_sum}
-
--- some items of which none offends, and which a string can have (own)
-pub record AreFine (sign : SignData) (items : List Item) : Type 0 where
-  pub none : offences sign items ≡ []
-  pub few : length items ≤ 2 ^ 32
+use Rattle.multi_judge.specs.Sums.{area_sum}
 
 -- this is kept of the items of an accepted string, and the table has the lines of their area, as it is laid out, that are known
 -- when items go on in this group (own)
 pub record IsReadOf (words : Bool) (sign : SignData) (items : List Item) (present : ℕ) (kept : Pass) (lines : LineTable) : Type 0 where
-  pub fine : AreFine sign items
+  pub none : offences sign items ≡ []
   pub of : IsPassOf words sign kept (map meaning items)
   pub known : HasKnown present (laid_area words sign (map meaning items)) lines
 
 -- the sums are those of placing items that fit, and the table has their lines that are known when items go on in this group (own)
 pub record KnowsArea (present : ℕ) (area : Area) (lines : LineTable) : Type 0 where
-  pub below : IsBelow (2 ^ 42) area
   pub spots : List Spot
   pub placing : All IsPlacing spots
   pub sum : area ≡ area_sum spots
@@ -43,7 +37,8 @@ pub record KnowsArea (present : ℕ) (area : Area) (lines : LineTable) : Type 0 
 -- where the old table had the lines that are known in the present group, the new one has those that are known in this group (own)
 abbrev pub KnowsOn : Area → ℕ → LineTable → LineTable → Type 0
 KnowsOn area present old new =
-    (spots : List Spot) → All IsPlacing spots → area ≡ area_sum spots → HasKnown area.present spots old → HasKnown present spots new
+    (spots : List Spot) → All IsPlacing spots → IsNarrowArea spots → area ≡ area_sum spots → HasKnown area.present spots old
+    → HasKnown present spots new
 
 -- so the new one has in any group behind the present one, which ends (own)
 abbrev pub EndsGroup : Area → LineTable → LineTable → Type 0
@@ -52,7 +47,7 @@ EndsGroup area old new = (present : ℕ) → area.present < present → KnowsOn 
 -- this is read of one more item, and none offends with it (own)
 pub record IsNextRead (sign : SignData) (items : List Item) (item : Item) (read : KnownItem) : Type 0 where
   pub meant : meaning item ≡ meant_by read
-  pub fine : AreFine sign (items ++ item ∷ [])
+  pub none : offences sign (items ++ item ∷ []) ≡ []
 
 -- with one more item, of which this is read, these become of what is kept when items go on in this group (own)
 abbrev pub ReadsOn : Bool → SignData → ℕ → KnownItem → Pass → LineTable → Pass → LineTable → Type 0

@@ -1,5 +1,5 @@
 -- The drawing of an area's items, of which a character is put beside the one before it (own).
-use Rattle.std.specs.Prelude.{◌≡◌, ◌≢◌, ℕ, ◌+◌, ◌*◌, ◌^◌, ◌≤◌, true, false, List, ◌∷◌, ◌++◌, map, Option, Some, IfSome}
+use Rattle.std.specs.Prelude.{◌≡◌, ◌≢◌, ℕ, ◌+◌, ◌*◌, ◌^◌, ◌<◌, true, false, List, ◌∷◌, ◌++◌, map, Option, Some, IfSome}
 use Rattle.multi_tag.specs.declared.just.LineJust.TheVariants.{Full}
 use Rattle.page_plane.specs.Plane.{BitPlane}
 use Rattle.sign_font.specs.Cell.{SizedCell}
@@ -29,7 +29,7 @@ pub record IsBeside (sign : SignData) (before behind : List LaidItem) (cursor : 
   pub stands : NextStandsAt sign (map meant before) (map meant (before ++ behind)) place
   pub character : IsBehindCharacter cursor.state
   pub apart : cursor.state.attributes.line_just ≢ Full
-  pub low : place.column ≤ 2 ^ 62 + 510 * cursor.at
+  pub low : place.column < 2 ^ 33 + 510 * cursor.at
 
 -- a page is drawn as far as the cursor before an item of an area that was read, and this is read of the item; this is the place beside the
 -- character before it, if known (own)

@@ -1,5 +1,5 @@
-use Rattle.multi_judge.proofs.Lemmas.{◌≡◌, false, true, rectangle, Attributes, judged-rectangle, state-rectangle, ◌+◌, ◌<◌, ◌≤◌, arith, rules, lt-ltb, le-ltb, SignData, judged-page, state-page, None, Option, Some, cond, ℕ, not, ap, refl, sym, ◌∙◌, le-leb, lt-leb, spots, standing, judged-simple, simple_of, break_judged, line_end, page_here, placed_conflict, spot_of}
-use Rattle.multi_judge.proofs.Common.{cases_Bool, is_inside}
+use Rattle.multi_judge.proofs.Lemmas.{◌≡◌, false, true, rectangle, Attributes, judged-rectangle, state-rectangle, ◌+◌, ◌<◌, ◌≤◌, arith, rules, lt-ltb, le-ltb, SignData, judged-page, state-page, None, Option, Some, cond, ℕ, not, subst, ap, refl, sym, ◌∙◌, le-leb, lt-leb, spots, standing, judged-simple, simple_of, break_judged, line_end, page_here, placed_conflict, spot_of}
+use Rattle.multi_judge.proofs.Common.{cases_Bool, is_inside, IsSmall}
 use Rattle.multi_judge.proofs.judge.judge_tag.Goals as goal
 
 pub returns-then-not-put_break-clause-judged : goal.returns-then-not-put_break-clause-judged
@@ -30,7 +30,7 @@ returns-in_default-clause-judged c = λ items st held.
     let sign = c.args.sign.now in
     let simple = simple_of c.args.tag c.in_default.not-NewPage c.in_default.not-NewLine c.in_default.not-Font c.in_default.not-Rect in
     let after = c.set.ensures.set (standing sign items) st.attributes simple in
-    judged-simple sign items c.args.state.now st c.set.new.self c.args.tag simple after
+    judged-simple sign items c.args.state.now st c.set.new.self c.args.tag simple after c.set.ensures.rectangle
 
 pub returns-then-state-max_pages-clause-judged : goal.returns-then-state-max_pages-clause-judged
 returns-then-state-max_pages-clause-judged c = λ items st held.
@@ -42,7 +42,7 @@ returns-else-state-max_pages-clause-judged c = λ items st held.
     let room : c.args.state.now.pages + 1 ≤ c.args.sign.now.max_pages = omega (arith, c.max_pages.ensures.max_pages, ap (λ (s : SignData). s.max_pages) c.sign.view_is) in
     rw c.in-NewPage.is (
       judged-page c.args.sign.now items c.args.state.now st ∙ ap (λ b. cond {A = Option ℕ} b (Some 12) None) (le-ltb c.args.sign.now.max_pages (c.args.state.now.pages + 1) room),
-      state-page c.args.sign.now items c.args.state.now st _ refl (omega (arith, c.from.ensures, c.from-in-NewPage.ensures)) (rw c.whole_sign-state.ensures refl) (search rules) (omega arith) (omega arith),
+      state-page c.args.sign.now items c.args.state.now st _ refl (omega (arith, c.from.ensures, c.from-in-NewPage.ensures)) (rw c.whole_sign-state.ensures.is refl) (search rules) (omega arith) (omega arith) (subst IsSmall c.whole_sign-state.ensures.is c.whole_sign-state.ensures.small),
     )
 
 pub returns-in_default-rectangle-clause-judged : goal.returns-in_default-rectangle-clause-judged
@@ -61,5 +61,5 @@ returns-in-Some-clause-judged c = λ items st held.
     let is : c.in-Some.inside ≡ rectangle sign x y w h = search (rules, cases_Bool) in
     rw c.in-Rect.is (
       judged-rectangle sign items c.args.state.now st x y w h ∙ ap (λ b. cond {A = Option ℕ} b None (Some 4)) inside,
-      state-rectangle sign items c.args.state.now _ x y w h st refl refl (rw is (ap (λ (a : Attributes). let b : Attributes = record a { rectangle = rectangle sign x y w h } in b) st.attributes)) (search rules),
+      state-rectangle sign items c.args.state.now _ x y w h st refl refl (rw is (ap (λ (a : Attributes). let b : Attributes = record a { rectangle = rectangle sign x y w h } in b) st.attributes)) (search rules) (search (rules, c.rectangle.ensures.small)),
     )

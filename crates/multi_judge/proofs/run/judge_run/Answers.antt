@@ -1,12 +1,15 @@
-use Rattle.multi_judge.proofs.Lemmas.{◌<◌, ◌^◌, ◌≡◌, ◌==◌, ℕ, ◌+◌, ◌-◌, List, length, refl, ap, sym, subst, ◌∙◌, arith, rules, Some, Option, Bool, true, false, not, Counted, charged, State, Pass, ReadSoFar, IsUnfilledOf, IsBehind, IsPassOf, front_read, TakesSpace, IsFilledReady, IsAt, IsInText, filled_ready_here, option_eq, nat_eq}
+use Rattle.multi_judge.proofs.Lemmas.{is_false, is_true, ◌≡◌, ◌==◌, ℕ, ◌+◌, ◌-◌, List, length, refl, ap, sym, subst, ◌∙◌, arith, rules, Some, Option, Bool, true, false, not, Counted, charged, State, Pass, ReadSoFar, IsUnfilledOf, IsBehind, IsPassOf, front_read, TakesSpace, IsAt, IsInText, option_eq, nat_eq}
 use Rattle.multi_judge.proofs.Common.{slice_get_within}
-use Rattle.multi_judge.proofs.TextLemmas.{gone_along, taken_word, with_look, without_look, word_ended, word_ready, word_spaced, words}
+use Rattle.multi_judge.proofs.TextLemmas.{gone_along, taken_word, with_look, without_look, word_ended, word_spaced, words}
 use Rattle.multi_judge.proofs.run.judge_run.Goals as goal
 use Rattle.multi_judge.proofs.run.judge_run.Goals.{then-ne-via-then-ne, then-ne-via-else-ne+then-not-take_space}
 
 -- what doesn't differ from a space is one
 found_space : (next : Option ℕ) (differs : Bool) → differs ≡ not (option_eq nat_eq next (Some 32)) → differs ≡ false → next ≡ Some 32
 found_space next differs is none = grind arith
+
+pub go_along-run-requires-clause-character : goal.go_along-run-requires-clause-character
+go_along-run-requires-clause-character g c = c.requires.character.behind (is_false g.row.WORDS c.if-not-this.true)
 
 pub returns-then-not-this-clause-at : goal.returns-then-not-this-clause-at
 returns-then-not-this-clause-at g c =
@@ -21,7 +24,7 @@ returns-then-not-this-clause-at g c =
     let to = at + c.go_along-run.result.len in
     let (run, narrow) = p.run c.requires.character.within in
     let here : at + (to - at) ≡ to = omega (arith, p.forward) in
-    let front = front_read sign xs at state r (omega (arith, c.requires.short)) p.gap run (to - at) p.pixels (omega (arith, p.forward, p.within)) p.plain p.width narrow in
+    let front = front_read sign xs at state r (omega (arith, c.requires.short)) p.gap run (to - at) c.go_along-run.result.width (omega (arith, p.forward, p.within)) p.plain p.width narrow in
     let k = c.go_along-run.ensures.steps in
     let rises : c.go_along-run.new.source.steps ≡ (charged c.args.source.now k.0).steps = ap (λ (s : Counted). s.steps) k.3 in
     let new : Pass = record c.args.pass.now { state = c.go_along-run.new.self } in
@@ -48,36 +51,15 @@ loop-pass-init g c =
       refl,
     )
 
-pub go_along-word-requires-clause-small : goal.go_along-word-requires-clause-small
-go_along-word-requires-clause-small g c =
-    let (text, further, same) = c.loop-pass.invariant in
-    let short : length c.loop-pass.source.octets < 2 ^ 32 = omega (arith, ap length same, c.requires.short) in
-    ((filled_ready_here c.args.sign.now c.loop-pass.source.octets c.loop-pass.at c.loop-pass.pass text.behind.so_far short).state, short)
-
-pub take-requires-clause-parts : goal.take-requires-clause-parts
-take-requires-clause-parts g c =
-    let (text, further, same) = c.loop-pass.invariant in
-    (filled_ready_here c.args.sign.now c.loop-pass.source.octets c.loop-pass.at c.loop-pass.pass text.behind.so_far (omega (arith, ap length same, c.requires.short))).split
-
-pub take_space-requires : goal.take_space-requires
-take_space-requires g c =
-    let (text, further, same) = c.loop-pass.invariant in
-    let front = c.go_along-word.ensures in
-    let len = c.go_along-word.result.len in
-    let p = front.run c.args.sign.now text.widths in
-    let w = words c.loop-pass.pass len c.go_along-word.result.width p front.pixels text same c.requires.short (front.word refl) in
-    let kept = taken_word c.loop-pass.pass len (gone_along c.loop-pass.pass len c.go_along-word.result.width p front.pixels) c.take.ensures text.gap_is c.from.ensures in
-    record { ready = subst IsFilledReady (sym kept) (word_ready w) }
-
 pub returns-then-ne-clause-at : goal.returns-then-ne-clause-at
 returns-then-ne-clause-at g c =
+    let filled = is_true g.row.WORDS c.if-not-this.false in
     let (text, further, same) = c.loop-pass.invariant in
     let front = c.go_along-word.ensures in
     let len = c.go_along-word.result.len in
     let p = front.run c.args.sign.now text.widths in
-    let w = words c.loop-pass.pass len c.go_along-word.result.width p front.pixels text same c.requires.short (front.word refl) in
-    let kept = taken_word c.loop-pass.pass len (gone_along c.loop-pass.pass len c.go_along-word.result.width p front.pixels) c.take.ensures text.gap_is c.from.ensures in
-    let filled : not (g.row.WORDS == 0) ≡ true = search rules in
+    let w = words c.loop-pass.pass len c.go_along-word.result.width p text same c.requires.short (front.word refl) in
+    let kept = taken_word c.loop-pass.pass len (gone_along c.loop-pass.pass len c.go_along-word.result.width p) c.take.ensures text.gap_is c.from.ensures in
     subst (λ (x : List ℕ × Bool). IsAt c.args.sign.now x.0 (c.loop-pass.at + len) c.go_along-word.result.next (IsPassOf x.1 c.args.sign.now c.then-ne.pass) c.then-ne.source) (λ i. (same i, sym filled i)) (elim c.then-ne.branch [
       | then-ne-via-then-ne v ↦
           word_ended w c.then-ne.source (without_look c.loop-pass.source c.go_along-word.new.source c.then-ne.source len front.steps v.source-is) c.go_along-word.result.next front.next c.then-ne.pass (v.pass-is ∙ kept)
@@ -92,8 +74,8 @@ loop-pass-preserved g c =
     let front = c.go_along-word.ensures in
     let len = c.go_along-word.result.len in
     let p = front.run c.args.sign.now text.widths in
-    let w = words c.loop-pass.pass len c.go_along-word.result.width p front.pixels text same c.requires.short (front.word refl) in
-    let kept = taken_word c.loop-pass.pass len (gone_along c.loop-pass.pass len c.go_along-word.result.width p front.pixels) c.take.ensures text.gap_is c.from.ensures in
+    let w = words c.loop-pass.pass len c.go_along-word.result.width p text same c.requires.short (front.word refl) in
+    let kept = taken_word c.loop-pass.pass len (gone_along c.loop-pass.pass len c.go_along-word.result.width p) c.take.ensures text.gap_is c.from.ensures in
     let (width, space) = c.take_space.ensures.taken c.if-not-take_space.false in
     let next = sym front.next ∙ found_space c.go_along-word.result.next c.ne.result c.ne.ensures c.if-ne.false in
     let text' = word_spaced w c.take_space.new.source (with_look c.loop-pass.source c.go_along-word.new.source c.take_space.new.source len front.steps c.take_space.ensures.step) next

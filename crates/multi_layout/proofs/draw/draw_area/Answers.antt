@@ -1,6 +1,5 @@
-use Rattle.multi_layout.proofs.Common.{refl, false, NextItem, ◌^◌, inl, inr, below_more, rules, ◌≡◌, ◌+◌, ◌-◌, ◌≤◌, slice_get, sym, ap, ◌∙◌, subst, arith, IsFilledBy, ◌*◌, RisesBetween, item_steps}
+use Rattle.multi_layout.proofs.Common.{refl, false, NextItem, inl, inr, rules, ◌≡◌, ◌+◌, ◌-◌, ◌≤◌, slice_get, sym, ap, ◌∙◌, subst, arith, IsFilledBy, ◌*◌, RisesBetween, item_steps}
 use Rattle.multi_layout.proofs.AreaDrawLemmas.{next_read, run_in, run_ends, filled_longer, filled_none, filled_then, octet_stands}
-use Rattle.multi_layout.proofs.DrawLemmas.{low_between}
 use Rattle.multi_layout.proofs.FilledLemmas.{LaysNext, laid_as_end, lays_next}
 use Rattle.multi_layout.proofs.WalkLemmas.{steps_of, same_octets, steps_then, steps_within}
 use Rattle.multi_layout.specs.kept.AreaDrawing.{ReadsArea}
@@ -37,12 +36,6 @@ read_item-next-requires-clause-within c =
     let same = same_octets c.read.ensures.step ∙ same_octets c.loop-cursor.invariant.steps.3 in
     let now = (run_in same (c.loop-cursor.invariant.drawn page d)).so in
     (c.args.sign.now, _, _, now.up_to.between.placed)
-
-pub is_full-requires : goal.is_full-requires
-is_full-requires c =
-    let (page, d) = c.requires.begins in
-    let now = (c.loop-cursor.invariant.drawn page d).so in
-    record { below = below_more (2 ^ 42) (2 ^ 43) c.loop-cursor.cursor.state.area (omega arith) (low_between c.args.sign.now c.args.source.now.octets now.before now.behind _ now.up_to.between) }
 
 pub draw_item-beside-requires-clause-known : goal.draw_item-beside-requires-clause-known
 draw_item-beside-requires-clause-known c =

@@ -1,9 +1,9 @@
-use Rattle.multi_layout.proofs.Common.{inr, inl, ◌≡◌, ◌+◌, Back, standing, shown_colour, plane_octets, ◌==◌, ◌/◌, ◌*◌, refl, ◌∷◌, map, Some, sym, ap, ◌∙◌, arith, unwrap_or, spelling_some, cell_in, Does, begins_area, has_place, meant_by, meant}
+use Rattle.multi_layout.proofs.Common.{inr, inl, ◌≡◌, ◌+◌, ◌<◌, ◌^◌, subst, IfSome, IsBeside, Back, standing, shown_colour, plane_octets, ◌==◌, ◌/◌, ◌*◌, refl, ◌∷◌, map, Some, sym, ap, ◌∙◌, arith, unwrap_or, spelling_some, cell_in, Does, begins_area, has_place, meant_by, meant}
 use Rattle.multi_layout.proofs.AreaDrawLemmas.{run_ends, area_more, filled_longer, filled_none}
-use Rattle.multi_layout.proofs.BesideLemmas.{character_drawn, has_cell, low_added, drawn_beside}
-use Rattle.multi_layout.proofs.DrawLemmas.{cell_height, cover_drawn, four_octets, low_between, no_page, quiet_put, rows_few, same_drawn}
+use Rattle.multi_layout.proofs.BesideLemmas.{character_drawn, has_cell, drawn_beside}
+use Rattle.multi_layout.proofs.DrawLemmas.{cell_height, cover_drawn, four_octets, no_page, quiet_put, rows_few, same_drawn}
 use Rattle.multi_layout.proofs.PieceLemmas.{itself}
-use Rattle.multi_layout.proofs.WalkLemmas.{item_fine, item_fits, ready_between, steps_within, tag_passed}
+use Rattle.multi_layout.proofs.WalkLemmas.{item_fine, item_fits, ready_between, within_between, steps_within, tag_passed}
 use Rattle.page_plane.specs.Octets.{octet_count}
 use Rattle.multi_layout.proofs.draw.draw_item.Goals.{in-Some-beside, in-None}
 use Rattle.multi_layout.proofs.draw.draw_item.Goals as goal
@@ -11,22 +11,18 @@ use Rattle.multi_layout.proofs.draw.draw_item.Goals as goal
 pub unreachable-requires : goal.unreachable-requires
 unreachable-requires c = let (page, n) = c.requires.known in has_cell n c.in-Char.is (rw (← c.sign.view_is) (sym c.cell.ensures.cell ∙ c.in_default.is))
 
-pub lengthen-requires : goal.lengthen-requires
-lengthen-requires c =
+pub overflow_add-place : goal.overflow_add-place
+overflow_add-place c =
     let (page, n) = c.requires.known in
-    let low = low_between c.args.sign.now c.args.source.now.octets n.before (n.item ∷ n.rest) c.args.cursor.now n.up_to.between in
-    record { width = omega (arith, low.group.line.part.width, c.from.ensures, c.width-width.type_inv, c.from-in-Char.ensures, c.gap.type_inv); count = omega (arith, low.group.line.part.count) }
-
-pub put_character-requires : goal.put_character-requires
-put_character-requires c =
-    let (page, n) = c.requires.known in
-    record { ready = ready_between c.args.sign.now c.args.source.now.octets n.before (n.item ∷ n.rest) c.args.cursor.now n.up_to.between }
-
-pub place_at-place-requires : goal.place_at-place-requires
-place_at-place-requires c =
-    let (page, n) = c.requires.known in
-    let found : cell_in c.args.sign.now c.args.cursor.now.state.attributes.font.number c.in-Char.number ≡ Some c.in-Some.cell = rw (← c.sign.view_is) (sym c.cell.ensures.cell ∙ c.in-Some.is) in
-    record { below = low_added n c.in-Char.is found c.in-Some.ensures.size.0.1 (c.from-in-Char.ensures ∙ c.gap.ensures) (omega (arith, c.from-in-Char.ensures, c.gap.type_inv)) (ap (λ w. w + c.from-in-Char.result) (c.from.ensures ∙ c.width-width.ensures)) (record { width = c.width-width.result; wide = c.width-width.ensures; free = c.put_character.result; clash = c.put_character.ensures.conflicts; added = c.put_character.ensures.added }) }
+    let cursor = c.args.cursor.now in
+    let b = n.up_to.between in
+    let low : c.match-beside.place.column < 2 ^ 33 + 510 * cursor.at = elim c.match-beside.branch [
+      | in-Some-beside w ↦
+          let stands = subst (λ o. IfSome o (IsBeside c.args.sign.now n.before (n.item ∷ n.rest) cursor)) w.in-Some-beside.is n.stands in rw w.place-is stands.low
+      | in-None w ↦ rw w.place-is (omega (arith, w.place_at-place.ensures.low.0))
+    ] in
+    let within = within_between c.args.sign.now c.args.source.now.octets n.before (n.item ∷ n.rest) cursor b in
+    record { fits = omega (arith, low, within, b.placed.accepted.short, c.from.ensures, c.width-width.type_inv, c.from-in-Char.ensures, c.gap.type_inv) }
 
 pub returns-in-Full : goal.returns-in-Full
 returns-in-Full c =

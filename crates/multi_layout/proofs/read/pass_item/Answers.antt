@@ -21,7 +21,7 @@ pub of-requires : goal.of-requires
 of-requires g c =
     let (before, item, was, next) = c.requires.known in
     let (fine, of, apart, on) = c.in-Ok.ensures.judged (map meaning before) was.of in
-    let r = left_if {kept = c.args.kept.now} was next c.if-has_place-kept.lines c.has_place.result c.has_place.ensures c.number.result c.number.ensures.number (elim c.if-has_place-kept.branch [
+    let r = left_if c.requires.sound {kept = c.args.kept.now} was next c.if-has_place-kept.lines c.has_place.result c.has_place.ensures c.number.result c.number.ensures.number (elim c.if-has_place-kept.branch [
       | then-has_place-kept w ↦ inl (w.if-has_place-kept.true, rw w.lines-is w.end_group.ensures.known)
       | else-has_place-kept w ↦ inr (w.if-has_place-kept.false, w.lines-is)
     ]) in
@@ -33,7 +33,7 @@ push-requires g c =
     let (before, item, was, next) = c.requires.known in
     let (fine, of, apart, on) = c.in-Ok.ensures.judged (map meaning before) was.of in
     let b = on c.requires.plain in
-    let r = left_if {kept = c.args.kept.now} was next c.if-has_place-kept.lines c.has_place.result c.has_place.ensures c.number.result c.number.ensures.number (elim c.if-has_place-kept.branch [
+    let r = left_if c.requires.sound {kept = c.args.kept.now} was next c.if-has_place-kept.lines c.has_place.result c.has_place.ensures c.number.result c.number.ensures.number (elim c.if-has_place-kept.branch [
       | then-has_place-kept w ↦ inl (w.if-has_place-kept.true, rw w.lines-is w.end_group.ensures.known)
       | else-has_place-kept w ↦ inr (w.if-has_place-kept.false, w.lines-is)
     ]) in
@@ -43,7 +43,7 @@ push-requires g c =
 pub returns-in-Some-clause-known : goal.returns-in-Some-clause-known
 returns-in-Some-clause-known g c = λ before item was next.
     let (fine, of, apart, on) = c.in-Ok.ensures.judged (map meaning before) was.of in
-    let r = left_if {kept = c.args.kept.now} was next c.if-has_place-kept.lines c.has_place.result c.has_place.ensures c.number.result c.number.ensures.number (elim c.if-has_place-kept.branch [
+    let r = left_if c.requires.sound {kept = c.args.kept.now} was next c.if-has_place-kept.lines c.has_place.result c.has_place.ensures c.number.result c.number.ensures.number (elim c.if-has_place-kept.branch [
       | then-has_place-kept w ↦ inl (w.if-has_place-kept.true, rw w.lines-is w.end_group.ensures.known)
       | else-has_place-kept w ↦ inr (w.if-has_place-kept.false, w.lines-is)
     ]) in
@@ -53,7 +53,7 @@ returns-in-Some-clause-known g c = λ before item was next.
 pub returns-in_default-ended-clause-known : goal.returns-in_default-ended-clause-known
 returns-in_default-ended-clause-known g c = λ before item was next.
     let (fine, of, apart, on) = c.in-Ok.ensures.judged (map meaning before) was.of in
-    let r = left_if {kept = c.args.kept.now} was next c.if-has_place-kept.lines c.has_place.result c.has_place.ensures c.number.result c.number.ensures.number (elim c.if-has_place-kept.branch [
+    let r = left_if c.requires.sound {kept = c.args.kept.now} was next c.if-has_place-kept.lines c.has_place.result c.has_place.ensures c.number.result c.number.ensures.number (elim c.if-has_place-kept.branch [
       | then-has_place-kept w ↦ inl (w.if-has_place-kept.true, rw w.lines-is w.end_group.ensures.known)
       | else-has_place-kept w ↦ inr (w.if-has_place-kept.false, w.lines-is)
     ]) in

@@ -1,11 +1,10 @@
 use Rattle.multi_layout.proofs.Common.{◌==◌, not, ◌≡◌, ◌+◌, ◌-◌, ◌*◌, ◌++◌, inl, inr, length, slice_get, refl, sym, ap, subst, ◌∙◌, arith, items_of, item_steps, AreaLines, RisesBetween, false}
 use Rattle.multi_layout.proofs.AreaItemsLemmas.{so_read, placed_in, nothing_read, so_next}
-use Rattle.multi_layout.proofs.AreaLinesLemmas.{passed, goes_within, GoesOn, IsReadFrom, IsReadTo, area_begins, ends_at, ends_string, item_read, read_within, ready_state, run_gone}
-use Rattle.multi_layout.proofs.AreaReadLemmas.{read_lines, read_ready, read_state}
+use Rattle.multi_layout.proofs.AreaLinesLemmas.{passed, goes_within, GoesOn, IsReadFrom, IsReadTo, area_begins, ends_at, ends_string, item_read, read_within, run_gone}
+use Rattle.multi_layout.proofs.AreaReadLemmas.{read_lines, read_state}
 use Rattle.multi_judge.proofs.ReadLemmas.{limited_of}
 use Rattle.multi_judge.specs.Run.{IsRunPassed}
 use Rattle.sign_font.specs.Text.{AreWidthsOf}
-use Rattle.std.proofs.Common.{rules}
 use Rattle.multi_layout.proofs.WalkLemmas.{font_known, same_octets, steps_of, steps_then, steps_within}
 use Rattle.multi_layout.proofs.read.read_lines.Goals.{then-cursor-at+then-is_setting, else-cursor-at, in-Some+then-begins_area, in_default}
 use Rattle.multi_layout.proofs.read.read_lines.Goals as goal
@@ -85,13 +84,13 @@ go_along-run-requires-clause-limited g c =
     let r = item_read (i.so_far layer page plane d) (same_octets i.steps.3) c.read_item-next.result c.read_item-next.ensures.item (sym c.begins_area.ensures ∙ c.if-begins_area.false) c.pass_item.new.kept c.pass_item.new.lines c.pass_item.ensures.known in
     limited_of (not (g.row.WORDS == 0)) (ap (λ n. not (n == 0)) c.if-this-ne0.false) c.args.sign.now c.pass_item.new.kept _ r.so.read.of
 
-pub go_along-run-requires-clause-small : goal.go_along-run-requires-clause-small
-go_along-run-requires-clause-small g c =
+pub go_along-run-requires-clause-short : goal.go_along-run-requires-clause-short
+go_along-run-requires-clause-short g c =
     let i = c.loop-first.invariant in
     let (layer, page, plane, d) = c.requires.page in
     let r = item_read (i.so_far layer page plane d) (same_octets i.steps.3) c.read_item-next.result c.read_item-next.ensures.item (sym c.begins_area.ensures ∙ c.if-begins_area.false) c.pass_item.new.kept c.pass_item.new.lines c.pass_item.ensures.known in
     let octets = same_octets c.cells.ensures.step ∙ same_octets c.pass_item.ensures.steps.3 ∙ same_octets c.read_item-next.ensures.steps.3 ∙ same_octets i.steps.3 in
-    (ready_state (not (g.row.WORDS == 0)) c.pass_item.new.kept (read_ready c.requires.sound r.so.read), omega (arith, ap length octets, read_within r))
+    omega (arith, ap length octets, read_within r)
 
 pub go_along-run-requires-clause-within : goal.go_along-run-requires-clause-within
 go_along-run-requires-clause-within g c =
@@ -113,8 +112,8 @@ loop-first-preserved g c =
     let state = c.pass_item.new.kept.state in
     let along = c.go_along-run.ensures in
     let len = c.go_along-run.result.len in
-    let widths : AreWidthsOf c.args.sign.now state.attributes.font.number c.in-Some-cells.cells = search rules in
-    let run = subst (λ o. IsRunPassed c.args.sign.now o at state (at + len) c.go_along-run.new.self) octets (along.run c.args.sign.now widths) in
+    let widths : AreWidthsOf c.args.sign.now state.attributes.font.number c.in-Some-cells.cells = rw (← c.sign.view_is) c.in-Some-cells.ensures.widths in
+    let run = subst (λ o. IsRunPassed c.args.sign.now o at c.go_along-run.result.width state (at + len) c.go_along-run.new.self) octets (along.run c.args.sign.now widths) in
     let goes : GoesOn c.loop-first.cursor c.loop-first.at c.read_item-next.result c.pass_item.new.kept.state c.if-cursor-at.cursor = elim c.if-cursor-at.branch [
       | then-cursor-at+then-is_setting w ↦ inl (w.if-cursor-at.true, sym w.is_setting.ensures ∙ w.if-is_setting.true, w.cursor-is)
       | else-cursor-at w ↦ inr w.cursor-is
@@ -125,7 +124,7 @@ loop-first-preserved g c =
           let r = passed (i.so_far layer page plane d) same c.read_item-next.result c.read_item-next.ensures.item (sym c.begins_area.ensures ∙ c.if-begins_area.false) c.pass_item.new.kept c.pass_item.new.lines c.pass_item.ensures.known c.requires.sound c.requires.kind c.if-cursor-at.cursor goes in
           record {
             drawn = r.drawn;
-            so = run_gone off c.requires.sound (omega (arith, read_within r)) at (at + len) c.pass_item.new.kept c.go_along-run.new.self c.pass_item.new.lines (c.pass_item.ensures.behind is off) r.so run;
+            so = run_gone off c.requires.sound (omega (arith, read_within r)) at (at + len) c.go_along-run.result.width c.pass_item.new.kept c.go_along-run.new.self c.pass_item.new.lines (c.pass_item.ensures.behind is off) r.so run;
           };
       begins = omega (arith, i.begins, begins);
       forward = omega (arith, run.forward, forward);

@@ -1,7 +1,7 @@
-use Rattle.multi_layout.proofs.Common.{◌≡◌, ℕ, ◌-◌, ◌*◌, ◌==◌, not, List, length, map, Option, Some, sym, ap, subst, ◌∙◌, arith, Counted, RisesBetween, charged, spelling_some, item_of, charged-charged, SignData, code_of, IsFaultAt, IsItemAt, Meaning, meaning, meant_by, IsAt, IsPassOf}
+use Rattle.multi_layout.proofs.Common.{slice_get_within, ◌≡◌, ℕ, ◌-◌, ◌*◌, ◌==◌, not, List, length, map, Option, Some, sym, ap, subst, ◌∙◌, arith, Counted, RisesBetween, charged, spelling_some, item_of, charged-charged, SignData, code_of, IsFaultAt, IsItemAt, Meaning, meaning, meant_by, IsAt, IsPassOf}
 use Rattle.multi_layout.proofs.WalkLemmas.{no_bracket, steps_then, steps_within}
 use Rattle.multi_layout.proofs.AtLemmas.{fault_refused, item_behind, item_offends, octet_behind, octet_offends}
-use Rattle.multi_judge.proofs.ReadLemmas.{pass_ready_here}
+use Rattle.multi_judge.proofs.ReadLemmas.{pass_ready}
 use Rattle.multi_layout.proofs.verdict.judge_items.Goals as goal
 
 -- the octet that was read
@@ -24,7 +24,7 @@ returns-in-Err-clause-refused g c =
 
 pub judge_item-requires : goal.judge_item-requires
 judge_item-requires g c = record {
-  ready = pass_ready_here c.args.sign.now c.args.source.now.octets c.loop-next.at c.loop-next.pass (not (g.row.WORDS == 0)) c.loop-next.invariant.so_far c.requires.short;
+  ready = pass_ready (not (g.row.WORDS == 0)) c.args.sign.now c.loop-next.pass _ c.loop-next.invariant.so_far.is;
 }
 
 pub returns-in-Err-judge_item-clause-refused : goal.returns-in-Err-judge_item-clause-refused
@@ -56,7 +56,7 @@ loop-next-preserved-then-is_bracket g c =
 
 pub judge_octet-requires : goal.judge_octet-requires
 judge_octet-requires g c =
-    record { ready = pass_ready_here c.args.sign.now c.args.source.now.octets c.loop-next.at c.loop-next.pass (not (g.row.WORDS == 0)) c.loop-next.invariant.so_far c.requires.short }
+    record { ready = pass_ready (not (g.row.WORDS == 0)) c.args.sign.now c.loop-next.pass _ c.loop-next.invariant.so_far.is }
 
 pub returns-in-Err-judge_octet-clause-refused : goal.returns-in-Err-judge_octet-clause-refused
 returns-in-Err-judge_octet-clause-refused g c =
@@ -79,3 +79,10 @@ judge_run-requires-clause-behind g c =
     octet_behind sign c.args.source.now.octets l.at c.in-Some.first (IsPassOf words sign l.pass) l.source i c.requires.short
     (no_bracket c.in-Some.first (sym c.is_bracket.ensures ∙ c.if-is_bracket.false)) c.judge_octet.new.source (c.judge_octet.ensures.step ∙ ap (λ (s : Counted). charged s 1) c.cells.ensures.step ∙ charged-charged l.source 1 1)
     (IsPassOf words sign c.judge_octet.new.self) fine of
+
+pub loop-next-smaller-then-is_bracket : goal.loop-next-smaller-then-is_bracket
+loop-next-smaller-then-is_bracket g c =
+    let i = c.loop-next.invariant in
+    let inside = slice_get_within c.args.source.now.octets c.loop-next.at c.in-Some.first (sym i.octet ∙ c.in-Some.is) in
+    let (t, at, len, token, meant) = c.in-Ok.ensures.item in
+    omega (arith, inside, len, token.len, spelling_some (item_of c.loop-next.source.octets t))

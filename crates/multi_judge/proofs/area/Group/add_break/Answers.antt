@@ -1,4 +1,5 @@
-use Rattle.multi_judge.proofs.Lemmas.{◌≡◌, ◌+◌, ℕ, Some, true, refl, ap, ◌∙◌, arith, rules, cond, option_map_or, unwrap_or, average, Group, kept_height, group_break}
+use Rattle.multi_judge.proofs.Lemmas.{◌≡◌, ◌+◌, ℕ, Some, true, refl, ap, ◌∙◌, rules, cond, option_map_or, unwrap_or, average, Group, kept_height, group_break}
+use Rattle.multi_judge.proofs.Common.{counted, held}
 use Rattle.multi_judge.proofs.area.Group.add_break.Goals as goal
 use Rattle.multi_judge.proofs.area.Group.add_break.Goals.{then-not-self, else-not-self}
 
@@ -12,8 +13,8 @@ returns-clause-sum c group s placing e is =
       | else-not-self w ↦ rw (w.self-is, w.if-not-self.false) (refl, refl, refl, refl)
     ] in
     let gap = option_map_or (λ ended. unwrap_or ended.gap (average ended.spacing line.spacing)) self.last 0 in
-    let closed : c.height-self.result ≡ self.closed + (gap + line.height) = omega (arith, c.height-self.ensures.kept ∙ ap kept_height same ∙ ap {B = ℕ} (λ b. cond b (self.closed + gap + line.height) self.closed) any) in
-    let ended : ◌≡◌ {A = Group} (record { ended = c.if-not-self.self.ended + 1; closed = c.height-self.result; last = Some (record { gap = c.args.gap; spacing = line.spacing }); line = c.default-self.result })
-    (record { ended = self.ended + 1; closed = self.closed + (gap + line.height); last = Some (record { gap = c.args.gap; spacing = line.spacing }); line = c.default-self.result }) =
-    λ i. record { ended = (same i).ended + 1; closed = closed i; last = Some (record { gap = c.args.gap; spacing = line.spacing }); line = c.default-self.result } in
+    let closed : c.height-self.result ≡ held (self.closed + (gap + line.height)) = c.height-self.ensures.kept ∙ ap kept_height same ∙ ap {B = ℕ} (λ b. cond b (held (self.closed + (gap + line.height))) self.closed) any in
+    let ended : ◌≡◌ {A = Group} (record { ended = counted (c.if-not-self.self.ended + 1); closed = c.height-self.result; last = Some (record { gap = c.args.gap; spacing = line.spacing }); line = c.default-self.result })
+    (record { ended = counted (self.ended + 1); closed = held (self.closed + (gap + line.height)); last = Some (record { gap = c.args.gap; spacing = line.spacing }); line = c.default-self.result }) =
+    λ i. record { ended = counted ((same i).ended + 1); closed = closed i; last = Some (record { gap = c.args.gap; spacing = line.spacing }); line = c.default-self.result } in
     ended ∙ group_break group s c.args.gap info placing is self c.default-self.result gap line.height line.spacing e (search rules) refl height spacing

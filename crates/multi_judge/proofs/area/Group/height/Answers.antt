@@ -13,4 +13,4 @@ returns-clause-sum c group placing e =
       | in-None w ↦ rw w.in-None.is w.gap-is
     ] in
     let some : self.line.any ≡ true = search rules in
-    height_present group placing self e some c.from.result c.from-2.result (c.from.ensures ∙ gap) c.from-2.ensures
+    c.saturating_add.ensures ∙ height_present group placing self e some c.from.result c.from-2.result (c.from.ensures ∙ gap) c.from-2.ensures

@@ -1,4 +1,5 @@
-use Rattle.multi_judge.proofs.Lemmas.{character_of, ◌≡◌, ◌<◌, [], rules, nat_tests, option_map_or, unwrap_or, average, ◌≤◌, ◌||◌, max, ap, ◌∙◌, refl, arith, nat_lt, line_number, segment_sum, kept_width, in_order, segment_own, line_with, no_character, turned}
+use Rattle.multi_judge.proofs.Lemmas.{character_of, Some, ◌+◌, ◌≡◌, ◌<◌, [], rules, nat_tests, option_map_or, unwrap_or, average, ◌≤◌, ◌||◌, max, ap, ◌∙◌, refl, arith, nat_lt, line_number, segment_sum, kept_width, in_order, segment_own, line_with, no_character, turned}
+use Rattle.multi_judge.proofs.Common.{counted}
 use Rattle.multi_judge.proofs.line.Line.add.Goals as goal
 use Rattle.multi_judge.proofs.line.Line.add.Goals.{in-Some, in-None, then-just-self+in-2, then-just-self+in-3, then-just-self+in-4, then-just-self+in_default, else-just-self}
 
@@ -28,5 +29,6 @@ returns-clause-sum c line s glyphs is e none =
       | in-Some w ↦ rw w.in-Some.is (w.gap-is ∙ w.gap_or_average-gap.ensures)
       | in-None w ↦ rw w.in-None.is w.gap-is
     ] in
-    line_with line s new glyphs is old e order _ present left centre right (segment_own just line s new is refl now.part c.from.result c.from-2.result part (c.from.ensures ∙ gap) c.from-2.ensures)
+    line_with line s new glyphs is old e order _ present left centre right ((λ i. record { width = c.saturating_add-self.ensures i; count = counted (now.part.count + 1); last = Some new.font.char_spacing })
+    ∙ segment_own just line s new is refl now.part c.from.result c.from-2.result part (c.from.ensures ∙ gap) c.from-2.ensures)
     (λ i. parts i || nat_lt (is_just i) 5) (c.max-self.ensures ∙ ap (λ n. max n new.font.height) height) (c.max-self-2.ensures ∙ ap (λ n. max n new.font.line_spacing) spacing) (any ∙ c.if-not-self.false)

@@ -1,4 +1,4 @@
-use Rattle.multi_judge.proofs.Lemmas.{refl, character_of, rules, ◌^◌, page_number_known, ap, arith, sym, ◌∙◌, LineFill, cell_in, Shows, offence, filled_conflict, cell_below, cell_of_width, cell_put, clash_by, reached_below}
+use Rattle.multi_judge.proofs.Lemmas.{refl, character_of, rules, ap, arith, sym, ◌∙◌, LineFill, cell_in, Shows, offence, filled_conflict, cell_of_width, cell_put, clash_by}
 use Rattle.multi_judge.proofs.Common.{order_of}
 use Rattle.multi_judge.proofs.PassedLemmas.{IsSplitReached}
 use Rattle.multi_judge.proofs.pass.Pass.fill_cell.Goals as goal
@@ -11,17 +11,8 @@ returns-then-page-present-clause-put c = λ sign own items is.
     ap (λ (setting : LineFill). offence setting sign items (Shows c.args.number)) is.words
     ∙ filled_conflict sign items kept is.of c.args.number cell some _ (clash_by (order_of kept.order) kept.state.attributes.line_just c.number-just.result c.number-just.ensures.number) (rw c.number-page.ensures.number at c.if-page-present.true)
 
-pub fill_character-requires-clause-below : goal.fill_character-requires-clause-below
-fill_character-requires-clause-below c =
-    (reached_below c.reach.ensures.reached (page_number_known c.args.self.now.state.attributes.page_just) (2 ^ 62) c.requires.ready.state.below).2
-
 pub returns-clause-put : goal.returns-clause-put
 returns-clause-put c = λ sign own items is.
     let parts : IsSplitReached c.args.self.now c.if-page-present-2.split = first_of (search (rules), grind (arith)) in
-    cell_put c.args.self.now _ _ _ c.reach.ensures.reached c.if-page-present-2.split parts c.fill_character.new.self c.fill_character.new.split c.fill_character.ensures.grows sign items is c.args.number c.args.cell_width own
+    cell_put c.args.self.now _ _ _ c.reach.ensures.reached c.if-page-present-2.split parts c.fill_character.new.self c.fill_character.new.split sign items is c.args.number c.args.cell_width own
     c.number-page.result c.number-just.result c.number-page.ensures.number c.number-just.ensures.number c.if-page-present.false _ c.fill_character.ensures.most c.fill_character.result (character_of c.args.self.now.state.attributes c.args.cell_width) refl c.fill_character.ensures.sum
-
-pub returns-clause-below : goal.returns-clause-below
-returns-clause-below c =
-    let parts : IsSplitReached c.args.self.now c.if-page-present-2.split = first_of (search (rules), grind (arith)) in
-    (cell_below c.args.self.now _ _ _ c.reach.ensures.reached c.if-page-present-2.split parts c.fill_character.new.self c.fill_character.new.split c.fill_character.ensures.grows (2 ^ 62) c.requires.ready.state.below c.requires.ready.split).0

@@ -1,4 +1,4 @@
-use Rattle.multi_judge.proofs.Lemmas.{◌≡◌, ◌==◌, ◌&&◌, ◌+◌, None, Option, Some, cond, ℕ, not, true, false, nat_le, refl, ap, sym, subst, ◌∙◌, ◌^◌, Ok, Err, cell_in, spots, Pass, Shows, cell_found, cell_judged, line_here, page_here, placed_conflict, plain_put, shown, spot_of, is_false, is_true, is_within, judged_unfilled, cell_of_width, IsBelow, IsPassOf, IsPassReady, JudgesCell, PutsCell}
+use Rattle.multi_judge.proofs.Lemmas.{◌≡◌, ◌==◌, ◌&&◌, None, Option, Some, cond, ℕ, not, true, false, nat_le, refl, ap, sym, subst, ◌∙◌, Ok, Err, cell_in, spots, Pass, Shows, cell_found, cell_judged, line_here, page_here, placed_conflict, plain_put, shown, spot_of, is_false, is_true, is_within, judged_unfilled, cell_of_width, IsPassOf, JudgesCell, PutsCell}
 use Rattle.std.proofs.lemmas.Result.{err_from_is_err_and}
 use Rattle.multi_meaning.specs.declared.fault.SyntaxError.TheVariants.{TagConflict}
 use Rattle.multi_judge.proofs.pass.Pass.judge_cell.Goals as goal
@@ -19,15 +19,6 @@ returns-else-put_character-clause-judged g c =
     judged_unfilled sign items (Shows c.args.number) (Err TagConflict) new of.off of.fine (c.put_character.ensures.limited of.limited) (placed_conflict sign items (shown c.args.number cell) found
     (sym (c.put_character.ensures.conflicts (spots sign items) (spot_of sign items (shown c.args.number cell)) of.state_is.area refl (page_here sign items state of.state_is) (line_here sign items state of.state_is))
     ∙ ap not c.if-put_character.false)))
-
-pub height-requires : goal.height-requires
-height-requires g c =
-    let below : IsBelow (2 ^ 62 + 1024) c.if-this-ne0.self.state.area = elim c.if-this-ne0.branch [
-      | then-this-ne0+in_ok-ended w ↦ rw w.self-is w.in_ok-ended.ensures.below
-      | else-this-ne0+then-put_character w ↦
-          rw w.self-is ((w.put_character.ensures.added w.if-put_character.true).grows (2 ^ 62) (subst (λ w. IsPassReady w c.args.self.now) (is_false g.row.WORDS w.if-this-ne0.false) c.requires.ready).below)
-    ] in
-    record { below = below.group.closed }
 
 pub returns-then-group-limits-clause-judged : goal.returns-then-group-limits-clause-judged
 returns-then-group-limits-clause-judged g c = λ sign own items of.

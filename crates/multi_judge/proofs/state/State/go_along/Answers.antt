@@ -1,6 +1,6 @@
-use Rattle.multi_judge.proofs.Lemmas.{◌≡◌, ◌+◌, ◌-◌, ◌≤◌, ℕ, drop, take, length, Option, refl, sym, ap, subst, ◌∙◌, arith, rules, true, common_steps, is_within, if◌then◌else◌, slice_range, gap_here, All, IsPlain, HasWidth, IsWithin, width_in, IfSome, lengthened, line_in_force}
+use Rattle.multi_judge.proofs.Lemmas.{◌≡◌, ◌+◌, ◌-◌, ◌≤◌, ℕ, drop, take, length, Option, refl, sym, ap, subst, ◌∙◌, arith, rules, true, common_steps, is_within, if◌then◌else◌, slice_range, gap_here, All, IsPlain, HasWidth, IsWithin, width_in, IfSome, line_in_force}
 use Rattle.std.specs.Prelude.{unwrap_or}
-use Rattle.multi_judge.proofs.Common.{IsRun}
+use Rattle.multi_judge.proofs.Common.{IsRun, counted, held, lengthened}
 use Rattle.multi_token.specs.Run.{taken}
 use Rattle.sign_font.specs.Advance.{AreAdvances, ends_run}
 use Rattle.sign_font.proofs.SoundLemmas.{width_sound}
@@ -28,9 +28,10 @@ returns-clause-run c = λ sign widths.
     let plain : All IsPlain (take len (drop at octets)) = first_of (search rules, grind (arith, common_steps)) in
     let narrow : gap_here state ≤ 255 = first_of (search rules, grind (arith, common_steps)) in
     let within : is_within state ≡ true → IsRun state (gap_here state) × ((line_in_force state).part.width + c.read_run-run.result.width ≤ state.limits.width) = first_of (search rules, grind (arith, common_steps)) in
+    let part = (line_in_force state).part in
+    let longer : part.width + c.from.result ≡ held (part.width + c.read_run-run.result.width) = first_of (search rules, grind (arith, common_steps, c.from.ensures)) in
     record {
       gap = gap_here state;
-      pixels = c.read_run-run.result.width;
       forward = omega arith;
       within = inside;
       plain = subst (All IsPlain) text plain;
@@ -38,5 +39,5 @@ returns-clause-run c = λ sign widths.
       gap_is = refl;
       narrow = narrow;
       run = within;
-      is = c.lengthen.ensures ∙ (λ i. lengthened ((line_in_force state).part.width + c.from.ensures i) ((line_in_force state).part.count + long i) state);
+      is = λ i. lengthened (longer i) (counted (part.count + long i)) state;
     }

@@ -1,12 +1,9 @@
-use Rattle.multi_judge.proofs.Lemmas.{◌^◌, refl, sym, ap, ◌∙◌, false≢true, page_number, in_group, own_group, placing_group, page_number_known, Area, group_sum, reached_below, reached_conflicts, regrouped_below, area_with}
+use Rattle.multi_judge.proofs.Lemmas.{refl, sym, ap, ◌∙◌, false≢true, page_number, in_group, own_group, placing_group, page_number_known, Area, group_sum, reached_conflicts, area_with}
 use Rattle.multi_judge.proofs.state.State.put_break.Goals as goal
 
 pub returns-then-not-reach-clause-conflicts : goal.returns-then-not-reach-clause-conflicts
 returns-then-not-reach-clause-conflicts c before s e g page =
     sym (reached_conflicts c.reach.ensures.reached (page_number_known c.args.self.now.attributes.page_just) before s e (ap page_number page) ∙ rw c.if-not-reach.true refl)
-
-pub add_break-requires : goal.add_break-requires
-add_break-requires c = record { below = (reached_below c.reach.ensures.reached (page_number_known c.args.self.now.attributes.page_just) (2 ^ 62) c.requires.ready.below).2 }
 
 pub returns-clause-conflicts : goal.returns-clause-conflicts
 returns-clause-conflicts c before s e g page =
@@ -23,7 +20,6 @@ returns-clause-added c = λ is.
           let on = goes.sum area placing e in
           area_with area s here (ap page_number page) state.area e order c.reach.new.self _ on refl refl refl
           (ended.sum (in_group here area) s (placing_group here area placing) (ap (λ (a : Area). a.group) on) own ∙ ap group_sum (sym (own_group here area s (ap page_number page))));
-      grows = λ k below. regrouped_below c.reach.ensures.reached (page_number_known state.attributes.page_just) k below c.add_break.new.self (ended.grows k);
       present = λ order. goes.present;
       none = ended.none;
       same = refl;

@@ -1,12 +1,9 @@
-use Rattle.multi_judge.proofs.Lemmas.{◌^◌, refl, sym, ap, ◌∙◌, after_last, page_number, area_of, in_group, is_break, area_placing, page_number_known, Area, PutsCharacter, character_of, lined_below, reached_below, reached_conflicts, reached_group, reached_line, regrouped_below, area_with, group_character, present_glyphs}
+use Rattle.multi_judge.proofs.Lemmas.{refl, sym, ap, ◌∙◌, after_last, page_number, area_of, in_group, is_break, area_placing, page_number_known, Area, PutsCharacter, character_of, reached_conflicts, reached_group, reached_line, area_with, group_character, present_glyphs}
 use Rattle.multi_judge.proofs.state.State.put_character.Goals as goal
 
 pub returns-then-not-reach-clause-conflicts : goal.returns-then-not-reach-clause-conflicts
 returns-then-not-reach-clause-conflicts c before s e g page just =
     sym (reached_conflicts c.reach.ensures.reached (page_number_known c.args.self.now.attributes.page_just) before s e (ap page_number page) ∙ rw c.if-not-reach.true refl)
-
-pub put-requires : goal.put-requires
-put-requires c = record { below = (reached_below c.reach.ensures.reached (page_number_known c.args.self.now.attributes.page_just) (2 ^ 62) c.requires.ready.below).2.line }
 
 pub returns-clause-conflicts : goal.returns-clause-conflicts
 returns-clause-conflicts c before s e g page just =
@@ -38,8 +35,6 @@ returns-clause-added c = λ is.
           area_with area s here (ap page_number page) state.area e order c.reach.new.self _ on refl refl refl
           (group_character here area s (ap page_number page) own.glyph c.reach.new.self.group c.put.new.self (ap (λ (a : Area). a.group) on)
           (put.sum (after_last is_break (in_group here area)) s (present_glyphs here area placing) own (ap (λ (a : Area). a.group.line) on) apart));
-      grows = λ k below. regrouped_below c.reach.ensures.reached (page_number_known state.attributes.page_just) k below (record c.reach.new.self.group { line = c.put.new.self })
-          (λ group. lined_below k c.reach.new.self.group c.put.new.self group (c.put.ensures.grows k group.line));
       behind = (goes.present, put.behind);
       same = refl;
       limited = returns-clause-limited c;

@@ -1,4 +1,4 @@
-use Rattle.multi_layout.proofs.Common.{◌≡◌, ℕ, refl, ◌*◌, [], ◌∷◌, ◌++◌, length, not, Option, Some, None, sym, ap, subst, ◌∙◌, not-false, false, false≢true, NewLine, Off, Tag, code_of, Does, Meaning, has_place, unsized_offence, meant_by, IsStateOf, state-limits}
+use Rattle.multi_layout.proofs.Common.{◌≡◌, ℕ, refl, [], ◌∷◌, ◌++◌, not, Option, Some, None, sym, ap, subst, ◌∙◌, not-false, false, false≢true, NewLine, Off, Tag, code_of, Does, Meaning, has_place, unsized_offence, meant_by, IsStateOf, state-limits}
 use Rattle.multi_meaning.proofs.StandingLemmas.{sized}
 use Rattle.multi_judge.proofs.PlacingLemmas.{break-accepted, break-free}
 use Rattle.multi_layout.proofs.cursor.Cursor.pass_tag.Goals as goal
@@ -19,7 +19,7 @@ returns-in-NewLine-clause-passed c = λ items st fine.
     let free = break-free sign items state st gap (not c.put_break.result) c.put_break.ensures.conflicts fine' in
     let added = c.put_break.ensures.added (not-false c.put_break.result free) in
     subst (λ (m : Meaning). IsStateOf sign (items ++ m ∷ []) new) (sym is)
-    (state-limits sign (items ++ Does (NewLine gap) ∷ []) state new added.same (break-accepted sign items state st gap new.area added.sum (added.grows (1024 * length items) st.below) fine'))
+    (state-limits sign (items ++ Does (NewLine gap) ∷ []) state new added.same (break-accepted sign items state st gap new.area added.sum fine'))
 
 pub unreachable-requires-in_default-judge_tag : goal.unreachable-requires-in_default-judge_tag
 unreachable-requires-in_default-judge_tag c =
