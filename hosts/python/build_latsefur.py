@@ -1,8 +1,8 @@
 """Makes the wheel of the package, with the shared library in it, and its source archive. `pip` and `python -m build` call this (PEP 517).
 
 It needs Python alone, so `pip install hosts/python` asks no registry. The library is that which LATSEFUR_LIBRARY names, or that which lies in
-the package, as it does in a source archive; else bin/latsefur-archive of the repository makes it. Both files come out bit for bit the same
-from the same sources and library, in any folder and at any time.
+the package, as it does in a source archive; else bin/latsefur-archive of the repository makes it. A file NOTICE beside this one, as bin/release
+writes it, goes into both. Both come out bit for bit the same from the same sources and library, in any folder and at any time.
 """
 import base64
 import gzip
@@ -19,7 +19,7 @@ HERE = Path(__file__).resolve().parent
 LIBRARY = "latsefur/liblatsefur.so"
 # The machine of a library, by its number in the head of the file (ELF, e_machine).
 MACHINES = {62: "x86_64", 183: "aarch64"}
-KINDS = (".py", ".typed", ".html", ".css", ".js")
+KINDS = (".py", ".typed", ".html", ".css", ".js", ".svg")
 # The earliest time that an archive can have.
 DATE = (1980, 1, 1, 0, 0, 0)
 
@@ -50,6 +50,12 @@ def sources():
     """The files of the package, by their names."""
     there = sorted(path for path in (HERE / "latsefur").rglob("*") if path.suffix in KINDS)
     return {path.relative_to(HERE).as_posix(): path.read_bytes() for path in there}
+
+
+def notice(folder):
+    """The notices that go with the library, by their name in a folder, if they are here."""
+    file = HERE / "NOTICE"
+    return {f"{folder}{file.name}": file.read_bytes()} if file.is_file() else {}
 
 
 def metadata():
@@ -90,7 +96,8 @@ def build_wheel(wheel_directory, config_settings=None, metadata_directory=None):
     machine = MACHINES.get(int.from_bytes(octets[18:20], "little"))
     if octets[:4] != b"\x7fELF" or machine is None:
         raise SystemExit("latsefur: the library is for no machine that this package is for")
-    return write_wheel(wheel_directory, {**sources(), LIBRARY: octets}, f"py3-none-linux_{machine}")
+    files = {**sources(), LIBRARY: octets, **notice(f"{named()}.dist-info/licenses/")}
+    return write_wheel(wheel_directory, files, f"py3-none-linux_{machine}")
 
 
 def build_editable(wheel_directory, config_settings=None, metadata_directory=None):
@@ -102,6 +109,7 @@ def build_sdist(sdist_directory, config_settings=None):
     """An archive of the sources with the library, which can't be built without its proofs."""
     own = ("pyproject.toml", "build_latsefur.py", "README.md")
     files = {name: (HERE / name).read_bytes() for name in own} | sources() | {LIBRARY: library(), "PKG-INFO": metadata()}
+    files |= notice("")
     files["VERSION"] = f"{project()['version']}\n".encode()
     packed = io.BytesIO()
     with tarfile.open(fileobj=packed, mode="w", format=tarfile.PAX_FORMAT) as made:

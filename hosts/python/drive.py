@@ -3,17 +3,24 @@
 
     hosts/python/drive.py PROGRAM SIGN
 """
+import contextlib
 import subprocess
 import sys
 
 
 class Pipe:
     def __init__(self, program, sign):
-        self.process = subprocess.Popen([program, "serve", "--sign", sign], stdin=subprocess.PIPE, stdout=subprocess.PIPE, text=True, bufsize=1)
+        words = [program, "serve", "--sign", sign]
+        self.process = subprocess.Popen(words, stdin=subprocess.PIPE, stdout=subprocess.PIPE, bufsize=0)
 
     def ask(self, line):
-        print(line, file=self.process.stdin)
-        return self.process.stdout.readline().rstrip("\n")
+        """The reply to a line. It ends the program if the sign has ended: it reads nothing then, and nothing is a reply."""
+        with contextlib.suppress(BrokenPipeError):
+            self.process.stdin.write(f"{line}\n".encode())
+        reply = self.process.stdout.readline()
+        if not reply.endswith(b"\n"):
+            sys.exit("drive: the sign has ended")
+        return reply.decode().rstrip("\n")
 
 
 def main():

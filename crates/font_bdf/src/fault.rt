@@ -2,11 +2,12 @@
 
 ghost use Rattle.std.specs.Prelude.{◌≡◌};
 
-use thiserror::Error;
+use std::error::Error;
+use std::fmt;
+use std::fmt::{Display, Formatter, Write};
 
 /// Why no tables are written, and the line that says so (own).
-#[derive(Clone, Copy, Debug, PartialEq, Eq, Error)]
-#[error("line {line}: {problem}")]
+#[derive(Clone, Copy, Debug, PartialEq, Eq)]
 pub struct BdfFault {
     /// The line, counted from 1. It is the last one if the font ends too soon, and 0 if the whole font was read and isn't taken. If
     /// memory was refused, it says nothing.
@@ -16,31 +17,23 @@ pub struct BdfFault {
 }
 
 /// What is wrong with a line of a font in BDF (own).
-#[derive(Clone, Copy, Debug, PartialEq, Eq, Error)]
+#[derive(Clone, Copy, Debug, PartialEq, Eq)]
 pub enum BdfProblem {
     /// The first line isn't `STARTFONT`.
-    #[error("a font in BDF begins with STARTFONT")]
     NoStart,
     /// A character begins, or the font ends, before `FONTBOUNDINGBOX`.
-    #[error("FONTBOUNDINGBOX is missing")]
     NoBox,
     /// The cells are not 1 to 64 rows high.
-    #[error("the cells are {0} rows high, and may have 1 to 64; --crop takes off rows without pixels")]
     BadHeight(i32),
     /// The cells have more rows than were asked for.
-    #[error("the cells are {0} rows high, more than --height; --crop takes off rows without pixels")]
     TooHigh(u8),
     /// Numbers are missing, or what stands there are no numbers of 1 to 9 digits.
-    #[error("numbers are missing, or aren't whole numbers")]
     BadNumbers,
     /// A character ends, or another one begins, before `BITMAP`, or within a bitmap that isn't taken.
-    #[error("BITMAP or ENDCHAR is missing")]
     NoBitmap,
     /// `ENCODING`, `DWIDTH` or `BBX` is missing before the bitmap.
-    #[error("ENCODING, DWIDTH or BBX is missing before BITMAP")]
     NoNumbers,
     /// The cell of a character is not 1 to 64 columns wide.
-    #[error("character {character}: the cell is {width} columns wide, and may have 1 to 64; --outside skip leaves it out")]
     BadWidth {
         /// The character's number.
         character: u16,
@@ -48,17 +41,12 @@ pub enum BdfProblem {
         width: i64,
     },
     /// The box of a character has more than 255 columns or rows.
-    #[error("the box of a character may have 0 to 255 columns and rows")]
     BadBox,
     /// A row of a bitmap isn't the hexadecimal digits of its box; there may be too few rows.
-    #[error("a row of this box has {0} hexadecimal digits")]
     BadRow(usize),
     /// The bitmap has more rows than its box.
-    #[error("the bitmap has more rows than its box, or ENDCHAR is missing")]
     BadRows,
     /// A pixel is lit outside the cell.
-    #[error("character {character}: a pixel is lit outside the cell: column {column}, row {row}, counted from 0; \
-        the cell has {width} by {height}; --outside widen makes columns for it, crop leaves the pixel out, skip the character")]
     Outside {
         /// The character's number.
         character: u16,
@@ -72,24 +60,112 @@ pub enum BdfProblem {
         height: u8,
     },
     /// The character is there already.
-    #[error("character {0} is there already")]
     Twice(u16),
     /// There are more than 255 characters.
-    #[error("{0} characters, and a font of a sign has at most 255; --characters chooses, as in --characters A-Z,0-9,32")]
     TooMany(usize),
     /// No character is taken.
-    #[error("none of these characters is taken; --characters chooses")]
     NoCharacter,
     /// The font has no end.
-    #[error("ENDFONT is missing")]
     NoEndOfFont,
     /// No sign takes the font: its number is 0.
-    #[error("no sign takes a font of this number")]
     NotTaken,
     /// Memory was refused.
-    #[error("out of memory")]
     Memory,
 }
+
+/// What is said of a pixel outside its cell.
+const OUTSIDE: &str =
+    "character @: a pixel is lit outside the cell: column @, row @, counted from 0; \
+    the cell has @ by @; --outside widen makes columns for it, crop leaves the pixel out, skip the character";
+
+/// What is said of too many characters.
+const TOO_MANY: &str =
+    "@ characters, and a font of a sign has at most 255; --characters chooses, as in --characters A-Z,0-9,32";
+
+/// How many there are, as a number.
+fn count_of(count: usize) -> i64 {
+    i64::try_from(count).unwrap_or(i64::MAX)
+}
+
+impl BdfProblem {
+    /// What is said of it, with a mark `@` for each of its numbers.
+    fn sentence(self) -> &'static str {
+        match self {
+            BdfProblem::NoStart => "a font in BDF begins with STARTFONT",
+            BdfProblem::NoBox => "FONTBOUNDINGBOX is missing",
+            BdfProblem::BadHeight(_) =>
+                "the cells are @ rows high, and may have 1 to 64; --crop takes off rows without pixels",
+            BdfProblem::TooHigh(_) =>
+                "the cells are @ rows high, more than --height; --crop takes off rows without pixels",
+            BdfProblem::BadNumbers => "numbers are missing, or aren't whole numbers",
+            BdfProblem::NoBitmap => "BITMAP or ENDCHAR is missing",
+            BdfProblem::NoNumbers => "ENCODING, DWIDTH or BBX is missing before BITMAP",
+            BdfProblem::BadWidth { .. } =>
+                "character @: the cell is @ columns wide, and may have 1 to 64; --outside skip leaves it out",
+            BdfProblem::BadBox => "the box of a character may have 0 to 255 columns and rows",
+            BdfProblem::BadRow(_) => "a row of this box has @ hexadecimal digits",
+            BdfProblem::BadRows => "the bitmap has more rows than its box, or ENDCHAR is missing",
+            BdfProblem::Outside { .. } => OUTSIDE,
+            BdfProblem::Twice(_) => "character @ is there already",
+            BdfProblem::TooMany(_) => TOO_MANY,
+            BdfProblem::NoCharacter => "none of these characters is taken; --characters chooses",
+            BdfProblem::NoEndOfFont => "ENDFONT is missing",
+            BdfProblem::NotTaken => "no sign takes a font of this number",
+            BdfProblem::Memory => "out of memory",
+        }
+    }
+
+    /// Its numbers, in the order of the marks.
+    fn numbers(self) -> [i64; 5] {
+        match self {
+            BdfProblem::BadHeight(rows) => [i64::from(rows), 0, 0, 0, 0],
+            BdfProblem::TooHigh(rows) => [i64::from(rows), 0, 0, 0, 0],
+            BdfProblem::BadWidth { character, width } => [i64::from(character), width, 0, 0, 0],
+            BdfProblem::BadRow(digits) => [count_of(digits), 0, 0, 0, 0],
+            BdfProblem::Outside {
+                character,
+                column,
+                row,
+                width,
+                height,
+            } => [
+                i64::from(character),
+                column,
+                row,
+                i64::from(width),
+                i64::from(height),
+            ],
+            BdfProblem::Twice(character) => [i64::from(character), 0, 0, 0, 0],
+            BdfProblem::TooMany(count) => [count_of(count), 0, 0, 0, 0],
+            _ => [0; 5],
+        }
+    }
+}
+
+// A derive would write each sentence piece by piece, which takes long to prove.
+impl Display for BdfProblem {
+    fn fmt<W: Write>(&self, f: &mut Formatter<W>) -> fmt::Result {
+        let numbers = self.numbers();
+        for (place, words) in self.sentence().split('@').enumerate() {
+            if place > 0 {
+                let number = numbers.get(place - 1).copied().unwrap_or(0);
+                write!(f, "{number}")?;
+            }
+            f.write_str(words)?;
+        }
+        Ok(())
+    }
+}
+
+impl Error for BdfProblem {}
+
+impl Display for BdfFault {
+    fn fmt<W: Write>(&self, f: &mut Formatter<W>) -> fmt::Result {
+        write!(f, "line {}: {}", self.line, self.problem)
+    }
+}
+
+impl Error for BdfFault {}
 
 /// What is wrong with the line at a place among lines, of which the first is the line `first` of the font.
 pub(crate) fn fault_at(first: usize, place: usize, problem: BdfProblem) -> BdfFault

@@ -6,7 +6,7 @@ ghost use Rattle.font_bdf.specs.Chosen.{chosen, has, is_chosen, spacing_of};
 use crate::numbers::within;
 
 /// What is done with a character that doesn't fit its cell: it lights a pixel outside, or its cell isn't 1 to 64 columns wide (own).
-#[derive(Clone, Copy, Debug, PartialEq, Eq)]
+#[derive(Clone, Copy)]
 pub enum Outside {
     /// The font isn't taken.
     Refuse,
@@ -20,7 +20,7 @@ pub enum Outside {
 }
 
 /// Characters from a lowest to a highest (own).
-#[derive(Clone, Copy, Debug, PartialEq, Eq)]
+#[derive(Clone, Copy)]
 pub struct CharacterRange {
     /// The lowest number.
     pub first: u16,
@@ -29,7 +29,7 @@ pub struct CharacterRange {
 }
 
 /// What a sign file says of a font and BDF doesn't, and what is taken of the font (own).
-#[derive(Clone, Copy, Debug, PartialEq, Eq)]
+#[derive(Clone, Copy)]
 pub struct FontSetting<'a> {
     /// The font's number: 1 to 255.
     pub number: u8,

@@ -48,7 +48,7 @@ pub(crate) fn not_fitting(
 ) -> Result<Vec<u16>, AllocError> {
     let mut numbers = Vec::new(alloc);
     let all_fit = setting.char_spacing.is_none() && font.char_spacing == 1;
-    if all_fit || setting.outside == Outside::Refuse {
+    if all_fit || matches!(setting.outside, Outside::Refuse) {
         return Ok(numbers);
     }
     let cells = fitting_cells(alloc, octets, setting, font)?;

@@ -22,60 +22,56 @@ const FRONT: &str =
     "width = 1024\nheight = 128\nscheme = 'classic'\nmax_pages = 1\nslots = 1\nbytes = 0\nmax_string = 1\n\
     [defaults]\nfont = 1\nline = 3\npage = 3\npage_on = 0\npage_off = 0\nflash_on = 0\nflash_off = 0\nfore = 1\nback = 0\n";
 
-/// Appends a number in decimal.
-fn push_number(text: &mut Vec<u8>, number: u64) -> Result<(), AllocError> {
-    text.extend_from_slice(Buffer::new().format(number).as_bytes())
+/// What stands at a mark of a text.
+#[derive(Clone, Copy)]
+enum Part<'a> {
+    /// A number in decimal.
+    Number(u16),
+    /// These octets.
+    Octets(&'a [u8]),
 }
 
-/// Appends a line of a key and its number.
-fn push_key(text: &mut Vec<u8>, key: &str, number: u64) -> Result<(), AllocError> {
-    text.extend_from_slice(key.as_bytes())?;
-    text.extend_from_slice(b" = ")?;
-    push_number(text, number)?;
-    text.extend_from_slice(b"\n")
+/// Appends a part.
+fn push_part(text: &mut Vec<u8>, part: Part<'_>) -> Result<(), AllocError> {
+    match part {
+        Part::Number(number) => text.extend_from_slice(Buffer::new().format(number).as_bytes()),
+        Part::Octets(octets) => text.extend_from_slice(octets),
+    }
 }
 
-/// Appends octets in hexadecimal.
-fn push_hex(text: &mut Vec<u8>, octets: &[u8]) -> Result<(), AllocError> {
-    for octet in octets {
-        let mut pair = [0; 2];
-        let Ok(()) = hex::encode_to_slice([*octet], &mut pair) else {
-            unreachable!();
-        };
-        text.extend_from_slice(&pair)?;
+/// Appends a text, with these parts in the place of its marks `@`.
+fn push_parts(text: &mut Vec<u8>, marked: &[u8], parts: &[Part<'_>]) -> Result<(), AllocError> {
+    for (place, octets) in marked.split(|octet| *octet == b'@').enumerate() {
+        text.extend_from_slice(octets)?;
+        if let Some(part) = parts.get(place) {
+            push_part(text, *part)?;
+        }
     }
     Ok(())
 }
 
 /// Appends the line of a cell, with the character behind it where ASCII has a sign for it.
-fn push_cell(text: &mut Vec<u8>, cell: &CellPart) -> Result<(), AllocError> {
-    text.extend_from_slice(b"  { number = ")?;
-    push_number(text, u64::from(cell.number))?;
-    text.extend_from_slice(b", width = ")?;
-    push_number(text, u64::from(cell.width))?;
-    text.extend_from_slice(b", bits = \"")?;
-    push_hex(text, &cell.bits)?;
-    text.extend_from_slice(b"\" },")?;
+fn push_cell(alloc: Global, text: &mut Vec<u8>, cell: &CellPart) -> Result<(), AllocError> {
+    let bits = hex::encode(alloc, cell.bits.as_slice())?;
+    let parts = [
+        Part::Number(cell.number),
+        Part::Number(u16::from(cell.width)),
+        Part::Octets(bits.as_bytes()),
+    ];
+    push_parts(text, b"  { number = @, width = @, bits = \"@\" },", &parts)?;
     if cell.number > 32 && cell.number < 127 {
         text.extend_from_slice(&[b' ', b'#', b' ', cell.number as u8])?;
     }
     text.extend_from_slice(b"\n")
 }
 
-/// Appends the line of the spacing between characters, and says where it comes from if none was told.
-fn push_spacing(
-    text: &mut Vec<u8>,
-    font: &FontPart,
-    setting: &FontSetting<'_>,
-) -> Result<(), AllocError> {
-    text.extend_from_slice(b"char_spacing = ")?;
-    push_number(text, u64::from(font.char_spacing))?;
-    let source: &[u8] = match setting.char_spacing {
-        Some(_) => b"\n",
-        None if font.char_spacing == 0 => b" # not every cell had a dark last column\n",
-        None => b" # each cell had a dark last column\n",
-    };
-    text.extend_from_slice(source)
+/// Where the spacing between characters comes from if none was told.
+fn spacing_source(font: &FontPart, setting: &FontSetting<'_>) -> &'static [u8] {
+    match setting.char_spacing {
+        Some(_) => b"",
+        None if font.char_spacing == 0 => b" # not every cell had a dark last column",
+        None => b" # each cell had a dark last column",
+    }
 }
 
 /// Appends a line that tells which characters didn't fit, and what was done with them.
@@ -87,31 +83,34 @@ fn push_told(
     if numbers.is_empty() {
         return Ok(());
     }
-    text.extend_from_slice(b"# ")?;
-    text.extend_from_slice(word_of(setting.outside).as_bytes())?;
-    text.extend_from_slice(b":")?;
+    let word = word_of(setting.outside).as_bytes();
+    push_parts(text, b"# @:", &[Part::Octets(word)])?;
     for number in numbers {
-        text.extend_from_slice(b" ")?;
-        push_number(text, u64::from(*number))?;
+        push_parts(text, b" @", &[Part::Number(*number)])?;
     }
     text.extend_from_slice(b"\n")
 }
 
 /// Appends the table of a font.
 fn push_font(
+    alloc: Global,
     text: &mut Vec<u8>,
     font: &FontPart,
     setting: &FontSetting<'_>,
 ) -> Result<(), AllocError> {
-    text.extend_from_slice(b"[[font]]\n")?;
-    push_key(text, "number", u64::from(font.number))?;
-    push_key(text, "version", u64::from(font.version))?;
-    push_key(text, "height", u64::from(font.height))?;
-    push_spacing(text, font, setting)?;
-    push_key(text, "line_spacing", u64::from(font.line_spacing))?;
-    text.extend_from_slice(b"cell = [\n")?;
+    let parts = [
+        Part::Number(u16::from(font.number)),
+        Part::Number(font.version),
+        Part::Number(u16::from(font.height)),
+        Part::Number(u16::from(font.char_spacing)),
+        Part::Octets(spacing_source(font, setting)),
+        Part::Number(u16::from(font.line_spacing)),
+    ];
+    let head =
+        b"[[font]]\nnumber = @\nversion = @\nheight = @\nchar_spacing = @@\nline_spacing = @\ncell = [\n";
+    push_parts(text, head, &parts)?;
     for cell in &font.cells {
-        push_cell(text, cell)?;
+        push_cell(alloc, text, cell)?;
     }
     text.extend_from_slice(b"]\n")
 }
@@ -126,7 +125,7 @@ fn text_of(
     let mut text = Vec::new(alloc);
     let numbers = not_fitting(alloc, octets, setting, font)?;
     push_told(&mut text, setting, &numbers)?;
-    push_font(&mut text, font, setting)?;
+    push_font(alloc, &mut text, font, setting)?;
     Ok(text)
 }
 

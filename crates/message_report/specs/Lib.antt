@@ -2,5 +2,6 @@ pub mod Blocks
 pub mod Explanation
 pub mod Names
 pub mod Pictures
+pub mod Pieces
 pub mod Records
 pub mod Words

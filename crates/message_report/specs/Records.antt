@@ -1,5 +1,5 @@
 -- What is told of a message as a record in JSON.
-use Rattle.std.specs.Prelude.{◌≡◌, ◌⊎◌, ℕ, zero, suc, ◌+◌, Bool, true, List, [], ◌∷◌, ◌++◌, codes, if◌then◌else◌}
+use Rattle.std.specs.Prelude.{◌≡◌, ◌⊎◌, ℕ, zero, suc, ◌+◌, Bool, true, List, [], ◌∷◌, ◌++◌, codes, decimal, if◌then◌else◌}
 use Rattle.serde_json.specs.Data.{Data, array, member, no_members, null, number, object, string, unsigned}
 use Rattle.serde_json.specs.View.{items_of}
 use Rattle.serde_json.specs.Written.{compact_text}
@@ -65,6 +65,26 @@ abbrev pub ArePages : Telling → SignData → List ℕ → ℕ → List Data �
 ArePages telling sign octets zero records = records ≡ []
 ArePages telling sign octets (suc page) records = (front : List Data) × (on off : ℕ) × ArePages telling sign octets page front
     × (records ≡ front ++ page_record page on off (picture_data telling.pictures (page_text sign octets page telling.phase)) ∷ [])
+
+-- the record of a refused message as it is written, with its message, octets, name and words in JSON (own)
+unfoldable pub refused_json : ℕ → List ℕ → List ℕ → List ℕ → ℕ → ℕ → List ℕ → List ℕ
+refused_json line message octets name code at reason =
+    codes "{\"code\":" ++ (decimal code
+    ++ (codes ",\"line\":" ++ (decimal line
+    ++ (codes ",\"message\":" ++ (message
+    ++ (codes ",\"name\":" ++ (name
+    ++ (codes ",\"octet\":" ++ (decimal at
+    ++ (codes ",\"octets\":" ++ (octets
+    ++ (codes ",\"outcome\":\"refused\",\"reason\":" ++ (reason ++ codes "}")))))))))))))
+
+-- and that of an accepted one, with its message, octets, pages and warnings in JSON (own)
+unfoldable pub accepted_json : ℕ → List ℕ → List ℕ → List ℕ → List ℕ → List ℕ
+accepted_json line message octets pages warnings =
+    codes "{\"line\":" ++ (decimal line
+    ++ (codes ",\"message\":" ++ (message
+    ++ (codes ",\"octets\":" ++ (octets
+    ++ (codes ",\"outcome\":\"accepted\",\"pages\":" ++ (pages
+    ++ (codes ",\"warnings\":" ++ (warnings ++ codes "}")))))))))
 
 -- a text is a record as a line (own)
 abbrev pub IsRecord : Data → List ℕ → Type 0

@@ -1,9 +1,10 @@
 //! A page in the sign's colours, by half blocks: two rows of pixels a line.
 ghost use Rattle.std.specs.Prelude.{◌≡◌, ◌++◌, ◌+◌, ◌*◌, ◌/◌, ◌<◌, ◌≤◌, ◌^◌, length, OnOk};
 ghost use Rattle.page_picture.specs.Colours.{colour_at};
-ghost use Rattle.message_report.specs.Blocks.{block_text, blocks_text, change_text, colour_text, colour_within, goes_on, lines_text, rgb_text, two_rows};
+ghost use Rattle.message_report.specs.Blocks.{block_text, blocks_text, change_text, colour_text, colour_within, goes_on, lines_text, two_rows};
 
-use crate::explanation::{Explanation, push_number, push_octets};
+use crate::explanation::Piece::{Number, Octets};
+use crate::explanation::{Explanation, push_all, push_octets};
 use page_picture::PageColours;
 use std::alloc::AllocError;
 
@@ -19,23 +20,8 @@ const BACKGROUND: u8 = 48;
 /// The upper half block in UTF-8.
 const HALF_BLOCK: &[u8] = &[0xe2, 0x96, 0x80];
 
-/// Appends the red, green and blue of a colour.
-#[tactic(auto, unfolding(crate::specs::Blocks::rgb_text))]
-fn push_rgb(text: &mut Explanation, shares: &[u8], colour: u8) -> Result<(), AllocError>
-    requires shares { length shares.now ≡ 48 }
-    requires colour { colour ≤ 9 }
-    ensures { OnOk result (text.new ≡ text.old ++ rgb_text shares.now colour) }
-{
-    let red = 3 * (usize::from(colour) + 1);
-    push_number(text, u64::from(shares[red]))?;
-    push_octets(text, b";")?;
-    push_number(text, u64::from(shares[red + 1]))?;
-    push_octets(text, b";")?;
-    push_number(text, u64::from(shares[red + 2]))
-}
-
 /// Appends the escape for a colour, as the foreground or as the background.
-#[tactic(auto, unfolding(crate::specs::Blocks::colour_text))]
+#[tactic(auto, unfolding(crate::specs::Blocks::colour_text, crate::specs::Blocks::rgb_text))]
 fn push_colour(
     text: &mut Explanation,
     shares: &[u8],
@@ -46,11 +32,21 @@ fn push_colour(
     requires colour { colour ≤ 9 }
     ensures { OnOk result (text.new ≡ text.old ++ colour_text shares.now rendition colour) }
 {
-    push_octets(text, b"\x1b[")?;
-    push_number(text, u64::from(rendition))?;
-    push_octets(text, b";2;")?;
-    push_rgb(text, shares, colour)?;
-    push_octets(text, b"m")
+    let red = 3 * (usize::from(colour) + 1);
+    push_all(
+        text,
+        &[
+            Octets(b"\x1b["),
+            Number(u64::from(rendition)),
+            Octets(b";2;"),
+            Number(u64::from(shares[red])),
+            Octets(b";"),
+            Number(u64::from(shares[red + 1])),
+            Octets(b";"),
+            Number(u64::from(shares[red + 2])),
+            Octets(b"m"),
+        ],
+    )
 }
 
 /// The colour of a pixel, which is black below the last row.

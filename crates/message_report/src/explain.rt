@@ -89,7 +89,7 @@ fn push_unjudged(
             push_octets(text, b"error: ")?;
             push_too_long(text)
         }
-        Format::Json => push_too_long_record(text, alloc, line),
+        Format::Json => push_too_long_record(text, line),
     }
 }
 

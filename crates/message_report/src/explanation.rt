@@ -1,5 +1,7 @@
 //! What is told of messages, as it grows: each call appends to what is there, or memory was refused.
 ghost use Rattle.std.specs.Prelude.{◌≡◌, ◌<◌, ◌≤◌, ◌++◌, ◌∷◌, [], OnOk, decimal, length, take};
+ghost use Rattle.std.specs.List.{flat_map};
+ghost use Rattle.message_report.specs.Pieces.{piece_text};
 
 use itoa::Buffer;
 use std::alloc::{AllocError, Global};
@@ -128,4 +130,33 @@ fn push_digits(text: &mut Explanation, number: u64) -> Result<(), AllocError>
     ensures { OnOk result (text.new ≡ text.old ++ decimal number) }
 {
     push_octets(text, Buffer::new().format(number).as_bytes())
+}
+
+/// A piece of what is told.
+#[derive(Clone, Copy)]
+pub(crate) enum Piece<'a> {
+    /// Octets as they are.
+    Octets(&'a [u8]),
+    /// A number in decimal.
+    Number(u64),
+}
+
+/// Appends a piece.
+fn push_piece(text: &mut Explanation, piece: Piece<'_>) -> Result<(), AllocError>
+    ensures { OnOk result (text.new ≡ text.old ++ piece_text piece.entry) }
+{
+    match piece {
+        Piece::Octets(octets) => push_octets(text, octets),
+        Piece::Number(number) => push_number(text, number),
+    }
+}
+
+/// Appends pieces, one behind the other.
+pub(crate) fn push_all(text: &mut Explanation, pieces: &[Piece<'_>]) -> Result<(), AllocError>
+    ensures { OnOk result (text.new ≡ text.old ++ flat_map piece_text pieces.now) }
+{
+    for piece in pieces {
+        push_piece(text, *piece)?;
+    }
+    Ok(())
 }

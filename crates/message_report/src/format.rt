@@ -1,7 +1,7 @@
 //! How messages are told of.
 
 /// What an explanation is written as (own).
-#[derive(Clone, Copy, Debug, PartialEq, Eq)]
+#[derive(Clone, Copy)]
 pub enum Format {
     /// Words and pictures for people.
     Text,
@@ -15,7 +15,7 @@ pub enum Format {
 }
 
 /// How messages are told of (own).
-#[derive(Clone, Copy, Debug, PartialEq, Eq)]
+#[derive(Clone, Copy)]
 pub struct Telling {
     /// What an explanation is written as.
     pub format: Format,
@@ -28,7 +28,7 @@ pub struct Telling {
 }
 
 /// What was told of a message (own).
-#[derive(Clone, Copy, Debug, PartialEq, Eq)]
+#[derive(Clone, Copy)]
 pub struct Told {
     /// Whether the sign takes it.
     pub is_taken: bool,

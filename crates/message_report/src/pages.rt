@@ -115,11 +115,12 @@ fn push_pages(
 fn push_notes(
     text: &mut Explanation,
     message: &AcceptedMessage<'_>,
-    is_still: bool,
+    checked: &Checked<'_>,
     picture: Picture,
 ) -> Result<(), AllocError>
     ensures { OnOk result (Grows text.old text.new) }
 {
+    let is_still = checked.pages() > 1 && checked.cycle() == 0;
     push_legend(text, message, is_still, picture)?;
     push_warnings(text, message)
 }
@@ -139,12 +140,11 @@ fn push_shown(
         message.now.line (page_count checked.old))
         text.old text.new) }
 {
-    let is_still = checked.pages() > 1 && checked.cycle() == 0;
     push_line_head(text, message.line)?;
     push_accepted(text, checked.pages())?;
     push_message(text, message.alloc, message.message)?;
     push_pages(text, message, checked, picture)?;
-    push_notes(text, message, is_still, picture)?;
+    push_notes(text, message, checked, picture)?;
     Ok(())
 }
 

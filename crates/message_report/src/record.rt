@@ -1,17 +1,18 @@
 //! Messages as records in JSON.
 ghost use Rattle.std.specs.Prelude.{◌≡◌, ◌++◌, ◌∷◌, ◌<◌, ◌^◌, [], List, ℕ, false, length, IfOk, OnOk, string_bytes};
-ghost use Rattle.serde_json.specs.Data.{Data, array};
+ghost use Rattle.serde_json.specs.Data.{Data, array, string};
 ghost use Rattle.serde_json.specs.View.{items_of, view};
 ghost use Rattle.serde_json.specs.Written.{compact_text, has_float};
 ghost use Rattle.multi_meaning.specs.Verdict.{Accepted};
 ghost use Rattle.multi_layout.specs.Pages.{page_count};
 ghost use Rattle.message_report.specs.Names.{name_of};
 ghost use Rattle.message_report.specs.Pictures.{page_text};
-ghost use Rattle.message_report.specs.Records.{ArePages, TellsPages, TellsRecord, TooLongRecord, accepted_record, page_record, picture_data, refused_record, too_long_record, warning_record};
+ghost use Rattle.message_report.specs.Records.{ArePages, TellsPages, TellsRecord, TooLongRecord, accepted_json, page_record, picture_data, refused_json, refused_record, warning_record};
 ghost use Rattle.message_report.specs.Words.{GrowsBy};
 
 use crate::accepted::AcceptedMessage;
-use crate::explanation::{Explanation, push_octet, push_octets};
+use crate::explanation::Piece::{Number, Octets};
+use crate::explanation::{Explanation, push_all, push_number, push_octet, push_octets};
 use crate::format::Telling;
 use crate::picture::{Picture, push_picture};
 use crate::verdict::name_of;
@@ -21,33 +22,30 @@ use serde_json::{Value, json};
 use sign_font::Sign;
 use std::alloc::{AllocError, Global};
 
-/// Appends a record as a line.
-fn push_record(text: &mut Explanation, alloc: Global, value: &Value) -> Result<(), AllocError>
-    requires whole { has_float (view value.now) ≡ false }
-    ensures { OnOk result (text.new ≡ text.old ++ (compact_text (view value.now) ++ 10 ∷ [])) }
+/// Words as JSON.
+fn string_json(alloc: Global, words: &str) -> Result<Vec<u8>, AllocError>
+    ensures { IfOk result (λ json. json.items ≡ compact_text (string words.now)) }
 {
-    let line = value.to_vec(alloc)?;
-    push_octets(text, &line)?;
-    push_octet(text, b'\n')
+    Value::try_from_str(alloc, words)?.to_vec(alloc)
 }
 
-/// A message as text, or nothing if its octets are none in UTF-8.
-fn message_value(alloc: Global, message: &[u8]) -> Result<Value, AllocError>
-    ensures { IfOk result (λ v. has_float (view v) ≡ false) }
+/// A message as text in JSON, or nothing if its octets are none in UTF-8.
+fn message_json(alloc: Global, message: &[u8]) -> Result<Vec<u8>, AllocError>
+    ensures { IfOk result (λ json. (shown : Data) × (json.items ≡ compact_text shown)) }
 {
     match str::from_utf8(message) {
-        Ok(text) => Value::try_from_str(alloc, text),
-        Err(_) => Ok(Value::Null),
+        Ok(text) => Value::try_from_str(alloc, text)?.to_vec(alloc),
+        Err(_) => Value::Null.to_vec(alloc),
     }
 }
 
-/// The octets of a message in hexadecimal, or nothing if they are text in UTF-8.
-fn octets_value(alloc: Global, message: &[u8]) -> Result<Value, AllocError>
-    ensures { IfOk result (λ v. has_float (view v) ≡ false) }
+/// The octets of a message in hexadecimal in JSON, or nothing if they are text in UTF-8.
+fn octets_json(alloc: Global, message: &[u8]) -> Result<Vec<u8>, AllocError>
+    ensures { IfOk result (λ json. (shown : Data) × (json.items ≡ compact_text shown)) }
 {
     match str::from_utf8(message) {
-        Ok(_) => Ok(Value::Null),
-        Err(_) => Ok(Value::String(hex::encode(alloc, message)?)),
+        Ok(_) => Value::Null.to_vec(alloc),
+        Err(_) => Value::String(hex::encode(alloc, message)?).to_vec(alloc),
     }
 }
 
@@ -72,33 +70,52 @@ fn warning_values(alloc: Global, warnings: &[Warning]) -> Result<Value, AllocErr
     Ok(Value::Array(list))
 }
 
-/// The record of a refused message.
-#[tactic(auto, unfolding(crate::specs::Records::refused_record))]
-fn refused_value(
-    alloc: Global,
+/// The records of all warnings in JSON.
+fn warnings_json(alloc: Global, warnings: &[Warning]) -> Result<Vec<u8>, AllocError>
+    ensures { IfOk result (λ json. (shown : Data) × (json.items ≡ compact_text shown)) }
+{
+    let all = warning_values(alloc, warnings)?;
+    let json = all.to_vec(alloc)?;
+    Ok(json)
+}
+
+/// Appends the record of a refused message but for its line feed. Its text and octets, the name of its error and the words are JSON.
+#[tactic(auto, unfolding(crate::specs::Records::refused_json))]
+fn push_refused<'a>(
+    text: &mut Explanation,
     line: u32,
-    message: Value,
-    octets: Value,
+    message: &'a [u8],
+    octets: &'a [u8],
+    name: &'a [u8],
     code: u8,
     at: usize,
-    reason: &String,
-) -> Result<Value, AllocError>
-    ensures { IfOk result (λ v. view v ≡ refused_record line (view message) (view octets) code at (string_bytes reason.now)) }
+    reason: &'a [u8],
+) -> Result<(), AllocError>
+    ensures { OnOk result (text.new ≡ text.old ++ refused_json line message.now octets.now name.now code at reason.now) }
 {
-    json!(in alloc; {
-        "code": code,
-        "line": line,
-        "message": message,
-        "name": name_of(code),
-        "octet": at,
-        "octets": octets,
-        "outcome": "refused",
-        "reason": reason
-    })
+    push_all(
+        text,
+        &[
+            Octets(b"{\"code\":"),
+            Number(u64::from(code)),
+            Octets(b",\"line\":"),
+            Number(u64::from(line)),
+            Octets(b",\"message\":"),
+            Octets(message),
+            Octets(b",\"name\":"),
+            Octets(name),
+            Octets(b",\"octet\":"),
+            Number(at as u64),
+            Octets(b",\"octets\":"),
+            Octets(octets),
+            Octets(b",\"outcome\":\"refused\",\"reason\":"),
+            Octets(reason),
+            Octets(b"}"),
+        ],
+    )
 }
 
 /// Appends the record of a refused message.
-#[tactic(auto, unfolding(crate::specs::Records::refused_record))]
 pub(crate) fn push_refused_record(
     text: &mut Explanation,
     alloc: Global,
@@ -111,35 +128,26 @@ pub(crate) fn push_refused_record(
     ensures { OnOk result ((shown : Data) × (octets : Data) × (words : List ℕ)
         × (text.new ≡ text.old ++ (compact_text (refused_record line shown octets code at words) ++ 10 ∷ []))) }
 {
-    let shown = message_value(alloc, message)?;
-    let octets = octets_value(alloc, message)?;
-    let record = refused_value(alloc, line, shown, octets, code, at, reason)?;
-    push_record(text, alloc, &record)
-}
-
-/// The record of a message with too many octets.
-#[tactic(auto, unfolding(crate::specs::Records::too_long_record))]
-fn too_long_value(alloc: Global, line: u32) -> Result<Value, AllocError>
-    ensures { IfOk result (λ v. view v ≡ too_long_record line) }
-{
-    json!(in alloc; {
-        "line": line,
-        "outcome": "too long",
-        "reason": "a message has at most 4096 octets"
-    })
+    let shown = message_json(alloc, message)?;
+    let octets = octets_json(alloc, message)?;
+    let name = string_json(alloc, name_of(code))?;
+    let words = string_json(alloc, reason)?;
+    push_refused(text, line, &shown, &octets, &name, code, at, &words)?;
+    push_octet(text, b'\n')?;
+    Ok(())
 }
 
 /// Appends the record of a message with too many octets.
-#[tactic(auto, unfolding(crate::specs::Records::too_long_record))]
-pub(crate) fn push_too_long_record(
-    text: &mut Explanation,
-    alloc: Global,
-    line: u32,
-) -> Result<(), AllocError>
+pub(crate) fn push_too_long_record(text: &mut Explanation, line: u32) -> Result<(), AllocError>
     ensures { OnOk result (GrowsBy (TooLongRecord line) text.old text.new) }
 {
-    let record = too_long_value(alloc, line)?;
-    push_record(text, alloc, &record)
+    push_octets(text, b"{\"line\":")?;
+    push_number(text, u64::from(line))?;
+    push_octets(
+        text,
+        b",\"outcome\":\"too long\",\"reason\":\"a message has at most 4096 octets\"}\n",
+    )?;
+    Ok(())
 }
 
 /// The picture of a page, or nothing if it isn't asked for.
@@ -212,26 +220,50 @@ fn page_values(
     Ok(Value::Array(list))
 }
 
-/// The record of an accepted message.
-#[tactic(auto, unfolding(crate::specs::Records::accepted_record))]
-fn accepted_value(
-    alloc: Global,
+/// Appends the record of an accepted message but for its line feed. Its text, octets, pages and warnings are JSON.
+#[tactic(auto, unfolding(crate::specs::Records::accepted_json))]
+fn push_accepted<'a>(
+    text: &mut Explanation,
     line: u32,
-    message: Value,
-    octets: Value,
-    pages: Value,
-    warnings: Value,
-) -> Result<Value, AllocError>
-    ensures { IfOk result (λ v. view v ≡ accepted_record line (view message) (view octets) (view pages) (view warnings)) }
+    message: &'a [u8],
+    octets: &'a [u8],
+    pages: &'a [u8],
+    warnings: &'a [u8],
+) -> Result<(), AllocError>
+    ensures { OnOk result (text.new ≡ text.old ++ accepted_json line message.now octets.now pages.now warnings.now) }
 {
-    json!(in alloc; {
-        "line": line,
-        "message": message,
-        "octets": octets,
-        "outcome": "accepted",
-        "pages": pages,
-        "warnings": warnings
-    })
+    push_all(
+        text,
+        &[
+            Octets(b"{\"line\":"),
+            Number(u64::from(line)),
+            Octets(b",\"message\":"),
+            Octets(message),
+            Octets(b",\"octets\":"),
+            Octets(octets),
+            Octets(b",\"outcome\":\"accepted\",\"pages\":"),
+            Octets(pages),
+            Octets(b",\"warnings\":"),
+            Octets(warnings),
+            Octets(b"}"),
+        ],
+    )
+}
+
+/// The records of all pages in JSON.
+fn pages_json(
+    message: &AcceptedMessage<'_>,
+    checked: &mut Checked<'_>,
+) -> Result<Vec<u8>, AllocError>
+    requires sign { checked.old.sign ≡ message.now.sign.now }
+    requires short { length checked.old.source.octets < 2 ^ 32 }
+    ensures { IfOk result (λ json. (records : List Data)
+        × ArePages message.now.telling message.now.sign.now checked.old.source.octets (page_count checked.old) records
+        × (json.items ≡ compact_text (array (items_of records)))) }
+{
+    let pages = page_values(message, checked)?;
+    let json = pages.to_vec(message.alloc)?;
+    Ok(json)
 }
 
 /// Appends the record of an accepted message with its pages.
@@ -247,12 +279,13 @@ fn push_pages_record(
         text.old text.new) }
 {
     let alloc = message.alloc;
-    let shown = message_value(alloc, message.message)?;
-    let octets = octets_value(alloc, message.message)?;
-    let pages = page_values(message, checked)?;
-    let all = warning_values(alloc, &message.found.warnings)?;
-    let record = accepted_value(alloc, message.line, shown, octets, pages, all)?;
-    push_record(text, alloc, &record)
+    let shown = message_json(alloc, message.message)?;
+    let octets = octets_json(alloc, message.message)?;
+    let pages = pages_json(message, checked)?;
+    let all = warnings_json(alloc, &message.found.warnings)?;
+    push_accepted(text, message.line, &shown, &octets, &pages, &all)?;
+    push_octet(text, b'\n')?;
+    Ok(())
 }
 
 /// Appends the record of an accepted message, unless only refused ones are asked for and there is no warning on it.

@@ -3,7 +3,8 @@ ghost use Rattle.std.specs.Prelude.{◌≢◌, OnOk};
 ghost use Rattle.message_report.specs.Words.{Grows, GrowsByLine, GrowsInLine};
 
 use crate::accepted::AcceptedMessage;
-use crate::explanation::{Explanation, push_number, push_octet, push_octets};
+use crate::explanation::Piece::{Number, Octets};
+use crate::explanation::{Explanation, push_all, push_number, push_octet, push_octets};
 use crate::picture::Picture;
 use message_words::{
     COLOUR_MARKS, FLASHING, MORE, MessageLine, NO_TIMES, PIXEL_MARKS, Times, Warning,
@@ -163,9 +164,14 @@ fn push_flashing(text: &mut Explanation, phase: u64) -> Result<(), AllocError>
     ensures { OnOk result (Grows text.old text.new) }
 {
     let [before, behind] = FLASHING;
-    push_octets(text, before.as_bytes())?;
-    push_number(text, phase)?;
-    push_octets(text, behind.as_bytes())
+    push_all(
+        text,
+        &[
+            Octets(before.as_bytes()),
+            Number(phase),
+            Octets(behind.as_bytes()),
+        ],
+    )
 }
 
 /// Appends what the marks of the pictures mean, and what pictures don't show: that pages don't change, and that text flashes.
@@ -192,11 +198,16 @@ pub(crate) fn push_legend(
 fn push_warning(text: &mut Explanation, warning: &Warning) -> Result<(), AllocError>
     ensures { OnOk result (Grows text.old text.new) }
 {
-    push_octets(text, b"warning at octet ")?;
-    push_number(text, warning.at as u64)?;
-    push_octets(text, b": ")?;
-    push_words(text, &warning.words)?;
-    push_octet(text, b'\n')
+    push_all(
+        text,
+        &[
+            Octets(b"warning at octet "),
+            Number(warning.at as u64),
+            Octets(b": "),
+            Octets(warning.words.as_bytes()),
+            Octets(b"\n"),
+        ],
+    )
 }
 
 /// Appends all warnings. Most messages have none.

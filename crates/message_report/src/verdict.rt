@@ -3,7 +3,8 @@ ghost use Rattle.std.specs.Prelude.{◌≡◌, ◌++◌, ◌<◌, ◌≤◌, ◌
 ghost use Rattle.message_report.specs.Explanation.{accepted_text, error_text, head_text, line_head, place_text, refused_text, too_long_text};
 ghost use Rattle.message_report.specs.Names.{name_of};
 
-use crate::explanation::{Explanation, push_number, push_octets};
+use crate::explanation::Piece::{Number, Octets};
+use crate::explanation::{Explanation, push_all, push_number, push_octets};
 use std::alloc::AllocError;
 
 /// The name of an error (NTCIP 1203 v03, dmsMultiSyntaxError).
@@ -45,12 +46,17 @@ pub(crate) fn push_place(
     requires small { at < 2 ^ 63 }
     ensures { OnOk result (text.new ≡ text.old ++ place_text name.now line at) }
 {
-    push_octets(text, name)?;
-    push_octets(text, b":")?;
-    push_number(text, u64::from(line))?;
-    push_octets(text, b":")?;
-    push_number(text, at as u64 + 1)?;
-    push_octets(text, b": ")
+    push_all(
+        text,
+        &[
+            Octets(name),
+            Octets(b":"),
+            Number(u64::from(line)),
+            Octets(b":"),
+            Number(at as u64 + 1),
+            Octets(b": "),
+        ],
+    )
 }
 
 /// Appends the name and the number of an error.
@@ -58,10 +64,15 @@ pub(crate) fn push_place(
 pub(crate) fn push_error(text: &mut Explanation, code: u8) -> Result<(), AllocError>
     ensures { OnOk result (text.new ≡ text.old ++ error_text code) }
 {
-    push_octets(text, name_of(code).as_bytes())?;
-    push_octets(text, b" (")?;
-    push_number(text, u64::from(code))?;
-    push_octets(text, b")")
+    push_all(
+        text,
+        &[
+            Octets(name_of(code).as_bytes()),
+            Octets(b" ("),
+            Number(u64::from(code)),
+            Octets(b")"),
+        ],
+    )
 }
 
 /// Appends that a message is refused, with its error and the octet where that stands.
@@ -71,9 +82,10 @@ pub(crate) fn push_refused(text: &mut Explanation, code: u8, at: usize) -> Resul
 {
     push_octets(text, b"refused: ")?;
     push_error(text, code)?;
-    push_octets(text, b" at octet ")?;
-    push_number(text, at as u64)?;
-    push_octets(text, b"\n")
+    push_all(
+        text,
+        &[Octets(b" at octet "), Number(at as u64), Octets(b"\n")],
+    )
 }
 
 /// Appends that a message is accepted, with the number of its pages.
@@ -99,9 +111,14 @@ fn push_many_pages(text: &mut Explanation, pages: u8) -> Result<(), AllocError>
     requires many { 10 ≤ pages }
     ensures { OnOk result (text.new ≡ text.old ++ accepted_text pages) }
 {
-    push_octets(text, b"accepted: ")?;
-    push_number(text, u64::from(pages))?;
-    push_octets(text, b" pages\n")
+    push_all(
+        text,
+        &[
+            Octets(b"accepted: "),
+            Number(u64::from(pages)),
+            Octets(b" pages\n"),
+        ],
+    )
 }
 
 /// Appends that a message has too many octets.
@@ -132,9 +149,14 @@ pub(crate) fn push_head(text: &mut Explanation, page: u8, pages: u8) -> Result<(
 fn push_long_head(text: &mut Explanation, page: u8, pages: u8) -> Result<(), AllocError>
     ensures { OnOk result (text.new ≡ text.old ++ head_text page pages) }
 {
-    push_octets(text, b"page ")?;
-    push_number(text, u64::from(page) + 1)?;
-    push_octets(text, b" of ")?;
-    push_number(text, u64::from(pages))?;
-    push_octets(text, b", ")
+    push_all(
+        text,
+        &[
+            Octets(b"page "),
+            Number(u64::from(page) + 1),
+            Octets(b" of "),
+            Number(u64::from(pages)),
+            Octets(b", "),
+        ],
+    )
 }

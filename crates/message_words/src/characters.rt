@@ -1,9 +1,10 @@
 //! The characters that a sign's fonts have.
 
+use crate::sentence::Value::Hex;
+use crate::sentence::write_sentence;
 use multi_token::Source;
 use sign_font::Sign;
 use std::alloc::{AllocError, Global};
-use std::fmt::Write;
 
 /// Characters whose numbers follow one another (own).
 #[derive(Clone, Copy)]
@@ -47,6 +48,18 @@ const SPACE: u16 = 32;
 /// The last number of a printable character of ASCII.
 const LAST_SIGN: u16 = 126;
 
+/// The numbers below and above those of ASCII.
+const OUTSIDE: [CharacterRun; 2] = [
+    CharacterRun {
+        first: 1,
+        last: SPACE - 1,
+    },
+    CharacterRun {
+        first: LAST_SIGN + 1,
+        last: 65535,
+    },
+];
+
 /// What some runs have of another one.
 fn common(run: CharacterRun, other: CharacterRun) -> Option<CharacterRun> {
     let first = run.first.max(other.first);
@@ -54,73 +67,132 @@ fn common(run: CharacterRun, other: CharacterRun) -> Option<CharacterRun> {
     (first <= last).then_some(CharacterRun { first, last })
 }
 
-/// Writes characters of ASCII as a range, or one by one if they are no more than two.
-fn write_order(text: &mut String, run: CharacterRun) -> Result<(), AllocError> {
-    let (first, last) = (
-        char::from(run.first.min(LAST_SIGN) as u8),
-        char::from(run.last.min(LAST_SIGN) as u8),
-    );
-    match run.last.saturating_sub(run.first) {
-        0 => write!(text, " {first}"),
-        1 => write!(text, " {first} {last}"),
-        _ => write!(text, " {first}-{last}"),
+/// Writes a character: if it is a sign of ASCII as itself, and else by its number, as the tag 'hc' has it.
+fn write_character(text: &mut String, number: u16) -> Result<(), AllocError> {
+    if number > SPACE && number <= LAST_SIGN {
+        text.push(char::from(number.min(LAST_SIGN) as u8))
+    } else {
+        write_sentence(text, "[hc{}]", &[Hex(number.into())])
     }
 }
 
-/// Writes characters by their numbers, as the tag 'hc' has them.
-fn write_numbers(text: &mut String, run: CharacterRun) -> Result<(), AllocError> {
+/// Writes characters as a range, or one by one if they are no more than two signs of ASCII.
+fn write_run(text: &mut String, run: CharacterRun) -> Result<(), AllocError> {
+    text.push(' ')?;
+    write_character(text, run.first)?;
     if run.first == run.last {
-        write!(text, " [hc{:X}]", run.first)
-    } else {
-        write!(text, " [hc{:X}]-[hc{:X}]", run.first, run.last)
+        return Ok(());
     }
+    let is_pair = is_ordered(run.first) && run.last.saturating_sub(run.first) == 1;
+    text.push(if is_pair { ' ' } else { '-' })?;
+    write_character(text, run.last)
+}
+
+/// Adds a character behind all others.
+fn add(runs: &mut Vec<CharacterRun>, number: u16) -> Result<(), AllocError> {
+    if let Some(run) = runs.last_mut() {
+        if run.last.saturating_add(1) == number {
+            run.last = number;
+            return Ok(());
+        }
+    }
+    Ok(runs.push(CharacterRun {
+        first: number,
+        last: number,
+    })?)
+}
+
+/// The characters of a font of a sign. The error says that memory was refused.
+fn runs_of(alloc: Global, sign: &Sign, font: u8) -> Result<Vec<CharacterRun>, AllocError> {
+    let mut source = Source::new(b"");
+    let mut runs = Vec::new(alloc);
+    for number in 1..=65535u16 {
+        if sign.cell_width(&mut source, font, number).is_some() {
+            add(&mut runs, number)?;
+        }
+    }
+    Ok(runs)
+}
+
+/// Writes those characters that are within others.
+fn write_within(
+    text: &mut String,
+    runs: &[CharacterRun],
+    range: CharacterRun,
+) -> Result<(), AllocError> {
+    for run in runs {
+        if let Some(run) = common(*run, range) {
+            write_run(text, run)?;
+        }
+    }
+    Ok(())
+}
+
+/// Whether characters have this number among them.
+fn has(runs: &[CharacterRun], number: u16) -> bool {
+    for run in runs {
+        if run.first <= number && number <= run.last {
+            return true;
+        }
+    }
+    false
 }
 
 /// Whether a number is that of a letter or a digit.
 fn is_ordered(number: u16) -> bool {
-    ORDERS
-        .iter()
-        .any(|order| order.first <= number && number <= order.last)
+    has(&ORDERS, number)
+}
+
+/// Writes the characters of ASCII that are no letters and no digits, and the space.
+fn write_others(text: &mut String, runs: &[CharacterRun]) -> Result<(), AllocError> {
+    for number in SPACE + 1..=LAST_SIGN {
+        if !is_ordered(number) && has(runs, number) {
+            text.push(' ')?;
+            write_character(text, number)?;
+        }
+    }
+    text.push_str(if has(runs, SPACE) { " space" } else { "" })
+}
+
+/// Writes characters: letters, digits, other characters of ASCII, and the numbers of those below or above them.
+fn write_all(text: &mut String, runs: &[CharacterRun]) -> Result<(), AllocError> {
+    for order in &ORDERS {
+        write_within(text, runs, *order)?;
+    }
+    write_others(text, runs)?;
+    for outside in &OUTSIDE {
+        write_within(text, runs, *outside)?;
+    }
+    text.push_str(if text.is_empty() { " none" } else { "" })
+}
+
+/// Characters in words.
+fn in_words(alloc: Global, runs: &[CharacterRun]) -> Result<String, AllocError> {
+    let mut text = String::new(alloc);
+    write_all(&mut text, runs)?;
+    Ok(text)
+}
+
+/// Adds the characters of a font.
+fn add_font(
+    fonts: &mut Vec<FontCharacters>,
+    alloc: Global,
+    sign: &Sign,
+    font: u8,
+) -> Result<(), AllocError> {
+    let runs = runs_of(alloc, sign, font)?;
+    let words = in_words(alloc, &runs)?;
+    Ok(fonts.push(FontCharacters { font, runs, words })?)
 }
 
 impl FontCharacters {
-    /// The characters of a font of a sign. The error says that memory was refused.
-    fn new(alloc: Global, sign: &Sign, font: u8) -> Result<FontCharacters, AllocError> {
-        let mut source = Source::new(b"");
-        let mut runs = Vec::new(alloc);
-        let mut open: Option<CharacterRun> = None;
-        for number in 1..=65535u16 {
-            if sign.cell_width(&mut source, font, number).is_some() {
-                let first = open.map_or(number, |run| run.first);
-                open = Some(CharacterRun {
-                    first,
-                    last: number,
-                });
-            } else if let Some(run) = open {
-                runs.push(run)?;
-                open = None;
-            }
-        }
-        if let Some(run) = open {
-            runs.push(run)?;
-        }
-        let mut characters = FontCharacters {
-            font,
-            runs,
-            words: String::new(alloc),
-        };
-        let words = characters.in_words(alloc)?;
-        characters.words = words;
-        Ok(characters)
-    }
-
     /// Those of all fonts of a sign. The error says that memory was refused.
     pub fn of_sign(alloc: Global, sign: &Sign) -> Result<Vec<FontCharacters>, AllocError> {
         let mut source = Source::new(b"");
         let mut fonts = Vec::new(alloc);
         for number in 1..=255u8 {
             if sign.font(&mut source, number).is_some() {
-                fonts.push(FontCharacters::new(alloc, sign, number)?)?;
+                add_font(&mut fonts, alloc, sign, number)?;
             }
         }
         Ok(fonts)
@@ -128,56 +200,22 @@ impl FontCharacters {
 
     /// Whether the font has the character of this number.
     pub(crate) fn has(&self, number: u16) -> bool {
-        self.runs
-            .iter()
-            .any(|run| run.first <= number && number <= run.last)
+        has(&self.runs, number)
     }
 
-    /// Writes the characters of ASCII that are no letters and no digits, and the space.
-    fn write_others(&self, text: &mut String) -> Result<(), AllocError> {
-        for number in SPACE + 1..=LAST_SIGN {
-            if !is_ordered(number) && self.has(number) {
-                write!(text, " {}", char::from(number as u8))?;
+    /// Whether it has all characters of words in ASCII, or of these in capitals.
+    pub(crate) fn has_all(&self, words: &str, capitals: bool) -> bool {
+        for octet in words.as_bytes() {
+            let octet = if capitals {
+                octet.to_ascii_uppercase()
+            } else {
+                *octet
+            };
+            if !self.has(u16::from(octet)) {
+                return false;
             }
         }
-        if self.has(SPACE) {
-            text.push_str(" space")?;
-        }
-        Ok(())
-    }
-
-    /// The characters in words: letters, digits, other characters of ASCII, and the numbers of those above or below them.
-    fn in_words(&self, alloc: Global) -> Result<String, AllocError> {
-        let mut text = String::new(alloc);
-        for order in ORDERS {
-            for run in &self.runs {
-                if let Some(run) = common(*run, order) {
-                    write_order(&mut text, run)?;
-                }
-            }
-        }
-        self.write_others(&mut text)?;
-        let outside = [
-            CharacterRun {
-                first: 1,
-                last: SPACE - 1,
-            },
-            CharacterRun {
-                first: LAST_SIGN + 1,
-                last: 65535,
-            },
-        ];
-        for other in outside {
-            for run in &self.runs {
-                if let Some(run) = common(*run, other) {
-                    write_numbers(&mut text, run)?;
-                }
-            }
-        }
-        if text.is_empty() {
-            text.push_str(" none")?;
-        }
-        Ok(text)
+        true
     }
 
     /// The characters in words.

@@ -1,6 +1,8 @@
 //! A message as a line, with a caret under a place.
 ghost use Rattle.std.specs.Prelude.{◌≡◌, ◌≢◌, ◌≤◌, All, IfSome, length, nat_lt, take};
 
+use crate::sentence::Value::Number;
+use crate::sentence::write_sentence;
 use crate::utf8::{encoded_at, is_shown};
 use crate::words::MORE;
 use std::alloc::AllocError;
@@ -26,15 +28,6 @@ fn shown_at(message: &[u8], at: usize) -> (char, usize) {
         }
         None => ('?', at.saturating_add(1)),
     }
-}
-
-/// The characters of ASCII at the front that are shown as themselves, at most as many as are shown in all.
-fn plain_front(message: &[u8]) -> &str {
-    let most = message.get(..MOST).unwrap_or(message);
-    let is_other = |octet: &u8| *octet < b' ' || *octet > b'~';
-    let count = most.iter().position(is_other).unwrap_or(most.len());
-    let front = most.get(..count).unwrap_or(b"");
-    str::from_utf8(front).unwrap_or("")
 }
 
 /// The octets of a message that are shown and whether more stand behind them, if each of these is shown as itself. All are looked at,
@@ -66,32 +59,24 @@ fn reach(octets: &[u8]) -> (u8, u8)
 
 /// Writes the first characters of a message.
 pub(crate) fn write_message<W: Write>(f: &mut Formatter<W>, message: &[u8]) -> fmt::Result {
-    let front = plain_front(message);
-    f.write_str(front)?;
-    let mut at = front.len();
-    for _ in front.len()..MOST {
-        if at >= message.len() {
-            return Ok(());
+    let mut at = 0;
+    for _ in 0..MOST {
+        if at < message.len() {
+            let (character, next) = shown_at(message, at);
+            f.write_char(character)?;
+            at = next;
         }
-        let (character, next) = shown_at(message, at);
-        f.write_char(character)?;
-        at = next;
     }
     f.write_str(if message.len() > at { MORE } else { "" })
 }
 
-/// Writes the characters of a message around a place, and under them a caret at the place.
-pub(crate) fn write_excerpt(
+/// Writes the characters of a message from an offset as a line. It gives how many stand before a place.
+fn write_line(
     text: &mut String,
     message: &[u8],
+    first: usize,
     at: usize,
-) -> Result<(), AllocError> {
-    let first = at.saturating_sub(BEFORE);
-    if first > 0 {
-        text.push_str("from octet ")?;
-        text.push_str(itoa::Buffer::new().format(first))?;
-        text.push_str(":\n")?;
-    }
+) -> Result<usize, AllocError> {
     let mut next = first;
     let mut before: usize = 0;
     for _ in 0..MOST {
@@ -105,8 +90,27 @@ pub(crate) fn write_excerpt(
         }
     }
     text.push('\n')?;
+    Ok(before)
+}
+
+/// Writes a caret behind so many characters.
+fn write_caret(text: &mut String, before: usize) -> Result<(), AllocError> {
     for _ in 0..before {
         text.push(' ')?;
     }
     text.push_str("^\n")
+}
+
+/// Writes the characters of a message around a place, and under them a caret at the place.
+pub(crate) fn write_excerpt(
+    text: &mut String,
+    message: &[u8],
+    at: usize,
+) -> Result<(), AllocError> {
+    let first = at.saturating_sub(BEFORE);
+    if first > 0 {
+        write_sentence(text, "from octet {}:\n", &[Number(first as u64)])?;
+    }
+    let before = write_line(text, message, first, at)?;
+    write_caret(text, before)
 }

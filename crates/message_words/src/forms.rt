@@ -1,6 +1,6 @@
 //! The tags of MULTI, for one who wrote another.
 
-use std::alloc::{AllocError, Global};
+use crate::sentence::between;
 
 /// A tag that signs of this profile take, and how it is written (NTCIP 1203 v03, MULTI).
 const TAKEN: [(&str, &str); 14] = [
@@ -53,19 +53,13 @@ const LEFT_OUT: [(&str, &str); 5] = [
 /// Such tags whose name is one letter.
 const NUMBERED: [(&str, &str); 2] = [("f", "a field"), ("g", "a graphic")];
 
-/// Whether a body begins with a name, in letters of either case.
-fn begins(body: &[u8], name: &str) -> bool {
-    match body.get(..name.len()) {
-        Some(front) => front.eq_ignore_ascii_case(name.as_bytes()),
-        None => false,
-    }
-}
-
-/// What a table says of the first name that begins a body.
-fn found(table: &[(&'static str, &'static str)], body: &[u8]) -> Option<&'static str> {
+/// What a table says of the first name that begins a body, in letters of either case.
+pub(crate) fn found(table: &[(&'static str, &'static str)], body: &[u8]) -> Option<&'static str> {
     for (name, words) in table {
-        if begins(body, name) {
-            return Some(*words);
+        if let Some(front) = body.get(..name.len()) {
+            if front.eq_ignore_ascii_case(name.as_bytes()) {
+                return Some(*words);
+            }
         }
     }
     None
@@ -79,26 +73,61 @@ pub(crate) fn form_of(body: &[u8]) -> Option<&'static str> {
 /// What the tag is for whose name begins a body, if this profile leaves it out. The names of a field and a graphic are one letter,
 /// behind which a number or a comma stands, or nothing.
 pub(crate) fn left_out(body: &[u8]) -> Option<&'static str> {
-    match body {
-        [b'f' | b'F' | b'g' | b'G'] => found(&NUMBERED, body),
-        [b'f' | b'F' | b'g' | b'G', b'0'..=b'9' | b',', ..] => found(&NUMBERED, body),
-        _ => found(&LEFT_OUT, body),
-    }
+    let is_numbered = match body.get(1) {
+        Some(octet) => octet.is_ascii_digit() || *octet == b',',
+        None => true,
+    };
+    let table = if is_numbered && found(&NUMBERED, body).is_some() {
+        &NUMBERED[..]
+    } else {
+        &LEFT_OUT[..]
+    };
+    found(table, body)
 }
 
-/// The name of a tag that signs take and that is nearest to the letters with which a body begins, if one is but one letter off.
-pub(crate) fn nearest(alloc: Global, body: &[u8]) -> Result<Option<&'static str>, AllocError> {
-    let mut name = String::new(alloc);
+/// What stands behind the first octets.
+fn behind(octets: &[u8], count: usize) -> &[u8] {
+    between(octets, count, octets.len())
+}
+
+/// Whether octets are a name, in letters of either case, but for one letter at most that is another, too many or missing.
+fn is_near(octets: &[u8], name: &[u8]) -> bool {
+    let mut same: usize = 0;
+    for (octet, letter) in octets.iter().zip(name) {
+        if !octet.eq_ignore_ascii_case(letter) {
+            break;
+        }
+        same = same.saturating_add(1);
+    }
+    let (octets, name) = (behind(octets, same), behind(name, same));
+    let (fewer, shorter) = (behind(octets, 1), behind(name, 1));
+    fewer.eq_ignore_ascii_case(shorter)
+        || fewer.eq_ignore_ascii_case(name)
+        || octets.eq_ignore_ascii_case(shorter)
+}
+
+/// How many letters and slashes a body begins with.
+fn count_of_letters(body: &[u8]) -> usize {
+    let mut count: usize = 0;
     for octet in body {
         if !octet.is_ascii_alphabetic() && *octet != b'/' {
             break;
         }
-        name.push(char::from(octet.to_ascii_lowercase()))?;
+        count = count.saturating_add(1);
     }
-    for (taken, _) in TAKEN {
-        if strsim::levenshtein(alloc, &name, taken)? <= 1 && name.len() > 1 {
-            return Ok(Some(taken));
+    count
+}
+
+/// The name of a tag that signs take and that is nearest to the letters with which a body begins, if one is but one letter off.
+pub(crate) fn nearest(body: &[u8]) -> Option<&'static str> {
+    let letters = between(body, 0, count_of_letters(body));
+    if letters.len() < 2 {
+        return None;
+    }
+    for (name, _) in &TAKEN {
+        if is_near(letters, name.as_bytes()) {
+            return Some(*name);
         }
     }
-    Ok(None)
+    None
 }

@@ -13,6 +13,7 @@ mod piece;
 mod plain;
 mod reason;
 mod room;
+mod sentence;
 mod sight;
 mod standing;
 mod times;

@@ -2,6 +2,7 @@
 
 ghost use Rattle.std.specs.Prelude.{◌≤◌, IfSome, length};
 
+use crate::sentence::between;
 use multi_tag::{Tag, read_closed};
 use multi_token::{Kind, Source, next_token};
 
@@ -26,7 +27,7 @@ pub(crate) fn item_at(message: &[u8], at: usize) -> Option<(Item<'_>, usize)> {
     let behind = at.saturating_add(token.len);
     let item = match token.kind {
         Kind::Char(octet) => Item::Char(octet),
-        Kind::Tag => Item::Tag(message.get(at.saturating_add(1)..behind.saturating_sub(1))?),
+        Kind::Tag => Item::Tag(between(message, at.saturating_add(1), behind.saturating_sub(1))),
     };
     Some((item, behind))
 }
@@ -44,8 +45,26 @@ pub(crate) enum Piece<'a> {
 
 /// How many octets at the front are no brackets.
 fn plain_front(octets: &[u8]) -> usize {
-    let is_bracket = |octet: &u8| *octet == b'[' || *octet == b']';
-    octets.iter().position(is_bracket).unwrap_or(octets.len())
+    let mut count: usize = 0;
+    for octet in octets {
+        if *octet == b'[' || *octet == b']' {
+            break;
+        }
+        count = count.saturating_add(1);
+    }
+    count
+}
+
+/// How many octets at the front are spaces.
+pub(crate) fn count_of_spaces(octets: &[u8]) -> usize {
+    let mut count: usize = 0;
+    for octet in octets {
+        if *octet != b' ' {
+            break;
+        }
+        count = count.saturating_add(1);
+    }
+    count
 }
 
 /// The tag with which octets begin, and how many octets spell it, if they begin with one that means anything.
@@ -60,22 +79,30 @@ pub(crate) fn tag_of(octets: &[u8]) -> Option<(Tag, usize)>
     Some((tag, len + 1))
 }
 
-/// The longest piece at an offset and the offset behind it, if one is spelled there.
-#[inline(always)]
-pub(crate) fn piece_at(message: &[u8], at: usize) -> Option<(Piece<'_>, usize)> {
-    let rest = message.get(at..)?;
-    if rest.is_empty() {
-        return None;
-    }
-    let plain = plain_front(rest);
+/// A doubled bracket or a tag that means nothing, with which octets begin, and how many octets spell it.
+fn other_piece(octets: &[u8]) -> Option<(Piece<'_>, usize)> {
+    let (item, len) = item_at(octets, 0)?;
+    let piece = match item {
+        Item::Char(_) => Piece::Text(between(octets, 0, len)),
+        Item::Tag(_) => Piece::Unknown,
+    };
+    Some((piece, len))
+}
+
+/// The longest piece with which octets begin, and how many octets spell it.
+fn first_piece(octets: &[u8]) -> Option<(Piece<'_>, usize)> {
+    let plain = plain_front(octets);
     if plain > 0 {
-        return Some((Piece::Text(rest.get(..plain)?), at.saturating_add(plain)));
+        return Some((Piece::Text(between(octets, 0, plain)), plain));
     }
-    if let Some((tag, len)) = tag_of(rest) {
-        return Some((Piece::Tag(tag), at.saturating_add(len)));
+    match tag_of(octets) {
+        Some((tag, len)) => Some((Piece::Tag(tag), len)),
+        None => other_piece(octets),
     }
-    match item_at(message, at)? {
-        (Item::Char(_), behind) => Some((Piece::Text(message.get(at..behind)?), behind)),
-        (Item::Tag(_), behind) => Some((Piece::Unknown, behind)),
-    }
+}
+
+/// The longest piece at an offset and the offset behind it, if one is spelled there.
+pub(crate) fn piece_at(message: &[u8], at: usize) -> Option<(Piece<'_>, usize)> {
+    let (piece, len) = first_piece(message.get(at..)?)?;
+    Some((piece, at.saturating_add(len)))
 }

@@ -53,6 +53,11 @@ impl Area {
     }
 }
 
+/// A colour as a sign shows it: a monochrome one has no other colour than 1 beside black.
+fn shown_as(is_classic: bool, colour: u8) -> u8 {
+    if is_classic { colour } else { colour.min(1) }
+}
+
 /// What tags and characters tell of hidden text. Colours are bits of a number.
 #[derive(Drop)]
 pub(crate) struct Plain {
@@ -86,11 +91,7 @@ impl Plain {
 
     /// The bit of a colour as the sign shows it.
     fn bit(&self, colour: u8) -> u16 {
-        let shown = if self.is_classic {
-            colour
-        } else {
-            colour.min(1)
-        };
+        let shown = shown_as(self.is_classic, colour);
         1u16.checked_shl(u32::from(shown)).unwrap_or(0)
     }
 
@@ -134,11 +135,18 @@ impl Plain {
     /// Sees a character that is no space, in this colour.
     pub(crate) fn pass(&mut self, fore: u8) {
         self.fores |= self.bit(fore);
-        let area = self.area;
-        if !self.is_begun && self.areas.iter().any(|other| other.meets(area)) {
-            self.is_open = false;
-        }
+        self.is_open = self.is_open && (self.is_begun || !self.meets_others());
         self.is_begun = true;
+    }
+
+    /// Whether the present area has a pixel of another one of its page in which text stands.
+    fn meets_others(&self) -> bool {
+        for area in &self.areas {
+            if area.meets(self.area) {
+                return true;
+            }
+        }
+        false
     }
 
     /// Whether all text of the message is seen.
@@ -154,11 +162,6 @@ impl Plain {
 
 /// Whether text of this colour is seen on a sign, as far as its own background goes.
 pub(crate) fn is_seen_in(sign: &Sign, fore: u8) -> bool {
-    let shown = |colour: u8| if sign.classic() {
-        colour
-    } else {
-        colour.min(1)
-    };
-    let fore = shown(fore);
-    fore > 0 && fore != shown(sign.defaults().back)
+    let fore = shown_as(sign.classic(), fore);
+    fore > 0 && fore != shown_as(sign.classic(), sign.defaults().back)
 }

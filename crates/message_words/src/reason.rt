@@ -2,22 +2,25 @@
 
 use crate::characters::FontCharacters;
 use crate::forms::{form_of, left_out, nearest};
-use crate::names::{known_of, meant};
-use crate::piece::{Item, item_at};
+use crate::names::{Named, known_of, meant};
+use crate::piece::{Item, item_at, tag_of};
 use crate::room::{Lack, Trial};
+use crate::sentence::Value::{Char, Code, Hex, Number, Words};
+use crate::sentence::write_sentence;
 use crate::standing::{Standing, standing_behind};
 use crate::utf8::{Encoded, encoded_around, is_shown};
-use multi_tag::{Tag, read_body};
+use crate::words::{MORE, Refusal};
+use multi_tag::Tag;
 use multi_token::Source;
-use sign_font::Sign;
-use std::alloc::{AllocError, Global};
-use std::fmt::Write;
+use std::alloc::AllocError;
 
 /// The most octets of a tag's body that are shown (own).
 const BODY: usize = 40;
 
+/// The words for the numbers of line justifications (NTCIP 1203 v03, MULTI tag 'jl').
 const LINES: [&str; 6] = ["none", "other", "left", "centre", "right", "full"];
 
+/// The words for the numbers of page justifications (NTCIP 1203 v03, MULTI tag 'jp').
 const GROUPS: [&str; 5] = ["none", "other", "top", "middle", "bottom"];
 
 /// The word for a number.
@@ -28,26 +31,19 @@ fn word<'a>(words: &[&'a str], number: u8) -> &'a str {
     }
 }
 
-/// Where a message is refused.
-#[derive(Drop)]
-pub(crate) struct Place<'a> {
-    pub(crate) alloc: Global,
-    pub(crate) sign: &'a Sign,
-    /// The large sign with its fonts and defaults, if there is one.
-    pub(crate) large: Option<&'a Sign>,
-    /// The characters of its fonts.
-    pub(crate) fonts: &'a [FontCharacters],
-    pub(crate) message: &'a [u8],
-    pub(crate) at: usize,
+/// Octets as text, with a `?` in place of those that are no signs of ASCII.
+fn write_signs(text: &mut String, octets: &[u8]) -> Result<(), AllocError> {
+    for octet in octets {
+        let is_sign = *octet >= b' ' && *octet <= b'~';
+        text.push(if is_sign { char::from(*octet) } else { '?' })?;
+    }
+    Ok(())
 }
 
 /// The octets of a body as text.
 fn write_body(text: &mut String, body: &[u8]) -> Result<(), AllocError> {
-    for octet in body.iter().take(BODY) {
-        let is_sign = *octet >= b' ' && *octet <= b'~';
-        text.push(if is_sign { char::from(*octet) } else { '?' })?;
-    }
-    text.push_str(if body.len() > BODY { " .." } else { "" })
+    write_signs(text, body.get(..BODY).unwrap_or(body))?;
+    text.push_str(if body.len() > BODY { MORE } else { "" })
 }
 
 /// The number of the tab.
@@ -83,21 +79,21 @@ fn write_plain(
     plain: &str,
     characters: &FontCharacters,
 ) -> Result<(), AllocError> {
-    match plain {
-        "" => return text.push_str("; leave it out"),
-        " " => return text.push_str("; write a space"),
-        _ => {}
-    }
-    let has = |octet: &u8| characters.has(u16::from(*octet));
-    if plain.as_bytes().iter().all(has) {
-        return write!(text, "; write {plain}");
-    }
-    let mut capitals = plain.as_bytes().iter();
-    if !capitals.all(|octet| characters.has(u16::from(octet.to_ascii_uppercase()))) {
-        return write!(text, "; it has{}", characters.words());
-    }
+    let (sentence, words) = match plain {
+        "" => ("; leave it out", ""),
+        " " => ("; write a space", ""),
+        "?" => ("; it has{}", characters.words()),
+        _ if characters.has_all(plain, false) => ("; write {}", plain),
+        _ if characters.has_all(plain, true) => return write_capitals(text, plain),
+        _ => ("; it has{}", characters.words()),
+    };
+    write_sentence(text, sentence, &[Words(words)])
+}
+
+/// Says to write words in capitals.
+fn write_capitals(text: &mut String, words: &str) -> Result<(), AllocError> {
     text.push_str("; write ")?;
-    for octet in plain.as_bytes() {
+    for octet in words.as_bytes() {
         text.push(char::from(octet.to_ascii_uppercase()))?;
     }
     Ok(())
@@ -114,28 +110,60 @@ fn write_encoded(
     let Encoded { character, count } = encoded;
     let code = u32::from(character);
     let known = known_of(character);
-    let name = known.map_or("", |known| known.name);
-    if is_shown(character) {
-        write!(text, "{character} ")?;
-    }
-    write!(text, "(U+{code:04X}")?;
-    text.push_str(if name.is_empty() { "" } else { ", " })?;
-    write!(
-        text,
-        "{name}) is written in {} octets, and the sign reads octets; font {font} has no character {number}",
-        count_word(count)
-    )?;
-    let Some(characters) = characters else {
-        return Ok(());
+    let name = known.name;
+    let (shown, space) = if is_shown(character) {
+        (Char(character), " ")
+    } else {
+        (Words(""), "")
     };
-    match (u16::try_from(code), known.and_then(|known| known.plain)) {
-        (Ok(code), _) if characters.has(code) => write!(text, "; write [hc{code:X}]"),
-        (_, Some(plain)) => write_plain(text, plain, characters),
-        _ => write!(text, "; it has{}", characters.words()),
+    write_sentence(
+        text,
+        "{}{}({}{}{}) is written in {} octets, and the sign reads octets; font {} has no character {}",
+        &[
+            shown,
+            Words(space),
+            Code(code),
+            Words(if name.is_empty() { "" } else { ", " }),
+            Words(name),
+            Words(count_word(count)),
+            Number(font.into()),
+            Number(number.into()),
+        ],
+    )?;
+    match characters {
+        Some(characters) => write_known(text, code, known, characters),
+        None => Ok(()),
     }
 }
 
-impl Place<'_> {
+/// Says what to write in place of a character of this code in Unicode.
+fn write_known(
+    text: &mut String,
+    code: u32,
+    known: Named,
+    characters: &FontCharacters,
+) -> Result<(), AllocError> {
+    let number = u16::try_from(code).unwrap_or(0);
+    if characters.has(number) {
+        return write_sentence(text, "; write [hc{}]", &[Hex(code)]);
+    }
+    write_plain(text, known.plain, characters)
+}
+
+/// What may be meant by a tag that the standard doesn't have, and a word for it.
+fn guess(body: &[u8]) -> (&'static str, &'static str) {
+    let bare = body.trim_ascii();
+    if bare.len() < body.len() && form_of(bare).is_some() {
+        return ("; it is meant without spaces", "");
+    }
+    match (meant(body), nearest(body)) {
+        (Some(tag), _) => ("; perhaps {} is meant", tag),
+        (None, Some(name)) => ("; perhaps '{}' is meant", name),
+        (None, None) => ("; [[ and ]] write brackets", ""),
+    }
+}
+
+impl Refusal<'_> {
     /// The body of the tag that stands at the place.
     fn body(&self) -> Option<&[u8]> {
         match item_at(self.message, self.at) {
@@ -146,7 +174,8 @@ impl Place<'_> {
 
     /// The tag that stands at the place.
     fn tag(&self) -> Option<Tag> {
-        read_body(self.body()?).ok()
+        let (tag, _) = tag_of(self.message.get(self.at..)?)?;
+        Some(tag)
     }
 
     /// Says why a bracket is broken.
@@ -167,36 +196,24 @@ impl Place<'_> {
         text.push_str("the sign takes no tag '")?;
         write_body(text, body)?;
         if let Some(purpose) = left_out(body) {
-            return write!(
-                text,
-                "'; the standard has such a tag for {purpose}, and this profile leaves it out"
-            );
+            let sentence = "'; the standard has such a tag for {}, and this profile leaves it out";
+            return write_sentence(text, sentence, &[Words(purpose)]);
         }
         text.push_str("'; no tag of the standard begins so")?;
-        let bare = body.trim_ascii();
-        if bare.len() < body.len() && form_of(bare).is_some() {
-            return text.push_str("; it is meant without spaces");
-        }
-        match (meant(body), nearest(self.alloc, body)?) {
-            (Some(tag), _) => write!(text, "; perhaps {tag} is meant"),
-            (None, Some(name)) => write!(text, "; perhaps '{name}' is meant"),
-            (None, None) => text.push_str("; [[ and ]] write brackets"),
-        }
+        let (sentence, word) = guess(body);
+        write_sentence(text, sentence, &[Words(word)])
     }
 
     /// Says what is wrong with a rectangle.
     fn write_rectangle(&self, text: &mut String, x: u32, y: u32) -> Result<(), AllocError> {
-        if x == 0 || y == 0 {
-            return text.push_str(
-                "the column and the row of a rectangle are counted from 1, and one of them is 0",
-            );
-        }
-        write!(
-            text,
-            "the rectangle isn't inside the sign, which has {} by {} pixels",
-            self.sign.width(),
-            self.sign.height()
-        )
+        let sentence = if x == 0 || y == 0 {
+            "the column and the row of a rectangle are counted from 1, and one of them is 0"
+        } else {
+            "the rectangle isn't inside the sign, which has {} by {} pixels"
+        };
+        let width = Number(self.sign.width().into());
+        let height = Number(self.sign.height().into());
+        write_sentence(text, sentence, &[width, height])
     }
 
     /// Says how a tag is written.
@@ -204,10 +221,11 @@ impl Place<'_> {
         if let Some(Tag::Rect { x, y, .. }) = self.tag() {
             return self.write_rectangle(text, x, y);
         }
-        match self.body().and_then(form_of) {
-            Some(form) => write!(text, "this tag is written {form}"),
-            None => text.push_str("the tag has another form"),
-        }
+        let (sentence, form) = match form_of(self.body().unwrap_or(b"")) {
+            Some(form) => ("this tag is written {}", form),
+            None => ("the tag has another form", ""),
+        };
+        write_sentence(text, sentence, &[Words(form)])
     }
 
     /// Says how much room lacks.
@@ -222,31 +240,34 @@ impl Place<'_> {
             from: standing.area,
             end,
         };
-        let (width, height) = (standing.width, standing.height);
-        match trial.lack(standing, self.at)? {
-            Lack::Line(need) => {
-                text.push_str("the line needs ")?;
-                need.write(text)?;
-                write!(text, " pixels, the rectangle has {width}")
-            }
-            Lack::Area(need) => {
-                text.push_str("the area needs ")?;
-                need.write(text)?;
-                write!(text, " rows of {height}")
-            }
-        }
+        let (sentence, need, has) = match trial.lack(standing, self.at)? {
+            Lack::Line(need) => (
+                "the line needs {}{} pixels, the rectangle has {}",
+                need,
+                standing.width,
+            ),
+            Lack::Area(need) => ("the area needs {}{} rows of {}", need, standing.height),
+        };
+        write_sentence(
+            text,
+            sentence,
+            &[
+                Words(need.words),
+                Number(need.pixels.into()),
+                Number(has.into()),
+            ],
+        )
     }
 
     /// Says which fonts there are.
     fn write_fonts(&self, text: &mut String) -> Result<(), AllocError> {
         if let Some(Tag::Font(Some(pick))) = self.tag() {
-            write!(text, "the sign has no font {}; it has", pick.number)?;
+            let number = Number(pick.number.into());
+            write_sentence(text, "the sign has no font {}; it has", &[number])?;
         }
-        let mut source = Source::new(b"");
-        for number in 1..=255u8 {
-            if self.sign.font(&mut source, number).is_some() {
-                write!(text, " {number}")?;
-            }
+        for characters in self.fonts {
+            let number = Number(characters.font.into());
+            write_sentence(text, " {}", &[number])?;
         }
         Ok(())
     }
@@ -271,10 +292,27 @@ impl Place<'_> {
         ) {
             return write_encoded(text, font, number, encoded, characters);
         }
-        write!(text, "font {font} has no character {number}")?;
-        if number > 32 && number < 127 {
-            write!(text, " '{}'", char::from(number as u8))?;
-        }
+        let sentence = if number > 32 && number < 127 {
+            "font {} has no character {} '{}'"
+        } else {
+            "font {} has no character {}"
+        };
+        let values = [
+            Number(font.into()),
+            Number(number.into()),
+            Char(char::from(number.min(126) as u8)),
+        ];
+        write_sentence(text, sentence, &values)?;
+        self.write_instead(text, number, characters)
+    }
+
+    /// Says what to write in place of a character of one octet, and which ones the font has.
+    fn write_instead(
+        &self,
+        text: &mut String,
+        number: u16,
+        characters: Option<&FontCharacters>,
+    ) -> Result<(), AllocError> {
         if number == TAB {
             return text.push_str(", which is a tab; write spaces");
         }
@@ -284,48 +322,52 @@ impl Place<'_> {
         let Some(characters) = characters else {
             return Ok(());
         };
-        write!(text, "; it has{}", characters.words())?;
-        match other_case(number) {
-            Some(other) if characters.has(u16::from(other)) => {
-                write!(text, "; write {}", char::from(other))
-            }
-            _ => Ok(()),
-        }
+        let (sentence, other) = match other_case(number) {
+            Some(other) if characters.has(u16::from(other)) => ("; it has{}; write {}", other),
+            _ => ("; it has{}", b' '),
+        };
+        let words = Words(characters.words());
+        write_sentence(text, sentence, &[words, Char(char::from(other))])
     }
 
     /// The characters of a font.
     fn characters(&self, font: u8) -> Option<&FontCharacters> {
-        self.fonts.iter().find(|characters| characters.font == font)
+        for characters in self.fonts {
+            if characters.font == font {
+                return Some(characters);
+            }
+        }
+        None
     }
 
     /// Says which justification goes back.
     fn write_conflict(&self, text: &mut String, standing: &Standing) -> Result<(), AllocError> {
-        let Standing {
-            page_just,
-            line_just,
-            group,
-            segment,
-            ..
-        } = *standing;
-        if page_just < group {
-            return write!(
-                text,
-                "page justification goes back from {group} ({}) to {page_just} ({}); [np] and [tr..] begin anew",
-                word(&GROUPS, group),
-                word(&GROUPS, page_just)
-            );
-        }
-        if line_just == 5 || segment == 5 {
+        let (sentence, words, from, to) = if standing.page_just < standing.group {
+            (
+                "page justification goes back from {} ({}) to {} ({}); [np] and [tr..] begin anew",
+                &GROUPS[..],
+                standing.group,
+                standing.page_just,
+            )
+        } else if standing.line_just == 5 || standing.segment == 5 {
             return text.push_str(
                 "full justification (5) isn't alone on its line; [nl] begins a line",
             );
-        }
-        write!(
-            text,
-            "line justification goes back from {segment} ({}) to {line_just} ({}); [nl] begins a line",
-            word(&LINES, segment),
-            word(&LINES, line_just)
-        )
+        } else {
+            (
+                "line justification goes back from {} ({}) to {} ({}); [nl] begins a line",
+                &LINES[..],
+                standing.segment,
+                standing.line_just,
+            )
+        };
+        let values = [
+            Number(from.into()),
+            Words(word(words, from)),
+            Number(to.into()),
+            Words(word(words, to)),
+        ];
+        write_sentence(text, sentence, &values)
     }
 
     /// Says which version the font has.
@@ -338,30 +380,33 @@ impl Place<'_> {
         else {
             return text.push_str("the font has another version");
         };
-        write!(
-            text,
-            "font {} has version {:X}, and not {wanted:X}",
-            pick.number, font.version
-        )
+        let values = [
+            Number(pick.number.into()),
+            Hex(font.version.into()),
+            Hex(wanted.into()),
+        ];
+        write_sentence(text, "font {} has version {}, and not {}", &values)
     }
 
-    /// Says why a message is refused at the place with the error of this number.
-    pub(crate) fn write_reason(&self, text: &mut String, code: u8) -> Result<(), AllocError> {
+    /// Says which page is one too many.
+    fn write_pages(&self, text: &mut String, pages: u32) -> Result<(), AllocError> {
+        let page = Number(pages.saturating_add(1).into());
+        let most = Number(self.sign.max_pages().into());
+        write_sentence(text, "page {} of at most {}", &[page, most])
+    }
+
+    /// Adds the sentence that says why.
+    pub(crate) fn write_reason(&self, text: &mut String) -> Result<(), AllocError> {
         let front = self.message.get(..self.at).unwrap_or(self.message);
         let standing = standing_behind(self.sign, front);
-        match code {
+        match self.code {
             3 => self.write_unsupported(text),
             4 => self.write_value(text),
             5 => self.write_size(text, &standing),
             6 => self.write_fonts(text),
             7 => self.write_characters(text, standing.font),
             11 => self.write_conflict(text, &standing),
-            12 => write!(
-                text,
-                "page {} of at most {}",
-                standing.pages.saturating_add(1),
-                self.sign.max_pages()
-            ),
+            12 => self.write_pages(text, standing.pages),
             _ => self.write_version(text),
         }
     }

@@ -1,11 +1,12 @@
 //! How much room a message needs, by the verdict of a large sign with the same fonts and defaults.
 
+use crate::sentence::Value::Number;
+use crate::sentence::{between, joined, sentence_of};
 use crate::standing::{Part, Standing};
 use multi_layout::check;
 use multi_token::Source;
 use sign_font::{LineFill, Sign};
 use std::alloc::{AllocError, Global};
-use std::fmt::Write;
 
 /// The columns of the large sign, by which is told how much room a message lacks: the most that a sign has (own).
 pub const LARGE_COLUMNS: u16 = 1024;
@@ -15,13 +16,11 @@ pub const LARGE_ROWS: u16 = 128;
 
 /// How many pixels are needed.
 #[derive(Clone, Copy)]
-pub(crate) enum Need {
-    /// All of it needs these.
-    All(u16),
-    /// What goes up to the refused item needs these, and what follows couldn't be judged.
-    Front(u16),
-    /// It needs more than these, which are all that there can be.
-    Over(u16),
+pub(crate) struct Need {
+    /// What is said before the number: nothing if all of it needs these, `at least ` if what goes up to the refused item needs these and
+    /// what follows couldn't be judged, and `more than ` if it needs more than these, which are all that there can be.
+    pub(crate) words: &'static str,
+    pub(crate) pixels: u16,
 }
 
 /// What a message lacks.
@@ -31,17 +30,6 @@ pub(crate) enum Lack {
     Line(Need),
     /// Its area needs these rows.
     Area(Need),
-}
-
-impl Need {
-    /// Writes the number.
-    pub(crate) fn write(self, text: &mut String) -> Result<(), AllocError> {
-        match self {
-            Need::All(pixels) => write!(text, "{pixels}"),
-            Need::Front(pixels) => write!(text, "at least {pixels}"),
-            Need::Over(pixels) => write!(text, "more than {pixels}"),
-        }
-    }
 }
 
 /// A front of a message on a large sign.
@@ -70,23 +58,32 @@ enum Fit {
 /// The number of the error textTooBig (NTCIP 1203 v03, dmsMultiSyntaxError).
 const TEXT_TOO_BIG: u8 = 5;
 
+/// How a sign judges a message.
+fn judged(sign: &Sign, message: &[u8]) -> Fit {
+    if message.len() > u32::MAX as usize {
+        return Fit::Refuses;
+    }
+    match check(sign, Source::new(message)) {
+        Ok(_) => Fit::Takes,
+        Err(fault) if fault.code == TEXT_TOO_BIG => Fit::TooBig,
+        Err(_) => Fit::Refuses,
+    }
+}
+
 impl Trial<'_> {
     /// How the large sign judges the front where its last area stands in a rectangle of its own, of this size.
     fn judge(&self, columns: u16, rows: u16) -> Result<Fit, AllocError> {
-        let mut text = String::new(self.alloc);
-        write!(text, "[tr1,1,{columns},{rows}]")?;
-        let mut octets = Vec::new(self.alloc);
-        octets.extend_from_slice(self.message.get(..self.from).unwrap_or(b""))?;
-        octets.extend_from_slice(text.as_bytes())?;
-        octets.extend_from_slice(self.message.get(self.from..self.end).unwrap_or(b""))?;
-        if octets.len() > u32::MAX as usize {
-            return Ok(Fit::Refuses);
-        }
-        Ok(match check(self.large, Source::new(&octets)) {
-            Ok(_) => Fit::Takes,
-            Err(fault) if fault.code == TEXT_TOO_BIG => Fit::TooBig,
-            Err(_) => Fit::Refuses,
-        })
+        let size = [Number(columns.into()), Number(rows.into())];
+        let rectangle = sentence_of(self.alloc, "[tr1,1,{},{}]", &size)?;
+        let octets = joined(
+            self.alloc,
+            &[
+                between(self.message, 0, self.from),
+                rectangle.as_bytes(),
+                between(self.message, self.from, self.end),
+            ],
+        )?;
+        Ok(judged(self.large, &octets))
     }
 
     /// Whether the large sign takes it so.
@@ -110,31 +107,41 @@ impl Trial<'_> {
         Ok(most)
     }
 
-    /// The least number of rows in which it fits these columns, if any do.
-    fn least_rows(&self, columns: u16) -> Result<Option<u16>, AllocError> {
-        for rows in 1..=LARGE_ROWS {
-            if self.fits(columns, rows)? {
-                return Ok(Some(rows));
+    /// The least number of rows in which it fits these columns, after these words, if any do.
+    fn rows_for(&self, columns: u16, words: &'static str) -> Result<Need, AllocError> {
+        for pixels in 1..=LARGE_ROWS {
+            if self.fits(columns, pixels)? {
+                return Ok(Need { words, pixels });
             }
         }
-        Ok(None)
+        Ok(Need {
+            words: "more than ",
+            pixels: LARGE_ROWS,
+        })
+    }
+
+    /// The columns that it needs, if the large sign judges it so, after these words.
+    fn columns_for(&self, fit: Fit, words: &'static str) -> Result<Need, AllocError> {
+        if fit != Fit::Takes {
+            return Ok(Need {
+                words: "more than ",
+                pixels: LARGE_COLUMNS,
+            });
+        }
+        let pixels = self.least_columns()?;
+        Ok(Need { words, pixels })
     }
 
     /// The columns that its line needs, with what follows on the line unless another reason than its size refuses that.
     fn columns(&self, part: Part, group: u8) -> Result<Need, AllocError> {
         if let Some(end) = part.end(self.large, self.message, self.end, group) {
             let line = Trial { end, ..*self };
-            match line.judge(LARGE_COLUMNS, LARGE_ROWS)? {
-                Fit::Takes => return Ok(Need::All(line.least_columns()?)),
-                Fit::TooBig => return Ok(Need::Over(LARGE_COLUMNS)),
-                Fit::Refuses => {}
+            let fit = line.judge(LARGE_COLUMNS, LARGE_ROWS)?;
+            if fit != Fit::Refuses {
+                return line.columns_for(fit, "");
             }
         }
-        if self.fits(LARGE_COLUMNS, LARGE_ROWS)? {
-            Ok(Need::Front(self.least_columns()?))
-        } else {
-            Ok(Need::Over(LARGE_COLUMNS))
-        }
+        self.columns_for(self.judge(LARGE_COLUMNS, LARGE_ROWS)?, "at least ")
     }
 
     /// The rows that its area needs, with what follows in the area if that fits these columns.
@@ -142,16 +149,10 @@ impl Trial<'_> {
         if let Some(end) = Part::Area.end(self.large, self.message, self.end, 0) {
             let area = Trial { end, ..*self };
             if area.fits(columns, LARGE_ROWS)? {
-                return Ok(match area.least_rows(columns)? {
-                    Some(rows) => Need::All(rows),
-                    None => Need::Over(LARGE_ROWS),
-                });
+                return area.rows_for(columns, "");
             }
         }
-        Ok(match self.least_rows(columns)? {
-            Some(rows) => Need::Front(rows),
-            None => Need::Over(LARGE_ROWS),
-        })
+        self.rows_for(columns, "at least ")
     }
 
     /// What the line or the area lacks whose last item, at an offset, is too big.

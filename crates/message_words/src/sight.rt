@@ -1,14 +1,15 @@
 //! Whether text on the pages of an accepted message is seen.
 
-use crate::piece::{Piece, piece_at};
+use crate::piece::{Piece, count_of_spaces, piece_at};
 use crate::plain::Plain;
+use crate::sentence::Value::Number;
+use crate::sentence::{between, joined, sentence_of};
 use multi_layout::check;
 use multi_tag::Tag;
 use multi_token::Source;
 use page_picture::PageColours;
 use sign_font::Sign;
 use std::alloc::{AllocError, Global};
-use std::fmt::Write;
 
 /// The most moments of a page that are looked at (own).
 const MOMENTS: usize = 6;
@@ -117,6 +118,49 @@ fn first_look(sign: &Sign) -> Look {
     }
 }
 
+/// The first moments of a page at which something of it begins to be lit, in tenths of a second since it began.
+#[derive(Clone, Copy)]
+struct Moments {
+    moments: [u64; MOMENTS],
+    count: usize,
+}
+
+impl Moments {
+    /// The beginning of the page alone.
+    fn new() -> Moments {
+        Moments {
+            moments: [0; MOMENTS],
+            count: 1,
+        }
+    }
+
+    /// Those that there are.
+    fn all(&self) -> &[u64] {
+        self.moments.get(..self.count).unwrap_or(&self.moments[..])
+    }
+
+    /// Adds one, unless it is there.
+    fn add(&mut self, moment: u64) {
+        if self.all().contains(&moment) {
+            return;
+        }
+        if let Some(place) = self.moments.get_mut(self.count) {
+            *place = moment;
+            self.count = self.count.saturating_add(1);
+        }
+    }
+}
+
+/// Whether all pixels are black.
+fn is_dark(colours: &[u8]) -> bool {
+    for colour in colours {
+        if *colour > 0 {
+            return false;
+        }
+    }
+    true
+}
+
 /// A message with its text.
 #[derive(Drop)]
 pub(crate) struct Sight<'a> {
@@ -174,8 +218,9 @@ impl<'a> Sight<'a> {
 
     /// Adds characters that aren't written by their numbers.
     fn pass_text(&mut self, text: &[u8], at: usize, end: usize) -> Result<(), AllocError> {
-        let first = text.iter().position(|octet| *octet != b' ');
-        self.pass(first.map(|first| at.saturating_add(first)), at, end)
+        let spaces = count_of_spaces(text);
+        let first = at.saturating_add(spaces);
+        self.pass((spaces < text.len()).then_some(first), at, end)
     }
 
     /// Adds characters that stand from one offset to another, with the offset of the first that is no space.
@@ -196,75 +241,82 @@ impl<'a> Sight<'a> {
         }
     }
 
-    /// The colours of a page of a message with added tags at a moment, or `None` if there are none.
-    fn colours(&self, octets: &[u8], page: u8, moment: u64) -> Result<Option<Vec<u8>>, AllocError> {
+    /// The colours of a page of a message with added tags at a moment, or nothing if there are none.
+    fn colours(&self, octets: &[u8], page: u8, moment: u64) -> Result<Vec<u8>, AllocError> {
         if octets.len() > LONGEST {
-            return Ok(None);
+            return Ok(Vec::new(self.alloc));
         }
         let Ok(mut checked) = check(self.sign, Source::new(octets)) else {
-            return Ok(None);
+            return Ok(Vec::new(self.alloc));
         };
         if page >= checked.pages() {
-            return Ok(None);
+            return Ok(Vec::new(self.alloc));
         }
-        let colours = PageColours::new(self.alloc, self.sign, &mut checked, page, moment)?;
-        Ok(Some(colours.octets(self.alloc)?))
+        PageColours::new(self.alloc, self.sign, &mut checked, page, moment)?.octets(self.alloc)
     }
 
     /// The message with one tag before a run and another behind it.
     fn with_tags(&self, run: Run, before: &str, behind: &str) -> Result<Vec<u8>, AllocError> {
-        let mut octets = Vec::new(self.alloc);
-        octets.extend_from_slice(self.message.get(..run.from).unwrap_or(b""))?;
-        octets.extend_from_slice(before.as_bytes())?;
-        octets.extend_from_slice(self.message.get(run.from..run.end).unwrap_or(b""))?;
-        octets.extend_from_slice(behind.as_bytes())?;
-        octets.extend_from_slice(self.message.get(run.end..).unwrap_or(b""))?;
-        Ok(octets)
+        let message = self.message;
+        joined(
+            self.alloc,
+            &[
+                between(message, 0, run.from),
+                before.as_bytes(),
+                between(message, run.from, run.end),
+                behind.as_bytes(),
+                between(message, run.end, message.len()),
+            ],
+        )
     }
 
     /// The message in which a run is never lit, so that nothing of it covers what is below it.
     fn without(&self, run: Run) -> Result<Vec<u8>, AllocError> {
-        let mut behind = String::new(self.alloc);
-        match run.look.flash {
-            Some(flash) if flash.off_first => write!(behind, "[flo{}t{}]", flash.off, flash.on)?,
-            Some(flash) => write!(behind, "[flt{}o{}]", flash.on, flash.off)?,
-            None => behind.push_str("[/fl]")?,
-        }
+        let (tag, first, second) = match run.look.flash {
+            Some(flash) if flash.off_first => ("[flo{}t{}]", flash.off, flash.on),
+            Some(flash) => ("[flt{}o{}]", flash.on, flash.off),
+            None => ("[/fl]", 0, 0),
+        };
+        let times = [Number(first.into()), Number(second.into())];
+        let behind = sentence_of(self.alloc, tag, &times)?;
         self.with_tags(run, "[flt0o1]", &behind)
     }
 
-    /// The message in which a run has another colour.
-    fn coloured(&self, run: Run, colour: u8) -> Result<Vec<u8>, AllocError> {
-        let mut before = String::new(self.alloc);
-        write!(before, "[cf{colour}]")?;
-        let mut behind = String::new(self.alloc);
-        write!(behind, "[cf{}]", run.look.fore)?;
-        self.with_tags(run, &before, &behind)
+    /// The message in which a run has the colour of a tag.
+    fn coloured(&self, run: Run, tag: &str) -> Result<Vec<u8>, AllocError> {
+        let fore = Number(run.look.fore.into());
+        let behind = sentence_of(self.alloc, "[cf{}]", &[fore])?;
+        self.with_tags(run, tag, &behind)
     }
 
     /// The moments of a page at which something of it begins to be lit.
-    fn moments(&self, page: u8) -> Result<Vec<u64>, AllocError> {
-        let mut moments = Vec::new(self.alloc);
-        moments.push(0)?;
+    fn moments(&self, page: u8) -> Moments {
+        let mut moments = Moments::new();
         for run in &self.runs {
-            let moment = run.first_lit();
-            if run.look.page == page && moments.len() < MOMENTS && !moments.contains(&moment) {
-                moments.push(moment)?;
+            if run.look.page == page {
+                moments.add(run.first_lit());
             }
         }
-        Ok(moments)
+        moments
+    }
+
+    /// Whether a page looks the same at a moment in two messages.
+    fn is_alike(
+        &self,
+        one: &[u8],
+        other: &[u8],
+        page: u8,
+        moment: u64,
+    ) -> Result<bool, AllocError> {
+        let first = self.colours(one, page, moment)?;
+        let second = self.colours(other, page, moment)?;
+        Ok(!first.is_empty() && first.as_slice() == second.as_slice())
     }
 
     /// Whether a page looks the same at all these moments in two messages.
     fn are_alike(&self, one: &[u8], other: &[u8], page: u8) -> Result<bool, AllocError> {
-        for moment in &self.moments(page)? {
-            let (Some(first), Some(second)) = (
-                self.colours(one, page, *moment)?,
-                self.colours(other, page, *moment)?,
-            ) else {
-                return Ok(false);
-            };
-            if first.as_slice() != second.as_slice() {
+        for moment in self.moments(page).all() {
+            if !self.is_alike(one, other, page, *moment)? {
                 return Ok(false);
             }
         }
@@ -282,7 +334,7 @@ impl<'a> Sight<'a> {
 
     /// Whether what stands behind a run covers all of it.
     pub(crate) fn is_covered(&self, run: Run) -> Result<bool, AllocError> {
-        let (dark, lit) = (self.coloured(run, 0)?, self.coloured(run, 1)?);
+        let (dark, lit) = (self.coloured(run, "[cf0]")?, self.coloured(run, "[cf1]")?);
         self.are_alike(&dark, &lit, run.look.page)
     }
 
@@ -299,16 +351,31 @@ impl<'a> Sight<'a> {
 
     /// Whether a pixel of a page is lit at one of its moments.
     fn is_lit(&self, page: u8) -> Result<bool, AllocError> {
-        let has_text = self.runs.len() >= RUNS || self.runs.iter().any(|run| run.look.page == page);
+        let has_text = self.has_text(page);
         if self.plain.shows_text() && (has_text || self.plain.is_dark_without_text()) {
             return Ok(has_text);
         }
-        for moment in &self.moments(page)? {
-            match self.colours(self.message, page, *moment)? {
-                Some(colours) if colours.iter().all(|colour| *colour == 0) => {}
-                _ => return Ok(true),
+        for moment in self.moments(page).all() {
+            if self.is_lit_at(page, *moment)? {
+                return Ok(true);
             }
         }
         Ok(false)
+    }
+
+    /// Whether a page has text, as far as runs were looked at.
+    fn has_text(&self, page: u8) -> bool {
+        for run in &self.runs {
+            if run.look.page == page {
+                return true;
+            }
+        }
+        self.runs.len() >= RUNS
+    }
+
+    /// Whether a pixel of a page is lit at a moment, as far as it can be told.
+    fn is_lit_at(&self, page: u8, moment: u64) -> Result<bool, AllocError> {
+        let colours = self.colours(self.message, page, moment)?;
+        Ok(colours.is_empty() || !is_dark(&colours))
     }
 }

@@ -1,7 +1,7 @@
 //! What is in force behind some items of a message, as far as words tell it.
 
 use crate::piece::{Piece, piece_at};
-use multi_tag::{LineJust, PageJust, Tag};
+use multi_tag::{PageJust, Tag};
 use sign_font::Sign;
 
 /// What is in force behind some items.
@@ -36,6 +36,14 @@ fn side(whole: u16, first: u32, length: u32) -> u32 {
         u32::from(whole).saturating_sub(first.saturating_sub(1))
     } else {
         length
+    }
+}
+
+/// The number of the page justification of a tag.
+fn page_just_of(sign: &Sign, just: Option<PageJust>) -> u8 {
+    match just {
+        Some(just) => just.number(),
+        None => sign.defaults().page,
     }
 }
 
@@ -84,8 +92,14 @@ impl Standing {
 
     /// Goes behind characters that aren't written by their numbers.
     fn pass_text(&mut self, text: &[u8], at: usize) {
-        let space = text.iter().rposition(|octet| *octet == b' ');
-        let word = space.map(|space| at.saturating_add(space).saturating_add(1));
+        let mut word = None;
+        let mut next = at;
+        for octet in text {
+            next = next.saturating_add(1);
+            if *octet == b' ' {
+                word = Some(next);
+            }
+        }
         self.pass_characters(at, word);
     }
 
@@ -119,9 +133,11 @@ impl Standing {
     fn set(&mut self, sign: &Sign, tag: Tag) {
         let defaults = sign.defaults();
         match tag {
-            Tag::LineJust(just) => self.line_just = just.map_or(defaults.line, LineJust::number),
-            Tag::PageJust(just) => self.page_just = just.map_or(defaults.page, PageJust::number),
-            Tag::Font(pick) => self.font = pick.map_or(defaults.font, |pick| pick.number),
+            Tag::LineJust(None) => self.line_just = defaults.line,
+            Tag::LineJust(Some(just)) => self.line_just = just.number(),
+            Tag::PageJust(just) => self.page_just = page_just_of(sign, just),
+            Tag::Font(None) => self.font = defaults.font,
+            Tag::Font(Some(pick)) => self.font = pick.number,
             _ => {}
         }
     }
@@ -156,6 +172,18 @@ pub(crate) fn standing_behind(sign: &Sign, message: &[u8]) -> Standing {
     standing
 }
 
+/// The offset of the first space among characters that begin at an offset, if there is one.
+fn space_in(text: &[u8], at: usize) -> Option<usize> {
+    let mut next = at;
+    for octet in text {
+        if *octet == b' ' {
+            return Some(next);
+        }
+        next = next.saturating_add(1);
+    }
+    None
+}
+
 /// A part of a message.
 #[derive(Clone, Copy)]
 pub(crate) enum Part {
@@ -186,10 +214,16 @@ impl Part {
             Part::Area => None,
             _ if !is_in_group => Some(at),
             Part::Line => None,
-            Part::Word => {
-                let space = text.iter().position(|octet| *octet == b' ')?;
-                Some(at.saturating_add(space))
-            }
+            Part::Word => space_in(text, at),
+        }
+    }
+
+    /// Where it ends at a piece that begins at an offset and is in its group or not, if it does.
+    fn end_at(self, piece: Piece<'_>, at: usize, is_in_group: bool) -> Option<usize> {
+        match piece {
+            Piece::Text(text) => self.end_in(text, at, is_in_group),
+            Piece::Tag(tag) => self.ends_before(tag, is_in_group).then_some(at),
+            Piece::Unknown => None,
         }
     }
 
@@ -203,17 +237,12 @@ impl Part {
                 return Some(at);
             }
             let (piece, behind) = piece_at(message, at)?;
-            match piece {
-                Piece::Text(text) => {
-                    if let Some(end) = self.end_in(text, at, page_just == group) {
-                        return Some(end);
-                    }
-                }
-                Piece::Tag(tag) if self.ends_before(tag, page_just == group) => return Some(at),
-                Piece::Tag(Tag::PageJust(just)) => {
-                    page_just = just.map_or(sign.defaults().page, PageJust::number);
-                }
-                _ => {}
+            let end = self.end_at(piece, at, page_just == group);
+            if end.is_some() {
+                return end;
+            }
+            if let Piece::Tag(Tag::PageJust(just)) = piece {
+                page_just = page_just_of(sign, just);
             }
             at = behind;
         }

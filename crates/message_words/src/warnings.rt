@@ -1,18 +1,19 @@
 //! What the writer of an accepted message can't have meant.
-ghost use Rattle.std.specs.Prelude.{◌≡◌, ◌∷◌, [], ◌++◌, ◌<◌, ◌≤◌, IfOk, OnOk, length};
+ghost use Rattle.std.specs.Prelude.{◌≡◌, ◌∷◌, [], ◌++◌, ◌<◌, ◌≤◌, ℕ, IfOk, OnOk, length};
 ghost use Rattle.std.specs.List.{Contains};
 ghost use Rattle.message_words.specs.Places.{places};
 
 use crate::piece::tag_of;
 use crate::plain::is_seen_in;
+use crate::sentence::Value::{Hex, Number};
+use crate::sentence::{Value, sentence_of};
 use crate::sight::Sight;
 use crate::times::{PageTimes, Times};
 use multi_layout::Checked;
-use multi_tag::{FontPick, LineJust, Tag};
+use multi_tag::{FontPick, Tag};
 use multi_token::Source;
 use sign_font::Sign;
 use std::alloc::{AllocError, Global};
-use std::fmt::Write;
 
 /// A warning on an accepted message (own).
 #[derive(Drop)]
@@ -111,11 +112,11 @@ impl<'a> Reading<'a> {
         Ok(self.found.warnings.push(Warning { at, words })?)
     }
 
-    /// Adds a warning in these words.
-    fn say(&mut self, at: usize, words: &str) -> Result<(), AllocError>
+    /// Adds a warning in a sentence with these values.
+    fn say(&mut self, at: usize, sentence: &str, values: &[Value<'_>]) -> Result<(), AllocError>
         ensures { OnOk result (places self.new.found.warnings.items ≡ places self.old.found.warnings.items ++ at ∷ []) }
     {
-        let words = String::from_str(self.alloc, words)?;
+        let words = sentence_of(self.alloc, sentence, values)?;
         self.warn(at, words)
     }
 
@@ -127,6 +128,7 @@ impl<'a> Reading<'a> {
                 self.say(
                     at,
                     "a space at the end of the line takes room and moves the line",
+                    &[],
                 )?;
             }
         }
@@ -142,14 +144,18 @@ impl<'a> Reading<'a> {
         if on >= LEAST || self.cycle == 0 {
             return Ok(());
         }
-        let page = u32::from(self.page).saturating_add(1);
-        let mut words = String::new(self.alloc);
-        if on == 0 {
-            write!(words, "page {page} is never shown")?;
+        let sentence = if on == 0 {
+            "page {} is never shown"
         } else {
-            write!(words, "page {page} is shown for 0.{on} seconds only")?;
-        }
-        self.warn(self.times_at, words)
+            "page {} is shown for 0.{} seconds only"
+        };
+        let values = [self.page_number(), Number(on.into())];
+        self.say(self.times_at, sentence, &values)
+    }
+
+    /// The number of the page, counted from 1.
+    fn page_number(&self) -> Value<'static> {
+        Number(u64::from(self.page).saturating_add(1))
     }
 
     /// Passes a character.
@@ -173,7 +179,10 @@ impl<'a> Reading<'a> {
             self.found.flashes = true;
         }
         let last = text.iter().rposition(|octet| *octet != b' ');
-        let end = last.map_or(0, |last| last.saturating_add(1));
+        let end = match last {
+            Some(last) => last.saturating_add(1),
+            None => 0,
+        };
         if end > 0 {
             self.has_text = true;
             self.is_begun = true;
@@ -196,15 +205,13 @@ impl<'a> Reading<'a> {
             return Ok(());
         };
         self.is_asked = true;
-        let mut digits = itoa::Buffer::new();
-        let number = digits.format(pick.number);
-        let mut words = String::with_capacity(self.alloc, 80)?;
-        words.push_str("any version of font ")?;
-        words.push_str(number)?;
-        words.push_str(" is taken; [fo")?;
-        words.push_str(number)?;
-        write!(words, ",{:X}] asks for this one", font.version)?;
-        self.warn(at, words)
+        let number = Number(pick.number.into());
+        let version = Hex(font.version.into());
+        self.say(
+            at,
+            "any version of font {} is taken; [fo{},{}] asks for this one",
+            &[number, number, version],
+        )
     }
 
     /// The offset at which the last octets of the message begin.
@@ -213,10 +220,50 @@ impl<'a> Reading<'a> {
         self.message.len().saturating_sub(rest.len())
     }
 
-    /// Passes a line justification.
+    /// Passes a tag that begins a page. On these pages nothing is lit.
     #[inline(always)]
-    fn justify(&mut self, just: Option<LineJust>) {
-        self.line_just = just.map_or(self.sign.defaults().line, LineJust::number);
+    fn pass_page(&mut self, behind: &[u8], dark: &[u8]) -> Result<(), AllocError> {
+        self.look_back(dark)?;
+        self.end_line()?;
+        self.is_plain = self.is_plain && self.has_text;
+        self.has_text = false;
+        self.begin = self.offset(behind);
+        self.page = self.page.saturating_add(1);
+        Ok(())
+    }
+
+    /// Passes a tag with page times, which stands at an offset.
+    #[inline(always)]
+    fn pass_times(&mut self, times: Times, at: usize) -> Result<(), AllocError> {
+        self.times_at = at;
+        self.times = times;
+        self.found.times.set(self.page, times)
+    }
+
+    /// Passes a tag that ends no line and needs no warning.
+    #[inline(always)]
+    fn set(&mut self, tag: Tag) {
+        match tag {
+            Tag::Back(colour) => {
+                // the same background hides nothing where no text stands before it
+                let usual = self.sign.defaults().back;
+                let is_same = colour.unwrap_or(usual) == usual;
+                self.is_plain = self.is_plain && is_same && !self.has_text;
+            }
+            Tag::Fore(colour) => {
+                let fore = colour.unwrap_or(self.sign.defaults().fore);
+                self.is_plain = self.is_plain && is_seen_in(self.sign, fore);
+            }
+            Tag::LineJust(None) => self.line_just = self.sign.defaults().line,
+            Tag::LineJust(Some(just)) => self.line_just = just.number(),
+            Tag::Flash { on, off, .. } => {
+                let defaults = self.sign.defaults();
+                self.is_flashing = off.unwrap_or(defaults.flash_off) > 0;
+                self.is_plain = self.is_plain && on.unwrap_or(defaults.flash_on) > 0;
+            }
+            Tag::FlashEnd => self.is_flashing = false,
+            _ => {}
+        }
     }
 
     /// Passes the tag with which the last octets of the message begin, and behind which these stand. On these pages nothing is lit.
@@ -229,44 +276,18 @@ impl<'a> Reading<'a> {
         dark: &[u8],
     ) -> Result<(), AllocError> {
         match tag {
-            Tag::NewPage => {
-                self.look_back(dark)?;
-                self.end_line()?;
-                self.is_plain = self.is_plain && self.has_text;
-                self.has_text = false;
-                self.begin = self.offset(behind);
-                self.page = self.page.saturating_add(1);
-            }
-            Tag::NewLine(_) => self.end_line()?,
+            Tag::NewPage => return self.pass_page(behind, dark),
+            Tag::NewLine(_) => return self.end_line(),
             Tag::Rect { .. } => {
                 self.is_plain = false;
-                self.end_line()?;
+                return self.end_line();
             }
-            Tag::Back(colour) => {
-                // the same background hides nothing where no text stands before it
-                let usual = self.sign.defaults().back;
-                let is_same = colour.unwrap_or(usual) == usual;
-                self.is_plain = self.is_plain && is_same && !self.has_text;
-            }
-            Tag::Fore(colour) => {
-                let fore = colour.unwrap_or(self.sign.defaults().fore);
-                self.is_plain = self.is_plain && is_seen_in(self.sign, fore);
-            }
-            Tag::LineJust(just) => self.justify(just),
             Tag::PageTime { on, off } => {
-                self.times_at = self.offset(rest);
-                self.times = Times::of_tag(self.sign, on, off);
-                self.found.times.set(self.page, self.times)?;
+                return self.pass_times(Times::of_tag(self.sign, on, off), self.offset(rest));
             }
-            Tag::Font(Some(pick)) => self.pass_font(pick, self.offset(rest))?,
+            Tag::Font(Some(pick)) => return self.pass_font(pick, self.offset(rest)),
             Tag::HexChar(number) => self.pass_character(number, self.offset(rest)),
-            Tag::Flash { on, off, .. } => {
-                let defaults = self.sign.defaults();
-                self.is_flashing = off.unwrap_or(defaults.flash_off) > 0;
-                self.is_plain = self.is_plain && on.unwrap_or(defaults.flash_on) > 0;
-            }
-            Tag::FlashEnd => self.is_flashing = false,
-            _ => {}
+            _ => self.set(tag),
         }
         Ok(())
     }
@@ -277,13 +298,11 @@ impl<'a> Reading<'a> {
         if !dark.contains(&self.page) {
             return Ok(());
         }
-        let mut words = String::new(self.alloc);
-        write!(
-            words,
+        self.say(
+            self.begin,
             "nothing is lit on page {}",
-            u32::from(self.page).saturating_add(1)
-        )?;
-        self.warn(self.begin, words)
+            &[self.page_number()],
+        )
     }
 
     /// Warns at the end of a page. On these pages nothing is lit.
@@ -356,14 +375,13 @@ impl<'a> Reading<'a> {
             } else {
                 "this text can't be seen: it has the colour of what it covers"
             };
-            self.say(run.from, words)?;
+            self.say(run.from, words, &[])?;
         }
         Ok(())
     }
 
-    /// Looks at pages without text, and at text that tags can hide. Few messages have any.
-    #[inline(never)]
-    fn look_closely(&mut self) -> Result<(), AllocError> {
+    /// Reads the message again, with these pages on which nothing is lit.
+    fn read_again(&mut self, dark: &[u8]) -> Result<(), AllocError> {
         let Reading {
             alloc,
             sign,
@@ -372,35 +390,64 @@ impl<'a> Reading<'a> {
             pages,
             ..
         } = *self;
-        let sight = Sight::of(alloc, sign, message)?;
-        let dark = sight.dark_pages(pages)?;
+        *self = Reading::new(alloc, sign, message, cycle, pages);
+        self.read(dark)
+    }
+
+    /// Looks at pages without text, and at text that tags can hide. Few messages have any.
+    #[inline(never)]
+    fn look_closely(&mut self) -> Result<(), AllocError> {
+        let sight = Sight::of(self.alloc, self.sign, self.message)?;
+        let dark = sight.dark_pages(self.pages)?;
         if !dark.is_empty() {
-            *self = Reading::new(alloc, sign, message, cycle, pages);
-            self.read(&dark)?;
+            self.read_again(&dark)?;
         }
         self.look_at_text(&sight)
     }
 
-    /// Warns of a message of so many octets that the message table doesn't take it, and of an off time that no page has.
-    fn look_at_whole(&mut self, octets: usize, max_string: u16) -> Result<(), AllocError>
+    /// Warns of a message of so many octets that the message table doesn't take it.
+    fn look_at_length(&mut self, octets: usize, max_string: u16) -> Result<(), AllocError>
         ensures { OnOk result (max_string < octets → Contains (places self.new.found.warnings.items) max_string) }
     {
         let most = usize::from(max_string);
         if octets > most {
-            let mut words = String::new(self.alloc);
-            write!(
-                words,
-                "the message has {octets} octets, and the sign's message table takes texts of at most {most}"
-            )?;
-            self.warn(most, words)?;
-        }
-        let Times { off, .. } = self.times;
-        if self.pages == 1 && off > 0 && off != self.sign.defaults().page_off {
+            let sizes = [Number(octets as u64), Number(max_string.into())];
             self.say(
-                self.times_at,
-                "the off time does nothing: a message of one page is shown all the time",
+                most,
+                "the message has {} octets, and the sign's message table takes texts of at most {}",
+                &sizes,
             )?;
         }
+        Ok(())
+    }
+
+    /// Warns of an off time that no page has.
+    fn look_at_off(&mut self) -> Result<(), AllocError>
+        ensures { OnOk result ((at : ℕ) → Contains (places self.old.found.warnings.items) at
+            → Contains (places self.new.found.warnings.items) at) }
+    {
+        let Times { off, .. } = self.times;
+        if self.pages != 1 || off == 0 || off == self.sign.defaults().page_off {
+            return Ok(());
+        }
+        self.say(
+            self.times_at,
+            "the off time does nothing: a message of one page is shown all the time",
+            &[],
+        )?;
+        Ok(())
+    }
+
+    /// Looks for all warnings on the message, which has so many octets.
+    fn look(&mut self, octets: usize, max_string: u16) -> Result<(), AllocError>
+        ensures { OnOk result (max_string < octets → Contains (places self.new.found.warnings.items) max_string) }
+    {
+        self.read(b"")?;
+        if !self.is_plain || !self.has_text {
+            self.look_closely()?;
+        }
+        self.look_at_length(octets, max_string)?;
+        self.look_at_off()?;
         Ok(())
     }
 }
@@ -419,10 +466,6 @@ pub fn warnings_on(
     ensures { IfOk result (λ found. max_string < length message.now → Contains (places found.warnings.items) max_string) }
 {
     let mut reading = Reading::new(alloc, sign, message, checked.cycle(), checked.pages());
-    reading.read(b"")?;
-    if !reading.is_plain || !reading.has_text {
-        reading.look_closely()?;
-    }
-    reading.look_at_whole(message.len(), max_string)?;
+    reading.look(message.len(), max_string)?;
     Ok(reading.found)
 }

@@ -3,7 +3,6 @@ ghost use Rattle.std.specs.Prelude.{◌≡◌, ◌≢◌, All, IfSome, length, n
 
 use crate::characters::FontCharacters;
 use crate::excerpt::{plain_line, write_excerpt, write_message};
-use crate::reason::Place;
 use sign_font::Sign;
 use std::alloc::{AllocError, Global};
 use std::fmt;
@@ -56,19 +55,6 @@ pub struct Refusal<'a> {
 }
 
 impl Refusal<'_> {
-    /// Adds the reason.
-    fn write_reason(&self, words: &mut String) -> Result<(), AllocError> {
-        let place = Place {
-            alloc: self.alloc,
-            sign: self.sign,
-            large: self.large,
-            fonts: self.fonts,
-            message: self.message,
-            at: self.at,
-        };
-        place.write_reason(words, self.code)
-    }
-
     /// The words.
     fn words(&self) -> Result<String, AllocError> {
         let mut words = String::new(self.alloc);

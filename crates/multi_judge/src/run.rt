@@ -2,7 +2,7 @@
 //! each space does so, as long as it stays on its line.
 
 ghost use Rattle.std.specs.Prelude.{All, ◌≡◌, ◌+◌, ◌-◌, ◌*◌, ◌^◌, ◌<◌, ◌≤◌, ℕ, true, false, drop, length, option_map, slice_get, take};
-ghost use Rattle.multi_judge.specs.Prelude.{charged, RisesBetween, SignData, AreWidthsOf, IsNoSpace, with_run_behind, IsPassBehind, IsPassOf, IsAt, IsBehind, IsBehindCharacter, IsRunPassed, line_in_force, lengthened_by, IsLimited, TakesSpace};
+ghost use Rattle.multi_judge.specs.Prelude.{charged, RisesBetween, SignData, AreWidthsOf, IsNoSpace, with_run_behind, IsPassBehind, IsPassOf, IsAt, IsBehind, IsBehindCharacter, IsRunPassed, lengthened_by, IsLimited, TakesSpace};
 
 use crate::fill::Split;
 use crate::line::Line;

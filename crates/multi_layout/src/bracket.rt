@@ -5,7 +5,7 @@ ghost use Rattle.multi_layout.specs.Prelude.{RisesBetween, is_bracket, HasNoTagA
 
 use multi_judge::{KnownItem, NextItem};
 use multi_meaning::SyntaxError;
-use multi_tag::{Tag, TagFault, read_ahead, read_tag};
+use multi_tag::{Tag, TagFault, read_ahead, read_fault};
 use multi_token::{Bracketed, Kind, Source, Token, read_bracket};
 
 /// Whether an octet is a bracket.
@@ -66,8 +66,8 @@ fn fault_of(source: &mut Source<'_>, at: usize) -> SyntaxError
         return SyntaxError::UnsupportedTag;
     };
     let (len, kind) = (len + 2, Kind::Tag);
-    match read_tag(source, &Token { at, len, kind }) {
-        Err(TagFault::Value) => SyntaxError::UnsupportedTagValue,
-        Err(TagFault::Unsupported) | Ok(_) => SyntaxError::UnsupportedTag,
+    match read_fault(source, &Token { at, len, kind }) {
+        TagFault::Value => SyntaxError::UnsupportedTagValue,
+        TagFault::Unsupported => SyntaxError::UnsupportedTag,
     }
 }

@@ -1,5 +1,5 @@
 -- Tags that stand in octets, by what was read of those behind their opening bracket.
-use Rattle.std.proofs.Common.{◌≡◌, ℕ, suc, ◌+◌, ◌-◌, ◌^◌, ◌<◌, ◌≤◌, List, ◌∷◌, ◌++◌, Some, length, take, drop, refl, sym, ap, subst, ◌∙◌, arith, lit≤, append_assoc, length-append}
+use Rattle.std.proofs.Common.{◌≡◌, ℕ, suc, ◌+◌, ◌-◌, ◌^◌, ◌<◌, ◌≤◌, List, ◌∷◌, ◌++◌, Some, length, take, drop, refl, sym, ap, subst, ◌∙◌, arith, append_assoc, length-append}
 use Rattle.std.specs.Prelude.{slice_get, slice_range}
 use Rattle.std.specs.List.{All}
 use Rattle.std.specs.Char.{to_ascii_lowercase}
@@ -10,34 +10,15 @@ use Rattle.multi_token.specs.declared.token.Kind.TheVariants as kinds
 use Rattle.multi_token.specs.Spelling.{IsPlain}
 use Rattle.multi_token.specs.Tokens.{IsTokenOf, body_of}
 use Rattle.multi_token.proofs.PlaceLemmas.{after_opening, read_drop, tag_token}
-use Rattle.multi_tag.specs.declared.name.Name.{Name}
-use Rattle.multi_tag.specs.declared.name.Name.TheVariants as names
 use Rattle.multi_tag.specs.declared.tag.Tag.{Tag}
 use Rattle.multi_tag.specs.Body.{table, Spells, SpellsSmall}
 use Rattle.multi_tag.specs.Closed.{IsClosedTag, HasNoClosedTag, IsTagAt, HasNoTagAt}
-use Rattle.multi_tag.proofs.ShortLemmas.{short_body}
+use Rattle.multi_tag.proofs.ShortLemmas.{short_body, short_names}
 
--- each name has two octets or more
-name_long : (name : Name) → 2 ≤ length (table name).name
-name_long names.NewPage = lit≤ tt
-name_long names.NewLine = lit≤ tt
-name_long names.LineJust = lit≤ tt
-name_long names.PageJust = lit≤ tt
-name_long names.Font = lit≤ tt
-name_long names.CharSpacing = lit≤ tt
-name_long names.CharSpacingEnd = lit≤ tt
-name_long names.PageTime = lit≤ tt
-name_long names.Flash = lit≤ tt
-name_long names.FlashEnd = lit≤ tt
-name_long names.Fore = lit≤ tt
-name_long names.Back = lit≤ tt
-name_long names.Rect = lit≤ tt
-name_long names.HexChar = lit≤ tt
-
--- and so has each body
+-- each name has two octets or more, and so has each body
 pub body_long : (body : List ℕ) (tag : Tag) → Spells body tag → 2 ≤ length body
 unfolding Spells SpellsSmall
-body_long body tag (name, rest, is, f) = omega (arith, ap length is, length-append (table name).name rest, name_long name, length-map body to_ascii_lowercase)
+body_long body tag (name, rest, is, f) = omega (arith, ap length is, length-append (table name).name rest, (short_names name).some, length-map body to_ascii_lowercase)
 
 module _ (xs : List ℕ) (at : ℕ) where
   -- what was read is a tag there

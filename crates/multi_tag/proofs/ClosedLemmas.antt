@@ -14,7 +14,7 @@ use Rattle.multi_tag.specs.Part.{IsCut, IsPartBefore, HasNoPartBefore, HasOne, b
 use Rattle.multi_tag.proofs.CutLemmas.{cut_digits, cut_before}
 use Rattle.multi_tag.proofs.FormLemmas.{number_written, written_number, before_value, d?_d, d_d?}
 use Rattle.multi_tag.proofs.PartLemmas.{comma_is_no_digit, written_at_most}
-use Rattle.multi_tag.proofs.FontLemmas.{picked, alone, with_version, font_cases}
+use Rattle.multi_tag.proofs.FontLemmas.{alone, with_version, font_cases}
 use Rattle.multi_tag.proofs.TimesLemmas.{FlashCases, on_first, off_first, flash_cases, flash_on_first, flash_off_first, page_time, page_time_times}
 use Rattle.multi_tag.proofs.TimesLemmas as flashes
 use Rattle.multi_tag.proofs.RectLemmas.{rect_of, two, three}
@@ -47,7 +47,7 @@ module _ (base most low high : ℕ) (small : base ≤ 16) (octets : List ℕ) (v
       let there = cut_before base most 93 octets value rest front behind (Some v) cut is (number_written base most low high front v f) (bracket_is_no_digit base small) in
       none v behind there.0 f.above there.1
 
-pub number_part : (base most low high : ℕ) (octets : List ℕ) (v : ℕ) (rest : List ℕ) → IsCut base most octets (Some v) (93 ∷ rest) → low ≤ v → v ≤ high → IsPartBefore 93 (IsNumber base most low high) octets v rest
+number_part : (base most low high : ℕ) (octets : List ℕ) (v : ℕ) (rest : List ℕ) → IsCut base most octets (Some v) (93 ∷ rest) → low ≤ v → v ≤ high → IsPartBefore 93 (IsNumber base most low high) octets v rest
 number_part base most low high octets v rest cut above below =
     (cut.digits, cut.whole, written_number base most low high cut.digits v (cut_digits base most octets (Some v) (93 ∷ rest) cut) above below)
 
@@ -117,11 +117,6 @@ flash_no_part octets none t o front behind tag is f = elim (flash_cases front ta
 ]
 
 -- a font, and its version behind a comma
-pub font_alone_part : (octets rest : List ℕ) (o : Option ℕ) → IsPartBefore 93 (d? 1 255) octets o rest → IsPartBefore 93 (table names.Font).rest octets (Font (picked o)) rest
-font_alone_part octets rest None (front, is, inl (empty, _)) = (front, is, inl (empty, refl))
-font_alone_part octets rest None (front, is, inr (n, f, lacks)) = absurd (none-some n lacks)
-font_alone_part octets rest (Some n) (front, is, f) = (front, is, inr (inl (n, d?_d 1 255 front n f, refl)))
-
 pub font_version_part : (octets second rest : List ℕ) (m v : ℕ) → IsPartBefore 44 (d? 1 255) octets (Some m) second → IsPartBefore 93 (h 0 65535) second v rest
     → IsPartBefore 93 (table names.Font).rest octets (Font (Some (record { number = m; version = Some v }))) rest
 font_version_part octets second rest m v (front, is, f) (front', is', f') =

@@ -1,5 +1,5 @@
 -- Digits at the front of octets: as they are read, and that no other digits stand there.
-use Rattle.std.proofs.Common.{◌≡◌, ℕ, ◌+◌, ◌-◌, ◌*◌, ◌^◌, ◌<◌, ◌≤◌, List, [], ◌∷◌, ◌++◌, Option, Some, length, take, drop, get_or, refl, sym, ap, ◌∙◌, arith, append_assoc, append-nil}
+use Rattle.std.proofs.Common.{◌≡◌, ℕ, ◌+◌, ◌-◌, ◌*◌, ◌^◌, ◌<◌, ◌≤◌, List, [], ◌∷◌, ◌++◌, Option, Some, length, take, drop, get_or, refl, sym, ap, ◌∙◌, arith, append_assoc}
 use Rattle.std.specs.Prelude.{unwrap_or, nat_lt}
 use Rattle.std.specs.List.{All}
 use Rattle.std.specs.Char.{digit_value, to_ascii_lowercase}
@@ -88,12 +88,6 @@ cut_digits base most octets value rest cut = record {
 
 longer : (base most k : ℕ) (rest digits : List ℕ) → (BeginsWithDigit base rest → length digits ≡ most) → k ≤ most → BeginsWithDigit base rest → k ≤ length digits
 longer base most k rest digits stops few begins = let full = stops begins in omega arith
-
--- where the octets are digits and no more than are read, all of them were cut off
-pub cut_whole : (base most : ℕ) (octets : List ℕ) (read : Option ℕ) (rest : List ℕ) (value : Option ℕ) → IsCut base most octets read rest → IsWritten base most octets value → (read ≡ value) × (rest ≡ [])
-cut_whole base most octets read rest value cut w =
-    let same = one_front base cut.digits octets rest [] cut.each w.each (longer base most (length octets) rest cut.digits cut.stops w.count) (λ none. none) (sym cut.whole ∙ sym (append-nil octets)) in
-    (cut.value_is ∙ (ap (written base) same.0 ∙ sym w.value_is), same.1)
 
 -- where digits, no more than are read, stand before an octet that is none, those were cut off
 pub cut_before : (base most octet : ℕ) (octets : List ℕ) (read : Option ℕ) (rest front behind : List ℕ) (value : Option ℕ) → IsCut base most octets read rest → octets ≡ front ++ octet ∷ behind → IsWritten base most front value → ¬ (IsDigit base octet) → (read ≡ value) × (rest ≡ octet ∷ behind)

@@ -1,5 +1,5 @@
 -- What a cut of digits says of the forms of numbers.
-use Rattle.std.proofs.Common.{◌≡◌, ℕ, ◌≤◌, ◌&&◌, Bool, true, false, List, [], ◌∷◌, ◌++◌, Option, Some, None, refl, sym, ap, ◌∙◌, inl, inr, arith, append-nil}
+use Rattle.std.proofs.Common.{◌≡◌, ℕ, ◌≤◌, ◌&&◌, Bool, true, false, List, [], ◌∷◌, ◌++◌, Option, Some, None, refl, sym, ap, ◌∙◌, inl, inr, arith}
 use Rattle.std.specs.Prelude.{nat_le}
 use Rattle.std.proofs.lemmas.Option.{cond_some, none-some, same_Some}
 use Rattle.std.proofs.lemmas.Bool.{le-leb, leb-true}
@@ -7,7 +7,7 @@ use Rattle.std.proofs.lemmas.List.Elements.{All-nil}
 use Rattle.multi_tag.specs.Number.{IsDigit, number}
 use Rattle.multi_tag.specs.Form.{IsNumber, d, d?}
 use Rattle.multi_tag.specs.Part.{IsCut, in_range}
-use Rattle.multi_tag.proofs.CutLemmas.{IsWritten, cut_digits, cut_whole, cut_before}
+use Rattle.multi_tag.proofs.CutLemmas.{IsWritten, cut_digits, cut_before}
 
 -- a number is written
 pub number_written : (base most low high : ℕ) (octets : List ℕ) (n : ℕ) → IsNumber base most low high octets n → IsWritten base most octets (Some n)
@@ -74,13 +74,6 @@ d?_d low high octets n (inr (m, f, is)) = let same : n ≡ m = same_Some n m is 
 pub d_d? : (low high : ℕ) (octets : List ℕ) (n : ℕ) → d low high octets n → d? low high octets (Some n)
 d_d? low high octets n f = inr (n, f, refl)
 
--- where all octets are a d?, nothing stopped the digits
-pub alone_value : (low high : ℕ) (octets : List ℕ) (value : Option ℕ) (rest : List ℕ) (o : Option ℕ) → IsCut 10 5 octets value rest → d? low high octets o → (rest ≡ []) × (in_range low high value ≡ Some o)
-alone_value low high octets value rest o cut f =
-    let (w, passes) = d?_written low high octets o f in
-    let (is, ended) = cut_whole 10 5 octets value rest o cut w in
-    (ended, ap (in_range low high) is ∙ passes)
-
 -- where a d? stands before an octet that is no digit, that octet stopped the digits
 pub before_value : (low high octet : ℕ) (octets : List ℕ) (value : Option ℕ) (rest front behind : List ℕ) (o : Option ℕ) → IsCut 10 5 octets value rest → ¬ (IsDigit 10 octet) → octets ≡ front ++ octet ∷ behind → d? low high front o → (rest ≡ octet ∷ behind) × (in_range low high value ≡ Some o)
 before_value low high octet octets value rest front behind o cut none e f =
@@ -89,11 +82,6 @@ before_value low high octet octets value rest front behind o cut none e f =
     (stop, ap (in_range low high) is ∙ passes)
 
 -- and back
-pub alone_is : (base most : ℕ) (octets : List ℕ) (value : Option ℕ) → IsCut base most octets value [] → IsWritten base most octets value
-alone_is base most octets value cut =
-    let whole : octets ≡ cut.digits = cut.whole ∙ append-nil cut.digits in
-    rw whole (cut_digits base most octets value [] cut)
-
 pub before_is : (low high octet : ℕ) (octets : List ℕ) (value : Option ℕ) (behind : List ℕ) (o : Option ℕ) → IsCut 10 5 octets value (octet ∷ behind) → in_range low high value ≡ Some o → (front : List ℕ) × (octets ≡ front ++ octet ∷ behind) × d? low high front o
 before_is low high octet octets value behind o cut passes =
     (cut.digits, cut.whole, written_d? low high cut.digits value o (cut_digits 10 5 octets value (octet ∷ behind) cut) passes)

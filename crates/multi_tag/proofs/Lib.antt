@@ -8,7 +8,6 @@ pub mod CutLemmas
 pub mod FontLemmas
 pub mod FormLemmas
 pub mod JustLemmas
-pub mod LongLemmas
 pub mod NameLemmas
 pub mod NumberLemmas
 pub mod OneTagLemmas

@@ -93,6 +93,42 @@ short_none : (a b c : ℕ) (rest : List ℕ) → IsPlain a → IsPlain b → IsP
 short_none a b c rest p q r empty =
     short_more 3 25 (a ∷ b ∷ c ∷ rest) (omega arith) (short_cons 2 a (b ∷ c ∷ rest) p (short_cons 1 b (c ∷ rest) q (short_cons 0 c rest r (short_empty 0 rest empty))))
 
+-- names have two octets or three, without brackets
+pub record IsName (octets : List ℕ) : Type 0 where
+  pub some : 2 ≤ length octets
+  pub few : length octets ≤ 3
+  pub plain : All IsPlain octets
+
+two : (a b : ℕ) → (a == 91) ≡ false → (a == 93) ≡ false → (b == 91) ≡ false → (b == 93) ≡ false → IsName (a ∷ b ∷ [])
+two a b p q r s = record {
+  some = omega arith;
+  few = omega arith;
+  plain = All-cons IsPlain a (b ∷ []) (plain_code a p q) (All-cons IsPlain b [] (plain_code b r s) (All-nil IsPlain));
+}
+
+slash : (octets : List ℕ) → length octets ≡ 2 → IsName octets → IsName (47 ∷ octets)
+slash octets size is = record {
+  some = omega (arith, size);
+  few = omega (arith, size);
+  plain = All-cons IsPlain 47 octets (plain_code 47 refl refl) is.plain;
+}
+
+pub short_names : (name : Name) → IsName (table name).name
+short_names names.NewPage = two 110 112 refl refl refl refl
+short_names names.NewLine = two 110 108 refl refl refl refl
+short_names names.LineJust = two 106 108 refl refl refl refl
+short_names names.PageJust = two 106 112 refl refl refl refl
+short_names names.Font = two 102 111 refl refl refl refl
+short_names names.CharSpacing = two 115 99 refl refl refl refl
+short_names names.CharSpacingEnd = slash (115 ∷ 99 ∷ []) refl (two 115 99 refl refl refl refl)
+short_names names.PageTime = two 112 116 refl refl refl refl
+short_names names.Flash = two 102 108 refl refl refl refl
+short_names names.FlashEnd = slash (102 ∷ 108 ∷ []) refl (two 102 108 refl refl refl refl)
+short_names names.Fore = two 99 102 refl refl refl refl
+short_names names.Back = two 112 98 refl refl refl refl
+short_names names.Rect = two 116 114 refl refl refl refl
+short_names names.HexChar = two 104 99 refl refl refl refl
+
 -- rows
 short_row : (name : Name) (rest : List ℕ) (tag : Tag) → (table name).rest rest tag → IsShort 25 ((table name).name ++ rest)
 short_row names.NewPage rest tag f = short_name 0 110 112 rest (omega arith) refl refl refl refl (short_empty 0 rest f.0)

@@ -7,11 +7,6 @@ use Rattle.multi_tag.specs.Form.{Form, d?, ◌means◌, ◌or◌, between}
 use Rattle.multi_tag.specs.declared.name.Name.{Name}
 use Rattle.multi_tag.specs.declared.name.Name.TheVariants as names
 
--- the value that octets spell in a form, or none where they spell none (own)
-abbrev pub IsValueIn : {V : Type 0} → Form V → List ℕ → Option V → Type 0
-IsValueIn form octets (Some value) = form octets value
-IsValueIn {V} form octets None = (value : V) → ¬ (form octets value)
-
 -- the number that digits write, if there are digits (own)
 abbrev pub written : ℕ → List ℕ → Option ℕ
 written base [] = None

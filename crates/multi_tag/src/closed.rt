@@ -7,12 +7,12 @@ ghost use Rattle.multi_tag.specs.Body.{table};
 ghost use Rattle.multi_tag.specs.Closed.{HasNoClosedTag, IsClosedTag};
 ghost use Rattle.multi_tag.specs.Form.{d, d?, h};
 ghost use Rattle.multi_tag.specs.Number.{IsDigit};
+ghost use Rattle.multi_tag.specs.Octet.{comma};
 ghost use Rattle.multi_tag.specs.Part.{HasNoPartBefore, HasOne, IsPartBefore, bounds, times};
 
 use crate::just::{LineJust, PageJust};
 use crate::name::{Name, read_name};
 use crate::number::{in_range, read_numeral};
-use crate::rect::read_before_comma;
 use crate::tag::{FontPick, Tag};
 
 /// The tag whose body begins the octets, and how many octets that body and its closing bracket have.
@@ -286,4 +286,22 @@ fn read_rect(octets: &[u8]) -> Option<(Tag, &[u8])>
     let (w, octets) = read_before_comma(octets)?;
     let (h, behind) = read_coordinate(octets)?;
     Some((Tag::Rect { x, y, w, h }, behind))
+}
+
+/// A number before a comma, and the octets behind the comma.
+#[inline(always)]
+fn read_before_comma(octets: &[u8]) -> Option<(u32, &[u8])>
+    ensures some { IfSome result (λ (number, rest).
+        IsPartBefore comma (d 0 99999) (str_to_ascii_lowercase octets.now) number (str_to_ascii_lowercase rest.now)) }
+    ensures none { IfNone result (HasNoPartBefore comma (d 0 99999) (str_to_ascii_lowercase octets.now)) }
+{
+    let (value, rest) = read_numeral(octets, 10, 5);
+    let [stop, rest @ ..] = rest else {
+        return None;
+    };
+    if *stop == b',' {
+        Some((value?, rest))
+    } else {
+        None
+    }
 }

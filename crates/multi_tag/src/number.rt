@@ -3,8 +3,7 @@
 ghost use Rattle.std.specs.Prelude.{◌≡◌, ◌≤◌};
 ghost use Rattle.std.specs.Char.{to_ascii_lowercase};
 ghost use Rattle.std.specs.Str.{str_to_ascii_lowercase};
-ghost use Rattle.multi_tag.specs.Form.{d?, h};
-ghost use Rattle.multi_tag.specs.Part.{IsValueIn, IsCut, digit_of, in_range};
+ghost use Rattle.multi_tag.specs.Part.{IsCut, digit_of, in_range};
 
 /// The number that the digits at the front of octets write, at most `most` digits of a base, or `None` where there is no
 /// digit, and the octets behind those digits.
@@ -62,32 +61,4 @@ pub fn in_range(number: Option<u32>, low: u8, high: u8) -> Option<Option<u8>>
         return None;
     }
     Some(Some(number as u8))
-}
-
-/// A number from `low` to `high`, or none, if the octets are no more than that.
-#[inline(always)]
-pub fn read_optional(octets: &[u8], low: u8, high: u8) -> Option<Option<u8>>
-    ensures { IsValueIn (d? low high) (str_to_ascii_lowercase octets.now) result }
-{
-    let (value, rest) = read_numeral(octets, 10, 5);
-    match rest {
-        [] => in_range(value, low, high),
-        _ => None,
-    }
-}
-
-/// A hexadecimal number of one to four digits, from `low` to 65,535, if the octets are no more than that.
-#[inline(always)]
-pub fn read_hexadecimal(octets: &[u8], low: u16) -> Option<u16>
-    ensures { IsValueIn (h low 65535) (str_to_ascii_lowercase octets.now) result }
-{
-    let (value, rest) = read_numeral(octets, 16, 4);
-    let [] = rest else {
-        return None;
-    };
-    let value = value?;
-    if value < u32::from(low) {
-        return None;
-    }
-    Some(value as u16)
 }

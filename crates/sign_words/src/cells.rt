@@ -5,27 +5,29 @@ use multi_token::Source;
 use sign_font::{Cell, FontInfo, Sign};
 use std::alloc::{AllocError, Global};
 
+/// The pixel at a place among those of a cell, which stand row by row: 1 if it is lit, and 0 behind the last.
+pub(crate) fn pixel(cell: &Cell<'_>, place: usize) -> u8 {
+    let width = usize::from(cell.width()).max(1);
+    let row = cell.rows().get(place / width).copied().unwrap_or(0);
+    let shift = 63u32.saturating_sub((place % width) as u32);
+    (row.checked_shr(shift).unwrap_or(0) % 2) as u8
+}
+
+/// The octet of eight pixels from a place on, the first in its highest bit.
+fn octet_at(cell: &Cell<'_>, first: usize) -> u8 {
+    let mut octet: u8 = 0;
+    for place in 0..8usize {
+        octet = octet % 128 * 2 + pixel(cell, first.saturating_add(place)) % 2;
+    }
+    octet
+}
+
 /// Appends the pixels of a cell as a sign file has them: row by row with no gap, the highest bit of each octet first, and the bits
 /// behind the last pixel 0.
 fn push_pixels(octets: &mut Vec<u8>, cell: &Cell<'_>) -> Result<(), AllocError> {
-    let mut octet: u8 = 0;
-    let mut bits: u8 = 0;
-    for row in cell.rows() {
-        for column in 0..cell.width() {
-            let place = u32::from(63u8.saturating_sub(column));
-            let is_lit = row.checked_shr(place).unwrap_or(0) % 2 == 1;
-            octet = octet % 128 * 2 + u8::from(is_lit);
-            bits = bits.saturating_add(1);
-            if bits >= 8 {
-                octets.push(octet)?;
-                octet = 0;
-                bits = 0;
-            }
-        }
-    }
-    if bits > 0 {
-        let spare = u32::from(8u8.saturating_sub(bits));
-        octets.push(octet.checked_shl(spare).unwrap_or(0))?;
+    let pixels = cell.rows().len().saturating_mul(usize::from(cell.width()));
+    for place in 0..pixels.saturating_add(7) / 8 {
+        octets.push(octet_at(cell, place.saturating_mul(8)))?;
     }
     Ok(())
 }

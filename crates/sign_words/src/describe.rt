@@ -2,6 +2,7 @@
 
 use crate::cells::cells_crc;
 use crate::keys::{COLOURS, GROUPS, LINES};
+use crate::part::{Part, tell};
 use message_store::{Permanent, Store, StoreLimits, message_crc};
 use multi_token::Source;
 use sign_font::{Defaults, FontInfo, LineFill, Sign};
@@ -18,12 +19,25 @@ pub struct Setup {
     pub store: Store,
 }
 
-/// The name of a number, if it has one; the first name is that of this number.
-fn name_of<'a>(names: &[&'a str], first: u8, number: u8) -> &'a str {
-    match number.checked_sub(first) {
-        Some(place) => names.get(usize::from(place)).copied().unwrap_or(""),
-        None => "",
-    }
+/// The name of a number, if it has one; the first name is that of the number `first`.
+fn name_of(names: &[&'static str], first: u8, number: u8) -> Part<'static> {
+    let place = usize::from(number).wrapping_sub(usize::from(first));
+    Part::Words(names.get(place).copied().unwrap_or(""))
+}
+
+/// A number of an octet.
+fn small<'a>(number: u8) -> Part<'a> {
+    Part::Number(i64::from(number))
+}
+
+/// A number of two octets.
+fn short<'a>(number: u16) -> Part<'a> {
+    Part::Number(i64::from(number))
+}
+
+/// `yes` or `no`.
+fn truth(is_so: bool) -> Part<'static> {
+    Part::Words(if is_so { "yes" } else { "no" })
 }
 
 /// Writes what a sign is.
@@ -33,61 +47,56 @@ fn describe_sign(text: &mut String, sign: &Sign) -> Result<(), AllocError> {
     } else {
         "of one colour"
     };
-    writeln!(
-        text,
-        "sign: {} by {} pixels {scheme}",
-        sign.width(),
-        sign.height()
-    )?;
-    writeln!(text, "messages: up to {} pages", sign.max_pages())?;
     let filling = match sign.line_fill() {
         LineFill::Off => "not filled",
         LineFill::Words => "filled by words",
     };
-    writeln!(text, "lines: {filling}")?;
-    let beacons = if sign.beacons() { "yes" } else { "no" };
-    let pixels = if sign.pixel_service() { "yes" } else { "no" };
-    writeln!(text, "beacons: {beacons}\npixel service: {pixels}")
+    let told =
+        "sign: @ by @ pixels @\nmessages: up to @ pages\nlines: @\nbeacons: @\npixel service: @\n";
+    let parts = [
+        short(sign.width()),
+        short(sign.height()),
+        Part::Words(scheme),
+        small(sign.max_pages()),
+        Part::Words(filling),
+        truth(sign.beacons()),
+        truth(sign.pixel_service()),
+    ];
+    tell(text, told, &parts)
+}
+
+/// Writes how much the message table of a sign holds.
+fn describe_limits(text: &mut String, limits: StoreLimits) -> Result<(), AllocError> {
+    let told = "changeable messages: @ with @ octets together\ntexts: up to @ octets\n";
+    let parts = [
+        short(limits.slots),
+        Part::Number(i64::from(limits.bytes)),
+        short(limits.max_string),
+    ];
+    tell(text, told, &parts)
 }
 
 /// Writes the defaults.
 fn describe_defaults(text: &mut String, defaults: &Defaults) -> Result<(), AllocError> {
-    let Defaults {
-        font,
-        line,
-        page,
-        page_on,
-        page_off,
-        flash_on,
-        flash_off,
-        fore,
-        back,
-    } = *defaults;
-    writeln!(text, "default font: {font}")?;
-    writeln!(text, "default lines: {line}, {}", name_of(&LINES, 2, line))?;
-    writeln!(
-        text,
-        "default groups: {page}, {}",
-        name_of(&GROUPS, 2, page)
-    )?;
-    writeln!(
-        text,
-        "default page times: {page_on} tenths of a second on, {page_off} off"
-    )?;
-    writeln!(
-        text,
-        "default flash times: {flash_on} tenths of a second on, {flash_off} off"
-    )?;
-    writeln!(
-        text,
-        "default foreground: {fore}, {}",
-        name_of(&COLOURS, 0, fore)
-    )?;
-    writeln!(
-        text,
-        "default background: {back}, {}",
-        name_of(&COLOURS, 0, back)
-    )
+    let told = "default font: @\ndefault lines: @, @\ndefault groups: @, @\n\
+        default page times: @ tenths of a second on, @ off\ndefault flash times: @ tenths of a second on, @ off\n\
+        default foreground: @, @\ndefault background: @, @\n";
+    let parts = [
+        small(defaults.font),
+        small(defaults.line),
+        name_of(&LINES, 2, defaults.line),
+        small(defaults.page),
+        name_of(&GROUPS, 2, defaults.page),
+        small(defaults.page_on),
+        small(defaults.page_off),
+        small(defaults.flash_on),
+        small(defaults.flash_off),
+        small(defaults.fore),
+        name_of(&COLOURS, 0, defaults.fore),
+        small(defaults.back),
+        name_of(&COLOURS, 0, defaults.back),
+    ];
+    tell(text, told, &parts)
 }
 
 /// The characters that a font of a sign has, as runs of numbers with a space before each, or ` none` (own). Written by `Display`.
@@ -99,39 +108,36 @@ pub struct Characters<'a> {
     pub font: u8,
 }
 
+impl Characters<'_> {
+    /// Whether the font has a character.
+    fn has(&self, number: u16) -> bool {
+        let mut source = Source::new(b"");
+        self.sign
+            .cell_width(&mut source, self.font, number)
+            .is_some()
+    }
+}
+
 impl Display for Characters<'_> {
     fn fmt<W: Write>(&self, f: &mut Formatter<W>) -> fmt::Result {
-        let mut source = Source::new(b"");
-        let mut first = None;
         let mut is_empty = true;
+        // whether the character before is there, and this one
+        let (mut before, mut is_there) = (false, self.has(1));
         for number in 1..=65535u16 {
-            let is_there = self
-                .sign
-                .cell_width(&mut source, self.font, number)
-                .is_some();
-            if is_there && first.is_none() {
-                first = Some(number);
+            let is_next = number < 65535 && self.has(number.saturating_add(1));
+            let mark = match (before, is_there, is_next) {
+                (false, true, _) => " ",
+                (true, true, false) => "-",
+                _ => "",
+            };
+            if !mark.is_empty() {
                 is_empty = false;
+                write!(f, "{mark}{number}")?;
             }
-            let ends = !is_there || number == 65535;
-            if let (true, Some(start)) = (ends, first) {
-                let end = if is_there {
-                    number
-                } else {
-                    number.saturating_sub(1)
-                };
-                if start == end {
-                    write!(f, " {start}")?;
-                } else {
-                    write!(f, " {start}-{end}")?;
-                }
-                first = None;
-            }
+            before = is_there;
+            is_there = is_next;
         }
-        if is_empty {
-            write!(f, " none")?;
-        }
-        Ok(())
+        f.write_str(if is_empty { " none" } else { "" })
     }
 }
 
@@ -142,43 +148,43 @@ fn describe_font(
     sign: &Sign,
     font: FontInfo,
 ) -> Result<(), AllocError> {
-    let FontInfo {
+    let told = "font @: version @, in MULTI [fo@,@]\n\
+        font @: height @, character spacing @, line spacing @\nfont @: characters@\nfont @: CRC of its cells @\n";
+    let characters = Characters {
+        sign,
+        font: font.number,
+    };
+    let characters = format!(in alloc; "{characters}")?;
+    let number = small(font.number);
+    let parts = [
         number,
-        version,
-        height,
-        char_spacing,
-        line_spacing,
-    } = font;
-    writeln!(
-        text,
-        "font {number}: version {version}, in MULTI [fo{number},{version:X}]"
-    )?;
-    writeln!(
-        text,
-        "font {number}: height {height}, character spacing {char_spacing}, line spacing {line_spacing}"
-    )?;
-    let characters = Characters { sign, font: number };
-    writeln!(text, "font {number}: characters{characters}")?;
-    let crc = cells_crc(alloc, sign, font)?;
-    writeln!(text, "font {number}: CRC of its cells {crc:04x}")
+        short(font.version),
+        number,
+        Part::Version(font.version),
+        number,
+        small(font.height),
+        small(font.char_spacing),
+        small(font.line_spacing),
+        number,
+        Part::Words(&characters),
+        number,
+        Part::Crc(cells_crc(alloc, sign, font)?),
+    ];
+    tell(text, told, &parts)
 }
 
-/// Writes how many permanent messages there are, and by which CRC each is activated.
+/// Writes how many permanent messages there are, by which CRC each is activated, and its priority.
 fn describe_permanents(text: &mut String, permanents: &[Permanent]) -> Result<(), AllocError> {
-    writeln!(text, "permanent messages: {}", permanents.len())?;
+    let count = Part::Count(permanents.len());
+    tell(text, "permanent messages: @\n", &[count])?;
     for (place, message) in permanents.iter().enumerate() {
-        let Permanent {
-            multi,
-            priority,
-            beacon,
-            pixel,
-        } = message;
-        let number = place.saturating_add(1);
-        let crc = message_crc(multi, *beacon, *pixel);
-        writeln!(
-            text,
-            "permanent message {number}: CRC {crc:04x}, priority {priority}"
-        )?;
+        let crc = message_crc(&message.multi, message.beacon, message.pixel);
+        let parts = [
+            Part::Count(place.saturating_add(1)),
+            Part::Crc(crc),
+            small(message.priority),
+        ];
+        tell(text, "permanent message @: CRC @, priority @\n", &parts)?;
     }
     Ok(())
 }
@@ -187,16 +193,7 @@ fn describe_permanents(text: &mut String, permanents: &[Permanent]) -> Result<()
 pub(crate) fn describe(alloc: Global, text: &mut String, setup: &Setup) -> Result<(), AllocError> {
     let Setup { sign, store } = setup;
     describe_sign(text, sign)?;
-    let StoreLimits {
-        slots,
-        bytes,
-        max_string,
-    } = store.limits();
-    writeln!(
-        text,
-        "changeable messages: {slots} with {bytes} octets together"
-    )?;
-    writeln!(text, "texts: up to {max_string} octets")?;
+    describe_limits(text, store.limits())?;
     describe_permanents(text, store.permanents())?;
     describe_defaults(text, &sign.defaults())?;
     let mut source = Source::new(b"");

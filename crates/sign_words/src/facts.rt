@@ -3,225 +3,190 @@
 use crate::cells::cells_crc;
 use crate::describe::Setup;
 use crate::find::Findings;
+use crate::json::Document;
 use crate::refusal::PermanentRefusal;
 use message_store::{Permanent, StoreLimits, message_crc};
 use multi_token::Source;
-use serde::Serialize;
 use sign_font::{Defaults, FontInfo, LineFill, Sign};
 use std::alloc::{AllocError, Global};
 
-/// A font.
-#[derive(Drop, Serialize)]
-struct FontFacts {
-    number: u8,
-    version: u16,
-    height: u8,
-    char_spacing: u8,
-    line_spacing: u8,
-    cells_crc: u16,
-    characters: Vec<u16>,
+/// `true` or `false`.
+fn truth(is_so: bool) -> &'static str {
+    if is_so { "true" } else { "false" }
 }
 
-/// Why the sign refuses a permanent message.
-#[derive(Drop, Serialize)]
-struct RefusalFacts<'a> {
-    code: u8,
-    octet: usize,
-    explanation: &'a str,
+/// Writes the defaults.
+fn push_defaults(document: &mut Document, defaults: Defaults) -> Result<(), AllocError> {
+    document.open("defaults", '{')?;
+    let facts = [
+        ("font", u64::from(defaults.font)),
+        ("line", u64::from(defaults.line)),
+        ("page", u64::from(defaults.page)),
+        ("page_on", u64::from(defaults.page_on)),
+        ("page_off", u64::from(defaults.page_off)),
+        ("flash_on", u64::from(defaults.flash_on)),
+        ("flash_off", u64::from(defaults.flash_off)),
+        ("fore", u64::from(defaults.fore)),
+        ("back", u64::from(defaults.back)),
+    ];
+    document.numbers(&facts)?;
+    document.close('}')
 }
 
-/// A permanent message.
-#[derive(Drop, Serialize)]
-struct PermanentFacts<'a> {
-    number: usize,
-    multi: &'a str,
-    priority: u8,
-    beacon: u8,
-    pixel: u8,
-    crc: u16,
-    refused: Option<RefusalFacts<'a>>,
-}
-
-/// The defaults of messages.
-#[derive(Drop, Serialize)]
-struct DefaultFacts {
-    font: u8,
-    line: u8,
-    page: u8,
-    page_on: u8,
-    page_off: u8,
-    flash_on: u8,
-    flash_off: u8,
-    fore: u8,
-    back: u8,
-}
-
-/// A sign and its messages.
-#[derive(Drop, Serialize)]
-struct SignFacts<'a> {
-    width: u16,
-    height: u16,
-    scheme: &'static str,
-    max_pages: u8,
-    beacons: bool,
-    pixel_service: bool,
-    line_fill: &'static str,
-    slots: u16,
-    bytes: u32,
-    max_string: u16,
-    defaults: DefaultFacts,
-    fonts: Vec<FontFacts>,
-    permanents: Vec<PermanentFacts<'a>>,
-}
-
-/// What a sign file says and what is wrong with it.
-#[derive(Drop, Serialize)]
-struct FileFacts<'a> {
-    taken: bool,
-    faults: &'a [String],
-    warnings: &'a [String],
-    sign: Option<SignFacts<'a>>,
-}
-
-/// The defaults.
-fn default_facts(defaults: Defaults) -> DefaultFacts {
-    let Defaults {
-        font,
-        line,
-        page,
-        page_on,
-        page_off,
-        flash_on,
-        flash_off,
-        fore,
-        back,
-    } = defaults;
-    DefaultFacts {
-        font,
-        line,
-        page,
-        page_on,
-        page_off,
-        flash_on,
-        flash_off,
-        fore,
-        back,
-    }
-}
-
-/// The numbers of a font's characters.
-fn characters_of(alloc: Global, sign: &Sign, font: u8) -> Result<Vec<u16>, AllocError> {
+/// Writes a font and the numbers of its characters.
+fn push_font(
+    alloc: Global,
+    document: &mut Document,
+    sign: &Sign,
+    font: FontInfo,
+) -> Result<(), AllocError> {
+    document.open("", '{')?;
+    let facts = [
+        ("number", u64::from(font.number)),
+        ("version", u64::from(font.version)),
+        ("height", u64::from(font.height)),
+        ("char_spacing", u64::from(font.char_spacing)),
+        ("line_spacing", u64::from(font.line_spacing)),
+        ("cells_crc", u64::from(cells_crc(alloc, sign, font)?)),
+    ];
+    document.numbers(&facts)?;
+    document.open("characters", '[')?;
     let mut source = Source::new(b"");
-    let mut characters = Vec::new(alloc);
-    for number in 1..=65535u16 {
-        if sign.cell_width(&mut source, font, number).is_some() {
-            characters.push(number)?;
+    for character in 1..=65535u16 {
+        if sign
+            .cell_width(&mut source, font.number, character)
+            .is_some()
+        {
+            document.numbers(&[("", u64::from(character))])?;
         }
     }
-    Ok(characters)
+    document.close(']')?;
+    document.close('}')
 }
 
-/// A font.
-fn font_facts(alloc: Global, sign: &Sign, font: FontInfo) -> Result<FontFacts, AllocError> {
-    Ok(FontFacts {
-        number: font.number,
-        version: font.version,
-        height: font.height,
-        char_spacing: font.char_spacing,
-        line_spacing: font.line_spacing,
-        cells_crc: cells_crc(alloc, sign, font)?,
-        characters: characters_of(alloc, sign, font.number)?,
-    })
-}
-
-/// All fonts.
-fn fonts_of(alloc: Global, sign: &Sign) -> Result<Vec<FontFacts>, AllocError> {
+/// Writes all fonts.
+fn push_fonts(alloc: Global, document: &mut Document, sign: &Sign) -> Result<(), AllocError> {
+    document.open("fonts", '[')?;
     let mut source = Source::new(b"");
-    let mut fonts = Vec::new(alloc);
     for number in 1..=255u8 {
         if let Some(font) = sign.font(&mut source, number) {
-            fonts.push(font_facts(alloc, sign, font)?)?;
+            push_font(alloc, document, sign, font)?;
         }
     }
-    Ok(fonts)
+    document.close(']')
 }
 
-/// Why a permanent message is refused, if it is.
-fn refusal_of<'a>(
+/// Writes why the sign refuses the permanent message of a number, or nothing if it doesn't.
+fn push_refused(
+    document: &mut Document,
     number: usize,
     refusals: &[PermanentRefusal],
-    explanations: &'a [String],
-) -> Option<RefusalFacts<'a>> {
-    let place = refusals
-        .iter()
-        .position(|refusal| usize::from(refusal.number) == number)?;
-    let PermanentRefusal { code, at, .. } = *refusals.get(place)?;
-    Some(RefusalFacts {
-        code,
-        octet: at,
-        explanation: explanations.get(place)?,
-    })
+    explanations: &[String],
+) -> Result<(), AllocError> {
+    for (refusal, explanation) in refusals.iter().zip(explanations) {
+        if usize::from(refusal.number) == number {
+            document.open("refused", '{')?;
+            let place = [
+                ("code", u64::from(refusal.code)),
+                ("octet", refusal.at as u64),
+            ];
+            document.numbers(&place)?;
+            document.text("explanation", explanation)?;
+            return document.close('}');
+        }
+    }
+    document.word("refused", "null")
 }
 
-/// All permanent messages.
-fn permanents_of<'a>(
-    alloc: Global,
-    permanents: &'a [Permanent],
+/// Writes a permanent message, up to why it is refused.
+fn push_permanent(
+    document: &mut Document,
+    number: usize,
+    message: &Permanent,
+) -> Result<(), AllocError> {
+    document.open("", '{')?;
+    document.numbers(&[("number", number as u64)])?;
+    // a text of a sign file is UTF-8
+    document.text("multi", str::from_utf8(&message.multi).unwrap_or(""))?;
+    let crc = message_crc(&message.multi, message.beacon, message.pixel);
+    document.numbers(&[
+        ("priority", u64::from(message.priority)),
+        ("beacon", u64::from(message.beacon)),
+        ("pixel", u64::from(message.pixel)),
+        ("crc", u64::from(crc)),
+    ])
+}
+
+/// Writes all permanent messages.
+fn push_permanents(
+    document: &mut Document,
+    permanents: &[Permanent],
     refusals: &[PermanentRefusal],
-    explanations: &'a [String],
-) -> Result<Vec<PermanentFacts<'a>>, AllocError> {
-    let mut facts = Vec::new(alloc);
+    explanations: &[String],
+) -> Result<(), AllocError> {
+    document.open("permanents", '[')?;
     for (place, message) in permanents.iter().enumerate() {
         let number = place.saturating_add(1);
-        facts.push(PermanentFacts {
-            number,
-            // a text of a sign file is UTF-8
-            multi: str::from_utf8(&message.multi).unwrap_or(""),
-            priority: message.priority,
-            beacon: message.beacon,
-            pixel: message.pixel,
-            crc: message_crc(&message.multi, message.beacon, message.pixel),
-            refused: refusal_of(number, refusals, explanations),
-        })?;
+        push_permanent(document, number, message)?;
+        push_refused(document, number, refusals, explanations)?;
+        document.close('}')?;
     }
-    Ok(facts)
+    document.close(']')
 }
 
-/// A sign and its messages.
-fn sign_facts<'a>(
+/// Writes what a sign is and what its message table holds.
+fn push_sign(document: &mut Document, sign: &Sign, limits: StoreLimits) -> Result<(), AllocError> {
+    let scheme = if sign.classic() {
+        "classic"
+    } else {
+        "monochrome"
+    };
+    let line_fill = match sign.line_fill() {
+        LineFill::Off => "none",
+        LineFill::Words => "words",
+    };
+    document.numbers(&[
+        ("width", u64::from(sign.width())),
+        ("height", u64::from(sign.height())),
+    ])?;
+    document.text("scheme", scheme)?;
+    document.numbers(&[("max_pages", u64::from(sign.max_pages()))])?;
+    document.word("beacons", truth(sign.beacons()))?;
+    document.word("pixel_service", truth(sign.pixel_service()))?;
+    document.text("line_fill", line_fill)?;
+    document.numbers(&[
+        ("slots", u64::from(limits.slots)),
+        ("bytes", u64::from(limits.bytes)),
+        ("max_string", u64::from(limits.max_string)),
+    ])
+}
+
+/// Writes lines at a name.
+fn push_lines(document: &mut Document, name: &str, lines: &[String]) -> Result<(), AllocError> {
+    document.open(name, '[')?;
+    for line in lines {
+        document.text("", line)?;
+    }
+    document.close(']')
+}
+
+/// Writes what a sign file sets up, or nothing if it isn't taken.
+fn push_setup(
     alloc: Global,
-    setup: &'a Setup,
+    document: &mut Document,
+    setup: Option<&Setup>,
     refusals: &[PermanentRefusal],
-    explanations: &'a [String],
-) -> Result<SignFacts<'a>, AllocError> {
-    let Setup { sign, store } = setup;
-    let StoreLimits {
-        slots,
-        bytes,
-        max_string,
-    } = store.limits();
-    Ok(SignFacts {
-        width: sign.width(),
-        height: sign.height(),
-        scheme: if sign.classic() {
-            "classic"
-        } else {
-            "monochrome"
-        },
-        max_pages: sign.max_pages(),
-        beacons: sign.beacons(),
-        pixel_service: sign.pixel_service(),
-        line_fill: match sign.line_fill() {
-            LineFill::Off => "none",
-            LineFill::Words => "words",
-        },
-        slots,
-        bytes,
-        max_string,
-        defaults: default_facts(sign.defaults()),
-        fonts: fonts_of(alloc, sign)?,
-        permanents: permanents_of(alloc, store.permanents(), refusals, explanations)?,
-    })
+    explanations: &[String],
+) -> Result<(), AllocError> {
+    let Some(Setup { sign, store }) = setup else {
+        return document.word("sign", "null");
+    };
+    document.open("sign", '{')?;
+    push_sign(document, sign, store.limits())?;
+    push_defaults(document, sign.defaults())?;
+    push_fonts(alloc, document, sign)?;
+    push_permanents(document, store.permanents(), refusals, explanations)?;
+    document.close('}')
 }
 
 /// What a sign file says, in JSON (own). `taken` says whether the program takes it, and `sign` has its facts then.
@@ -232,20 +197,12 @@ pub(crate) fn json_of(
     refusals: &[PermanentRefusal],
     explanations: &[String],
 ) -> Result<String, AllocError> {
-    let sign = match setup {
-        Some(setup) => Some(sign_facts(alloc, setup, refusals, explanations)?),
-        None => None,
-    };
-    let facts = FileFacts {
-        taken: sign.is_some(),
-        faults: &found.faults,
-        warnings: &found.warnings,
-        sign,
-    };
-    let Ok(mut text) = serde_json::to_string_pretty(alloc, &facts) else {
-        // nothing else can be wrong with values of these types
-        return Err(AllocError);
-    };
-    text.push('\n')?;
-    Ok(text)
+    let mut document = Document::new(alloc);
+    document.open("", '{')?;
+    document.word("taken", truth(setup.is_some()))?;
+    push_lines(&mut document, "faults", &found.faults)?;
+    push_lines(&mut document, "warnings", &found.warnings)?;
+    push_setup(alloc, &mut document, setup, refusals, explanations)?;
+    document.close('}')?;
+    document.finish()
 }

@@ -1,12 +1,10 @@
 //! The faults that are found in a sign file.
 
-use crate::excerpt::Excerpt;
 use crate::keys::{CELL, DEFAULTS, FONT, Key, Kind, PERMANENT, SIGN};
 use crate::order::look_at_order;
-use crate::place::{Entry, Place};
+use crate::part::{Part, tell};
+use crate::place::{Entry, Place, push_place};
 use std::alloc::{AllocError, Global};
-use std::fmt;
-use std::fmt::{Display, Formatter, Write};
 use strsim::levenshtein;
 use toml::{Table, Value};
 
@@ -20,199 +18,54 @@ pub struct Findings {
     pub warnings: Vec<String>,
 }
 
-/// What is wrong at a key.
-#[derive(Clone, Copy)]
-pub(crate) enum What<'a> {
-    /// The key isn't there.
-    Missing(Kind),
-    /// A value of another kind stands there.
-    Other(&'a str, Kind),
-    /// A number outside the range stands there.
-    Number(i64, Kind),
-    /// Another text stands there.
-    Text(&'a str, Kind),
-    /// The name of a number stands there in place of the number.
-    Name(&'a str, usize),
-    /// The key isn't known, and this one of the same table is the nearest, if one is near.
-    Unknown(Option<&'a str>),
-    /// A number that doesn't rise behind the one before it.
-    NotRising(i64),
-    /// No font is there.
-    NoFonts,
-    /// More entries than there may be.
-    TooMany(usize, usize),
-    /// No font has this number.
-    NoFont(i64),
-    /// A cell has other octets than its pixels need.
-    Octets {
-        octets: usize,
-        width: i64,
-        height: i64,
-        needed: i64,
-    },
-    /// A bit is set behind the last pixel of a cell.
-    SpareBit,
-    /// A text with more octets than there may be.
-    TooLong(usize, i64),
-    /// The foreground looks as the background does.
-    SameColours,
-    /// Fewer octets than a message may have.
-    FewBytes(i64, i64),
-    /// A message asks for what the sign hasn't.
-    Lacks(&'a str),
-}
-
-/// Writes numbers with their names, of which the first is this one.
-fn write_names<W: Write>(f: &mut Formatter<W>, first: i64, names: &[&str]) -> fmt::Result {
-    let last = names.len().saturating_sub(1);
-    for (place, name) in names.iter().enumerate() {
-        let between = match place {
-            0 => "",
-            place if place == last => " or ",
-            _ => ", ",
-        };
-        let number = first.saturating_add(place as i64);
-        write!(f, "{between}{number} ({name})")?;
-    }
-    Ok(())
-}
-
-impl Display for Kind {
-    fn fmt<W: Write>(&self, f: &mut Formatter<W>) -> fmt::Result {
-        match self {
-            Kind::Number(low, high) => write!(f, "a whole number from {low} to {high}"),
-            Kind::Named(first, names) => write_names(f, *first, names),
-            Kind::Truth => write!(f, "true or false"),
-            Kind::Word(one, other) => write!(f, "\"{one}\" or \"{other}\""),
-            Kind::Text => write!(f, "a text"),
-            Kind::Octets => write!(f, "a text of hexadecimal digits, two for each octet"),
-            Kind::Table => write!(f, "a table"),
-            Kind::Tables => write!(f, "an array of tables"),
-        }
-    }
-}
-
-impl Display for What<'_> {
-    fn fmt<W: Write>(&self, f: &mut Formatter<W>) -> fmt::Result {
-        match self {
-            What::Missing(kind) => write!(f, "missing; it should be {kind}"),
-            What::Other(found, kind) => write!(f, "found: {found}; it should be {kind}"),
-            What::Number(number, kind) => write!(f, "{number}; it should be {kind}"),
-            What::Text(text, kind) => write!(f, "\"{}\"; it should be {kind}", Excerpt(text)),
-            What::Name(name, number) => write!(f, "\"{name}\"; its number is {number}"),
-            What::Unknown(Some(nearest)) => { write!(f, "not known; the nearest key is {nearest}") }
-            What::Unknown(None) => write!(f, "not known"),
-            What::NotRising(last) => write!(
-                f,
-                "the numbers must rise, and the one before is {last}"
-            ),
-            What::NoFonts => write!(f, "there must be 1 to 16 fonts"),
-            What::TooMany(count, most) => write!(f, "{count} of at most {most}"),
-            What::NoFont(number) => write!(f, "no font has the number {number}"),
-            What::Octets {
-                octets,
-                width,
-                height,
-                needed,
-            } => write!(
-                f,
-                "has {octets}, and {width} by {height} pixels need {needed} octets"
-            ),
-            What::SpareBit => write!(f, "a bit behind the last pixel is 1"),
-            What::TooLong(octets, most) => write!(f, "has {octets} of at most {most} octets"),
-            What::SameColours => write!(
-                f,
-                "looks as the background does: text in the default colours can't be seen"
-            ),
-            What::FewBytes(bytes, most) => write!(
-                f,
-                "{bytes}; a message may have {most} octets, and one with so many is never stored"
-            ),
-            What::Lacks(service) => write!(f, "asks for {service}, and the sign has none"),
-        }
-    }
-}
-
 impl Findings {
+    /// What is told of a key: a sentence, and what stands at its marks.
+    fn line(
+        &self,
+        place: Place,
+        key: Part<'_>,
+        sentence: &str,
+        parts: &[Part<'_>],
+    ) -> Result<String, AllocError> {
+        let mut line = String::new(self.alloc);
+        push_place(&mut line, place)?;
+        tell(&mut line, "@: ", &[key])?;
+        tell(&mut line, sentence, parts)?;
+        Ok(line)
+    }
+
     /// Tells a fault of a key.
     pub(crate) fn fault(
         &mut self,
-        place: &Place,
-        name: &str,
-        what: &What<'_>,
+        place: Place,
+        key: &str,
+        sentence: &str,
+        parts: &[Part<'_>],
     ) -> Result<(), AllocError> {
-        let line = format!(in self.alloc; "{place}{name}: {what}")?;
+        let line = self.line(place, Part::Words(key), sentence, parts)?;
         self.faults.push(line)?;
         Ok(())
     }
 
-    /// Tells what is no fault. The name is text of the file.
+    /// Tells what is no fault. The key is text of the file.
     pub(crate) fn warn(
         &mut self,
-        place: &Place,
-        name: &str,
-        what: &What<'_>,
+        place: Place,
+        key: &str,
+        sentence: &str,
+        parts: &[Part<'_>],
     ) -> Result<(), AllocError> {
-        let line = format!(in self.alloc; "{place}{}: {what}", Excerpt(name))?;
+        let line = self.line(place, Part::Excerpt(key), sentence, parts)?;
         self.warnings.push(line)?;
         Ok(())
     }
 }
 
-/// What is wrong with a value for a number that has a name.
-fn wrong_name<'a>(
-    value: &'a Value,
-    first: i64,
-    names: &'static [&'static str],
-) -> Option<What<'a>> {
-    let kind = Kind::Named(first, names);
-    if let Some(number) = value.as_integer() {
-        let last = first.saturating_add(names.len() as i64);
-        return if number < first || number >= last {
-            Some(What::Number(number, kind))
-        } else {
-            None
-        };
-    }
-    let Some(text) = value.as_str() else {
-        return Some(What::Other(value.type_str(), kind));
-    };
-    match names.iter().position(|name| *name == text) {
-        Some(place) => Some(What::Name(text, place.saturating_add(first.max(0) as usize))),
-        None => Some(What::Text(text, kind)),
-    }
-}
-
-/// What is wrong with a value for a key of this kind.
-fn wrong<'a>(value: &'a Value, kind: Kind) -> Option<What<'a>> {
-    let is_so = match kind {
-        Kind::Number(low, high) => match value.as_integer() {
-            Some(number) if number < low || number > high => {
-                return Some(What::Number(number, kind));
-            }
-            number => number.is_some(),
-        },
-        Kind::Named(first, names) => return wrong_name(value, first, names),
-        Kind::Truth => value.is_bool(),
-        Kind::Word(one, other) => match value.as_str() {
-            Some(text) if text != one && text != other => return Some(What::Text(text, kind)),
-            text => text.is_some(),
-        },
-        Kind::Text => value.is_str(),
-        Kind::Octets => match value.as_str() {
-            Some(text) if !is_hexadecimal(text) => return Some(What::Text(text, kind)),
-            text => text.is_some(),
-        },
-        Kind::Table => value.is_table(),
-        Kind::Tables => match value.as_array() {
-            Some(array) => array.iter().all(|value| value.is_table()),
-            None => false,
-        },
-    };
-    if is_so {
-        None
-    } else {
-        Some(What::Other(value.type_str(), kind))
+/// Whether a value is a whole number from a first to a last.
+fn is_from(value: &Value, first: i64, last: i64) -> bool {
+    match value.as_integer() {
+        Some(number) => first <= number && number <= last,
+        None => false,
     }
 }
 
@@ -225,19 +78,93 @@ fn is_hexadecimal(text: &str) -> bool {
             .all(|digit| digit.is_ascii_hexdigit())
 }
 
+/// Whether a value may stand at a key of this kind.
+fn is_of(value: &Value, kind: Kind) -> bool {
+    match kind {
+        Kind::Number(low, high) => is_from(value, low, high),
+        Kind::Named(first, names) => {
+            let last = first.saturating_add(names.len() as i64).saturating_sub(1);
+            is_from(value, first, last)
+        }
+        Kind::Truth => value.is_bool(),
+        Kind::Word(one, other) => match value.as_str() {
+            Some(text) => text == one || text == other,
+            None => false,
+        },
+        Kind::Text => value.is_str(),
+        Kind::Octets => match value.as_str() {
+            Some(text) => is_hexadecimal(text),
+            None => false,
+        },
+        Kind::Table => value.is_table(),
+        Kind::Tables => match value.as_array() {
+            Some(array) => array.iter().all(|value| value.is_table()),
+            None => false,
+        },
+    }
+}
+
+/// The number whose name a value is, at a key of this kind.
+fn named(value: &Value, kind: Kind) -> Option<i64> {
+    let Kind::Named(first, names) = kind else {
+        return None;
+    };
+    let text = value.as_str()?;
+    let place = names.iter().position(|name| *name == text)?;
+    Some(first.saturating_add(place as i64))
+}
+
+/// What is told of a value that may not stand at a key of this kind: a sentence, and the value or its type.
+fn wrong(value: &Value, kind: Kind) -> (&'static str, Part<'_>) {
+    let (number, text) = match kind {
+        Kind::Number(_, _) => (value.as_integer(), None),
+        Kind::Named(_, _) => (value.as_integer(), value.as_str()),
+        Kind::Word(_, _) | Kind::Octets => (None, value.as_str()),
+        Kind::Truth | Kind::Text | Kind::Table | Kind::Tables => (None, None),
+    };
+    if let Some(number) = number {
+        return ("@; it should be @", Part::Number(number));
+    }
+    match text {
+        Some(text) => ("\"@\"; it should be @", Part::Excerpt(text)),
+        None => ("found: @; it should be @", Part::Words(value.type_str())),
+    }
+}
+
+/// Looks at a value at a key of this name and kind.
+fn look_at_value(
+    found: &mut Findings,
+    place: Place,
+    name: &str,
+    kind: Kind,
+    value: &Value,
+) -> Result<(), AllocError> {
+    if is_of(value, kind) {
+        return Ok(());
+    }
+    let (sentence, part) = wrong(value, kind);
+    match named(value, kind) {
+        Some(number) => {
+            let parts = [part, Part::Number(number)];
+            found.fault(place, name, "\"@\"; its number is @", &parts)
+        }
+        None => found.fault(place, name, sentence, &[part, Part::Kind(kind)]),
+    }
+}
+
 /// Looks at a key of a table.
 fn look_at_key(
     found: &mut Findings,
-    place: &Place,
+    place: Place,
     table: &Table,
     key: &Key,
 ) -> Result<(), AllocError> {
-    match table.get(key.name) {
-        Some(value) => match wrong(value, key.kind) {
-            Some(what) => found.fault(place, key.name, &what),
-            None => Ok(()),
-        },
-        None if key.is_needed => found.fault(place, key.name, &What::Missing(key.kind)),
+    let Key(name, kind, is_needed) = *key;
+    match table.get(name) {
+        Some(value) => look_at_value(found, place, name, kind, value),
+        None if is_needed => {
+            found.fault(place, name, "missing; it should be @", &[Part::Kind(kind)])
+        }
         None => Ok(()),
     }
 }
@@ -246,22 +173,38 @@ fn look_at_key(
 fn nearest(alloc: Global, name: &str, keys: &[Key]) -> Result<Option<&'static str>, AllocError> {
     let mut nearest = None;
     let mut least = name.len() / 2 + 1;
-    for key in keys {
-        let Ok(changes) = levenshtein(alloc, name, key.name) else {
+    for Key(key, _, _) in keys {
+        let Ok(changes) = levenshtein(alloc, name, key) else {
             return Err(AllocError);
         };
         if changes < least {
-            nearest = Some(key.name);
+            nearest = Some(*key);
             least = changes;
         }
     }
     Ok(nearest)
 }
 
+/// Tells of a key that isn't known.
+fn look_at_unknown(
+    found: &mut Findings,
+    place: Place,
+    name: &str,
+    keys: &[Key],
+) -> Result<(), AllocError> {
+    match nearest(found.alloc, name, keys)? {
+        Some(nearest) => {
+            let nearest = Part::Words(nearest);
+            found.warn(place, name, "not known; the nearest key is @", &[nearest])
+        }
+        None => found.warn(place, name, "not known", &[]),
+    }
+}
+
 /// Looks at all keys of a table, and at those that aren't known.
 fn look_at_table(
     found: &mut Findings,
-    place: &Place,
+    place: Place,
     table: &Table,
     keys: &[Key],
 ) -> Result<(), AllocError> {
@@ -270,12 +213,16 @@ fn look_at_table(
     }
     for name in table.keys() {
         let name = name.as_str();
-        if !keys.iter().any(|key| key.name == name) {
-            let nearest = nearest(found.alloc, name, keys)?;
-            found.warn(place, name, &What::Unknown(nearest))?;
+        if !keys.iter().any(|key| key.0 == name) {
+            look_at_unknown(found, place, name, keys)?;
         }
     }
     Ok(())
+}
+
+/// The table at a key.
+pub(crate) fn table_at<'a>(table: &'a Table, name: &str) -> Option<&'a Table> {
+    table.get(name)?.as_table()
 }
 
 /// The tables of the array at a key, as far as they are tables.
@@ -294,6 +241,11 @@ pub(crate) fn number_at(table: &Table, name: &str) -> Option<i64> {
     table.get(name)?.as_integer()
 }
 
+/// The text at a key.
+pub(crate) fn text_at<'a>(table: &'a Table, name: &str) -> Option<&'a str> {
+    table.get(name)?.as_str()
+}
+
 /// An entry of an array of tables.
 pub(crate) fn entry(place: usize, table: &Table) -> Entry {
     Entry {
@@ -304,10 +256,10 @@ pub(crate) fn entry(place: usize, table: &Table) -> Entry {
 
 /// Looks at a font and its cells.
 fn look_at_font(found: &mut Findings, font: Entry, table: &Table) -> Result<(), AllocError> {
-    look_at_table(found, &Place::Font(font), table, &FONT)?;
+    look_at_table(found, Place::Font(font), table, &FONT)?;
     for (place, value) in tables_at(table, "cell").iter().enumerate() {
         if let Some(cell) = value.as_table() {
-            look_at_table(found, &Place::Cell(font, entry(place, cell)), cell, &CELL)?;
+            look_at_table(found, Place::Cell(font, entry(place, cell)), cell, &CELL)?;
         }
     }
     Ok(())
@@ -315,11 +267,9 @@ fn look_at_font(found: &mut Findings, font: Entry, table: &Table) -> Result<(), 
 
 /// Looks at all keys of a sign file.
 pub(crate) fn look_at_file(found: &mut Findings, table: &Table) -> Result<(), AllocError> {
-    look_at_table(found, &Place::Sign, table, &SIGN)?;
-    if let Some(value) = table.get("defaults") {
-        if let Some(defaults) = value.as_table() {
-            look_at_table(found, &Place::Defaults, defaults, &DEFAULTS)?;
-        }
+    look_at_table(found, Place::Sign, table, &SIGN)?;
+    if let Some(defaults) = table_at(table, "defaults") {
+        look_at_table(found, Place::Defaults, defaults, &DEFAULTS)?;
     }
     for (place, value) in tables_at(table, "font").iter().enumerate() {
         if let Some(font) = value.as_table() {
@@ -329,7 +279,7 @@ pub(crate) fn look_at_file(found: &mut Findings, table: &Table) -> Result<(), Al
     for (place, value) in tables_at(table, "permanent").iter().enumerate() {
         if let Some(message) = value.as_table() {
             let at = Place::Permanent(entry(place, message));
-            look_at_table(found, &at, message, &PERMANENT)?;
+            look_at_table(found, at, message, &PERMANENT)?;
         }
     }
     look_at_order(found, table)

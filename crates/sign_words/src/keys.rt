@@ -1,5 +1,8 @@
 //! The keys of a sign file, with what may stand at them.
 
+use std::alloc::AllocError;
+use std::fmt::Write;
+
 /// What may stand at a key.
 #[derive(Clone, Copy)]
 pub(crate) enum Kind {
@@ -21,6 +24,42 @@ pub(crate) enum Kind {
     Tables,
 }
 
+/// What stands before one of so many names.
+fn before(place: usize, count: usize) -> &'static str {
+    if place == 0 {
+        ""
+    } else if place.saturating_add(1) == count {
+        " or "
+    } else {
+        ", "
+    }
+}
+
+/// Appends numbers with their names, of which the first is this one.
+fn push_names(text: &mut String, first: i64, names: &[&str]) -> Result<(), AllocError> {
+    let mut number = first;
+    for (place, name) in names.iter().enumerate() {
+        text.push_str(before(place, names.len()))?;
+        write!(text, "{number} ({name})")?;
+        number = number.saturating_add(1);
+    }
+    Ok(())
+}
+
+/// Appends what may stand at a key.
+pub(crate) fn push_kind(text: &mut String, kind: Kind) -> Result<(), AllocError> {
+    match kind {
+        Kind::Number(low, high) => write!(text, "a whole number from {low} to {high}"),
+        Kind::Named(first, names) => push_names(text, first, names),
+        Kind::Truth => text.push_str("true or false"),
+        Kind::Word(one, other) => write!(text, "\"{one}\" or \"{other}\""),
+        Kind::Text => text.push_str("a text"),
+        Kind::Octets => text.push_str("a text of hexadecimal digits, two for each octet"),
+        Kind::Table => text.push_str("a table"),
+        Kind::Tables => text.push_str("an array of tables"),
+    }
+}
+
 /// Where lines stand, by their numbers from 2 on (NTCIP 1203 v03, object defaultJustificationLine).
 pub(crate) const LINES: [&str; 4] = ["left", "centre", "right", "full"];
 
@@ -32,205 +71,65 @@ pub(crate) const COLOURS: [&str; 10] = [
     "black", "red", "yellow", "green", "cyan", "blue", "magenta", "white", "orange", "amber",
 ];
 
-/// A key, and whether it must be there.
+/// A key: its name, what may stand there, and whether it must be there.
 #[derive(Clone, Copy)]
-pub(crate) struct Key {
-    pub(crate) name: &'static str,
-    pub(crate) kind: Kind,
-    pub(crate) is_needed: bool,
-}
+pub(crate) struct Key(pub(crate) &'static str, pub(crate) Kind, pub(crate) bool);
+
+const MUST: bool = true;
+
+const MAY: bool = false;
 
 /// The keys of a sign and of its message table.
 pub(crate) const SIGN: [Key; 13] = [
-    Key {
-        name: "width",
-        kind: Kind::Number(1, 1024),
-        is_needed: true,
-    },
-    Key {
-        name: "height",
-        kind: Kind::Number(1, 128),
-        is_needed: true,
-    },
-    Key {
-        name: "scheme",
-        kind: Kind::Word("monochrome", "classic"),
-        is_needed: true,
-    },
-    Key {
-        name: "max_pages",
-        kind: Kind::Number(1, 255),
-        is_needed: true,
-    },
-    Key {
-        name: "beacons",
-        kind: Kind::Truth,
-        is_needed: false,
-    },
-    Key {
-        name: "pixel_service",
-        kind: Kind::Truth,
-        is_needed: false,
-    },
-    Key {
-        name: "line_fill",
-        kind: Kind::Word("none", "words"),
-        is_needed: false,
-    },
-    Key {
-        name: "slots",
-        kind: Kind::Number(1, 1000),
-        is_needed: true,
-    },
-    Key {
-        name: "bytes",
-        kind: Kind::Number(0, 1_000_000),
-        is_needed: true,
-    },
-    Key {
-        name: "max_string",
-        kind: Kind::Number(1, 4096),
-        is_needed: true,
-    },
-    Key {
-        name: "defaults",
-        kind: Kind::Table,
-        is_needed: true,
-    },
-    Key {
-        name: "font",
-        kind: Kind::Tables,
-        is_needed: false,
-    },
-    Key {
-        name: "permanent",
-        kind: Kind::Tables,
-        is_needed: false,
-    },
+    Key("width", Kind::Number(1, 1024), MUST),
+    Key("height", Kind::Number(1, 128), MUST),
+    Key("scheme", Kind::Word("monochrome", "classic"), MUST),
+    Key("max_pages", Kind::Number(1, 255), MUST),
+    Key("beacons", Kind::Truth, MAY),
+    Key("pixel_service", Kind::Truth, MAY),
+    Key("line_fill", Kind::Word("none", "words"), MAY),
+    Key("slots", Kind::Number(1, 1000), MUST),
+    Key("bytes", Kind::Number(0, 1_000_000), MUST),
+    Key("max_string", Kind::Number(1, 4096), MUST),
+    Key("defaults", Kind::Table, MUST),
+    Key("font", Kind::Tables, MAY),
+    Key("permanent", Kind::Tables, MAY),
 ];
 
 /// The keys of `[defaults]`.
 pub(crate) const DEFAULTS: [Key; 9] = [
-    Key {
-        name: "font",
-        kind: Kind::Number(1, 255),
-        is_needed: true,
-    },
-    Key {
-        name: "line",
-        kind: Kind::Named(2, &LINES),
-        is_needed: true,
-    },
-    Key {
-        name: "page",
-        kind: Kind::Named(2, &GROUPS),
-        is_needed: true,
-    },
-    Key {
-        name: "page_on",
-        kind: Kind::Number(0, 255),
-        is_needed: true,
-    },
-    Key {
-        name: "page_off",
-        kind: Kind::Number(0, 255),
-        is_needed: true,
-    },
-    Key {
-        name: "flash_on",
-        kind: Kind::Number(0, 255),
-        is_needed: true,
-    },
-    Key {
-        name: "flash_off",
-        kind: Kind::Number(0, 255),
-        is_needed: true,
-    },
-    Key {
-        name: "fore",
-        kind: Kind::Named(0, &COLOURS),
-        is_needed: true,
-    },
-    Key {
-        name: "back",
-        kind: Kind::Named(0, &COLOURS),
-        is_needed: true,
-    },
+    Key("font", Kind::Number(1, 255), MUST),
+    Key("line", Kind::Named(2, &LINES), MUST),
+    Key("page", Kind::Named(2, &GROUPS), MUST),
+    Key("page_on", Kind::Number(0, 255), MUST),
+    Key("page_off", Kind::Number(0, 255), MUST),
+    Key("flash_on", Kind::Number(0, 255), MUST),
+    Key("flash_off", Kind::Number(0, 255), MUST),
+    Key("fore", Kind::Named(0, &COLOURS), MUST),
+    Key("back", Kind::Named(0, &COLOURS), MUST),
 ];
 
 /// The keys of `[[font]]`.
 pub(crate) const FONT: [Key; 6] = [
-    Key {
-        name: "number",
-        kind: Kind::Number(1, 255),
-        is_needed: true,
-    },
-    Key {
-        name: "version",
-        kind: Kind::Number(0, 65535),
-        is_needed: false,
-    },
-    Key {
-        name: "height",
-        kind: Kind::Number(1, 64),
-        is_needed: true,
-    },
-    Key {
-        name: "char_spacing",
-        kind: Kind::Number(0, 255),
-        is_needed: true,
-    },
-    Key {
-        name: "line_spacing",
-        kind: Kind::Number(0, 255),
-        is_needed: true,
-    },
-    Key {
-        name: "cell",
-        kind: Kind::Tables,
-        is_needed: false,
-    },
+    Key("number", Kind::Number(1, 255), MUST),
+    Key("version", Kind::Number(0, 65535), MAY),
+    Key("height", Kind::Number(1, 64), MUST),
+    Key("char_spacing", Kind::Number(0, 255), MUST),
+    Key("line_spacing", Kind::Number(0, 255), MUST),
+    Key("cell", Kind::Tables, MAY),
 ];
 
 /// The keys of a cell.
 pub(crate) const CELL: [Key; 3] = [
-    Key {
-        name: "number",
-        kind: Kind::Number(1, 65535),
-        is_needed: true,
-    },
-    Key {
-        name: "width",
-        kind: Kind::Number(1, 64),
-        is_needed: true,
-    },
-    Key {
-        name: "bits",
-        kind: Kind::Octets,
-        is_needed: true,
-    },
+    Key("number", Kind::Number(1, 65535), MUST),
+    Key("width", Kind::Number(1, 64), MUST),
+    Key("bits", Kind::Octets, MUST),
 ];
 
 /// The keys of `[[permanent]]`.
 pub(crate) const PERMANENT: [Key; 4] = [
-    Key {
-        name: "multi",
-        kind: Kind::Text,
-        is_needed: true,
-    },
-    Key {
-        name: "priority",
-        kind: Kind::Number(1, 255),
-        is_needed: false,
-    },
-    Key {
-        name: "beacon",
-        kind: Kind::Number(0, 1),
-        is_needed: false,
-    },
-    Key {
-        name: "pixel",
-        kind: Kind::Number(0, 1),
-        is_needed: false,
-    },
+    Key("multi", Kind::Text, MUST),
+    Key("priority", Kind::Number(1, 255), MAY),
+    Key("beacon", Kind::Number(0, 1), MAY),
+    Key("pixel", Kind::Number(0, 1), MAY),
 ];

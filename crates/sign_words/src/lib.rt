@@ -7,11 +7,12 @@
 
 mod cells;
 mod describe;
-mod excerpt;
 mod facts;
 mod find;
+mod json;
 mod keys;
 mod order;
+mod part;
 mod picture;
 mod place;
 mod refusal;

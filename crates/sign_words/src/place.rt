@@ -1,7 +1,7 @@
 //! Where something stands in a sign file.
 
-use std::fmt;
-use std::fmt::{Display, Formatter, Write};
+use crate::part::{Part, tell};
+use std::alloc::AllocError;
 
 /// An entry of an array of tables: its place, counted from 1, and its number, if it has one.
 #[derive(Clone, Copy)]
@@ -25,30 +25,27 @@ pub(crate) enum Place {
     Permanent(Entry),
 }
 
-/// Writes an entry: its number, or its place if it has none.
-fn write_entry<W: Write>(f: &mut Formatter<W>, name: &str, entry: Entry) -> fmt::Result {
+/// Appends an entry: its number, or its place if it has none.
+fn push_entry(text: &mut String, name: &str, entry: Entry) -> Result<(), AllocError> {
+    let name = Part::Words(name);
     match entry.number {
-        Some(number) => write!(f, "{name} {number}"),
-        None => write!(f, "{name} at place {}", entry.place),
+        Some(number) => tell(text, "@ @, ", &[name, Part::Number(number)]),
+        None => tell(text, "@ at place @, ", &[name, Part::Count(entry.place)]),
     }
 }
 
-impl Display for Place {
-    fn fmt<W: Write>(&self, f: &mut Formatter<W>) -> fmt::Result {
-        match self {
-            Place::Sign => Ok(()),
-            Place::Defaults => write!(f, "[defaults] "),
-            Place::Font(font) => {
-                write_entry(f, "font", *font)?;
-                write!(f, ", ")
-            }
-            Place::Cell(font, cell) => {
-                write_entry(f, "font", *font)?;
-                write!(f, ", ")?;
-                write_entry(f, "cell", *cell)?;
-                write!(f, ", ")
-            }
-            Place::Permanent(message) => write!(f, "permanent message {}, ", message.place),
+/// Appends where a key stands.
+pub(crate) fn push_place(text: &mut String, place: Place) -> Result<(), AllocError> {
+    match place {
+        Place::Sign => Ok(()),
+        Place::Defaults => text.push_str("[defaults] "),
+        Place::Font(font) => push_entry(text, "font", font),
+        Place::Cell(font, cell) => {
+            push_entry(text, "font", font)?;
+            push_entry(text, "cell", cell)
+        }
+        Place::Permanent(message) => {
+            tell(text, "permanent message @, ", &[Part::Count(message.place)])
         }
     }
 }

@@ -1,7 +1,7 @@
 //! A permanent message that its sign refuses.
 
+use crate::part::{Part, tell};
 use std::alloc::AllocError;
-use std::fmt::Write;
 
 /// That a sign refuses one of its permanent messages (own).
 #[derive(Clone, Copy, Debug, PartialEq, Eq)]
@@ -14,24 +14,18 @@ pub struct PermanentRefusal {
     pub at: usize,
 }
 
-/// Appends a refusal, whose explanation follows from its first line on.
-fn push_refusal(
-    text: &mut String,
-    refusal: PermanentRefusal,
-    explanation: &str,
-) -> Result<(), AllocError> {
-    write!(text, "permanent message {}, multi: ", refusal.number)?;
-    text.push_str(explanation)
-}
-
-/// Appends each refusal with its explanation.
+/// Appends each refusal with its explanation, whose lines follow from its first line on.
 pub(crate) fn push_refusals(
     text: &mut String,
     refusals: &[PermanentRefusal],
     explanations: &[String],
 ) -> Result<(), AllocError> {
     for (refusal, explanation) in refusals.iter().zip(explanations) {
-        push_refusal(text, *refusal, explanation)?;
+        let parts = [
+            Part::Number(i64::from(refusal.number)),
+            Part::Words(explanation),
+        ];
+        tell(text, "permanent message @, multi: @", &parts)?;
     }
     Ok(())
 }

@@ -6,6 +6,7 @@ ghost use Rattle.sign_words.specs.Document.{IsDocument};
 use crate::describe::{Setup, describe};
 use crate::facts::json_of;
 use crate::find::{Findings, look_at_file};
+use crate::part::{Part, tell};
 use crate::picture::draw_font;
 use crate::refusal::{PermanentRefusal, push_refusals};
 use sign_file::deep_at;
@@ -113,7 +114,7 @@ pub fn find_in(alloc: Global, octets: &[u8]) -> Result<Findings, AllocError>
 }
 
 /// How a sign file is told of (own).
-#[derive(Clone, Copy, Debug, PartialEq, Eq)]
+#[derive(Clone, Copy)]
 pub enum SignView {
     /// What it describes.
     Description,
@@ -141,6 +142,14 @@ pub struct SignWords<'a> {
     pub explanations: &'a [String],
 }
 
+/// Appends lines, each in the place of the mark of this one.
+fn push_lines(text: &mut String, told: &str, lines: &[String]) -> Result<(), AllocError> {
+    for line in lines {
+        tell(text, told, &[Part::Words(line)])?;
+    }
+    Ok(())
+}
+
 impl SignWords<'_> {
     /// Appends what was found.
     fn push_found(&self, text: &mut String) -> Result<(), AllocError> {
@@ -149,17 +158,12 @@ impl SignWords<'_> {
             warnings,
             ..
         } = self.found;
-        for fault in faults {
-            writeln!(text, "{fault}")?;
-        }
+        push_lines(text, "@\n", faults)?;
         if self.setup.is_none() && faults.is_empty() {
-            writeln!(text, "the sign file isn't taken")?;
+            text.push_str("the sign file isn't taken\n")?;
         }
         push_refusals(text, self.refusals, self.explanations)?;
-        for warning in warnings {
-            writeln!(text, "warning: {warning}")?;
-        }
-        Ok(())
+        push_lines(text, "warning: @\n", warnings)
     }
 
     /// The words.

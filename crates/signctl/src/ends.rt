@@ -1,7 +1,7 @@
 //! How a run ends: its exit status, and what is said of a fault.
 
 use crate::front::{Front, Told};
-use clap::Error;
+use command_line::Answer;
 use sign_aids::PictureFault;
 use std::fmt::Display;
 use std::io::Write;
@@ -21,12 +21,12 @@ pub(crate) const UNREAD: u8 = 3;
 
 /// Answers a command line that asks for no run. Help is written to the output, and why it is refused to the errors.
 pub(crate) fn answer_words<W: Write, E: Write>(
-    answer: Error,
+    answer: &Answer,
     writer: &mut W,
     errors: &mut E,
 ) -> u8 {
     // The status says the same even if this text can't be written.
-    if answer.use_stderr() {
+    if answer.is_refusal() {
         let _ = write!(errors, "{answer}");
         REFUSED
     } else {

@@ -1,6 +1,6 @@
 //! What stands before the input: the sign file that the command line names, and the mark behind it.
 
-use crate::options::SignSource;
+use command_line::SignSource;
 use std::alloc::Global;
 use std::fs;
 use std::io::{self, BufReader};
@@ -48,6 +48,21 @@ pub(crate) struct Told<'a> {
     pub(crate) fault: ToolFault,
 }
 
+/// Reads a sign file, with the mark behind it.
+fn read_file<P: Files>(alloc: Global, files: &P, name: &str) -> Result<Vec<u8>, FileFault> {
+    let file = match fs::open(files, name) {
+        Ok(file) => file,
+        Err(refusal) => return Err(FileFault::Unopened(refusal)),
+    };
+    let Ok(mut file) = BufReader::new(alloc, file) else {
+        return Err(FileFault::Unread(ToolFault::Memory));
+    };
+    match read_sign(alloc, &mut file) {
+        Ok(octets) => Ok(octets),
+        Err(fault) => Err(FileFault::Unread(fault)),
+    }
+}
+
 impl<'a> Front<'a> {
     /// Reads the sign file that is named, if one is. The error has the name of the file.
     pub(crate) fn read<P: Files>(
@@ -62,20 +77,13 @@ impl<'a> Front<'a> {
                 lines: 0,
             });
         };
-        let file = match fs::open(files, name) {
-            Ok(file) => file,
-            Err(refusal) => return Err((name, FileFault::Unopened(refusal))),
-        };
-        let Ok(mut file) = BufReader::new(alloc, file) else {
-            return Err((name, FileFault::Unread(ToolFault::Memory)));
-        };
-        match read_sign(alloc, &mut file) {
+        match read_file(alloc, files, name) {
             Ok(octets) => Ok(Front {
                 lines: lines_of(&octets),
                 octets,
                 name: Some(name),
             }),
-            Err(fault) => Err((name, FileFault::Unread(fault))),
+            Err(fault) => Err((name, fault)),
         }
     }
 

@@ -78,13 +78,12 @@
 //! | 3 | of `explain`: the sign file or the messages weren't read, or what is told wasn't written |
 #![tactic(auto)]
 
-mod characters;
-mod commands;
 mod ends;
+mod explain;
+mod font;
 mod front;
 mod main_with;
-mod options;
-mod words;
+mod picture;
 
 use std::io::BufReader;
 use std::process::ExitCode;

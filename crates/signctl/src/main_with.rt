@@ -1,17 +1,134 @@
 //! The tool over streams that are handed in.
 
-use crate::commands::explain::answer_explain;
-use crate::commands::font::answer_font;
-use crate::commands::lines::answer_lines;
-use crate::commands::picture::answer_picture;
-use crate::commands::serve::answer_serve;
-use crate::commands::sign::answer_sign;
-use crate::ends::{answer_words, end_of, end_of_answer, end_of_lines, end_of_picture, say_of_file};
+use crate::ends::{
+    FAULTED, UNREAD, answer_words, end_of, end_of_answer, end_of_lines, end_of_picture, say_of_file,
+};
+use crate::explain::answer_explain;
+use crate::font::answer_font;
 use crate::front::Front;
-use crate::words::{Request, request_of};
+use crate::picture::answer_picture;
+use command_line::{Request, SignRequest, SignSource, request_of};
+use file_aids::{SignFound, run_sign};
+use sign_tool::{Mode, begin, run_tool, serve};
+use sign_words::SignView;
 use std::alloc::Global;
 use std::io::{Read, Write};
 use std::rt::Files;
+use tool_streams::ToolFault;
+
+/// Where the sign of a request comes from.
+fn sign_of<'a>(request: &Request<'a>) -> SignSource<'a> {
+    match request {
+        Request::Check { sign } => *sign,
+        Request::Show { sign, .. } => *sign,
+        Request::Run { sign } => *sign,
+        Request::Serve { sign } => *sign,
+        Request::Explain(asked) => asked.sign,
+        Request::Picture(asked) => asked.sign,
+        Request::Sign(_) | Request::Font(_) => SignSource::Input,
+    }
+}
+
+/// Answers the lines of an input by this mode. What is said of its end is its exit status.
+fn answer_lines<R: Read, W: Write, E: Write>(
+    alloc: Global,
+    mode: Mode,
+    sign: SignSource<'_>,
+    front: &Front<'_>,
+    input: &mut R,
+    writer: &mut W,
+    errors: &mut E,
+) -> u8 {
+    let end = run_tool(alloc, mode, sign.is_sample(), input, writer);
+    end_of_lines(end, front, errors)
+}
+
+/// Serves the sign.
+fn answer_serve<R: Read, W: Write>(
+    alloc: Global,
+    sign: SignSource<'_>,
+    reader: &mut R,
+    writer: &mut W,
+) -> Result<(), ToolFault> {
+    let start = begin(alloc, sign.is_sample(), reader)?;
+    serve(alloc, start.setup, reader, writer)
+}
+
+/// Tells of the sign file. The answer is whether it has no fault, and with `--strict` no warning.
+fn answer_sign<R: Read, W: Write>(
+    alloc: Global,
+    asked: SignRequest,
+    reader: &mut R,
+    writer: &mut W,
+) -> Result<bool, ToolFault> {
+    let view = match asked.font {
+        Some(font) => SignView::Font(font),
+        None if asked.is_json => SignView::Json,
+        None => SignView::Description,
+    };
+    let SignFound { is_sound, is_clean } = run_sign(alloc, view, reader, writer)?;
+    Ok(is_sound && (is_clean || !asked.is_strict))
+}
+
+/// Answers a request over an input that begins with the sign file, if one is named. What is said of its end is its exit status.
+fn answer_input<P: Files, R: Read, W: Write, E: Write>(
+    alloc: Global,
+    files: &P,
+    request: &Request<'_>,
+    front: &Front<'_>,
+    input: &mut R,
+    writer: &mut W,
+    errors: &mut E,
+) -> u8 {
+    let mode = match request {
+        Request::Check { .. } => Mode::Check,
+        Request::Show { colour, clock, .. } => Mode::Show {
+            colour: *colour,
+            clock: *clock,
+        },
+        Request::Serve { sign } => {
+            let end = answer_serve(alloc, *sign, input, writer);
+            return end_of_lines(end, front, errors);
+        }
+        Request::Picture(asked) => {
+            let end = answer_picture(alloc, files, *asked, input, writer);
+            return end_of_picture(end, front, errors);
+        }
+        Request::Sign(asked) => {
+            let end = answer_sign(alloc, *asked, input, writer);
+            return end_of_answer(end, front, errors);
+        }
+        Request::Font(asked) => return end_of(answer_font(alloc, asked, input, writer), errors),
+        _ => Mode::Run,
+    };
+    answer_lines(alloc, mode, sign_of(request), front, input, writer, errors)
+}
+
+/// Answers a request, whose sign file is read first if one is named. What is said of its end is its exit status.
+fn answer_request<P: Files, R: Read, W: Write, E: Write>(
+    alloc: Global,
+    files: &P,
+    request: &Request<'_>,
+    reader: &mut R,
+    writer: &mut W,
+    errors: &mut E,
+) -> u8 {
+    let front = match Front::read(alloc, files, sign_of(request)) {
+        Ok(front) => front,
+        Err((name, fault)) => {
+            say_of_file(name, &fault, errors);
+            return match request {
+                Request::Explain(_) => UNREAD,
+                _ => FAULTED,
+            };
+        }
+    };
+    if let Request::Explain(asked) = request {
+        return answer_explain(alloc, files, asked, &front, reader, writer, errors);
+    }
+    let mut input = front.octets.as_slice().chain(reader);
+    answer_input(alloc, files, request, &front, &mut input, writer, errors)
+}
 
 /// Runs the tool as the words ask, and gives its exit status (own). The first word is the program's name.
 ///
@@ -26,45 +143,8 @@ pub(crate) fn main_with<P: Files, R: Read, W: Write, E: Write>(
     writer: &mut W,
     errors: &mut E,
 ) -> u8 {
-    let request = match request_of(alloc, words) {
-        Ok(request) => request,
-        Err(answer) => return answer_words(answer, writer, errors),
-    };
-    let unread = request.unread();
-    let front = match Front::read(alloc, files, request.sign()) {
-        Ok(front) => front,
-        Err((name, fault)) => {
-            say_of_file(name, &fault, errors);
-            return unread;
-        }
-    };
-    match request {
-        Request::Lines(asked) => {
-            let mut input = front.octets.as_slice().chain(reader);
-            let end = answer_lines(alloc, asked, &mut input, writer);
-            end_of_lines(end, &front, errors)
-        }
-        Request::Serve(asked) => {
-            let mut input = front.octets.as_slice().chain(reader);
-            let end = answer_serve(alloc, asked, &mut input, writer);
-            end_of_lines(end, &front, errors)
-        }
-        Request::Explain(asked) => {
-            answer_explain(alloc, files, &asked, &front, reader, writer, errors)
-        }
-        Request::Picture(asked) => {
-            let mut input = front.octets.as_slice().chain(reader);
-            let end = answer_picture(alloc, files, asked, &mut input, writer);
-            end_of_picture(end, &front, errors)
-        }
-        Request::Sign(asked) => {
-            let mut input = front.octets.as_slice().chain(reader);
-            let end = answer_sign(alloc, asked, &mut input, writer);
-            end_of_answer(end, &front, errors)
-        }
-        Request::Font(asked) => {
-            let mut input = front.octets.as_slice().chain(reader);
-            end_of(answer_font(alloc, &asked, &mut input, writer), errors)
-        }
+    match request_of(alloc, words) {
+        Ok(request) => answer_request(alloc, files, &request, reader, writer, errors),
+        Err(answer) => answer_words(&answer, writer, errors),
     }
 }

@@ -8,16 +8,20 @@ from dataclasses import dataclass
 from types import TracebackType
 from typing import Any, NoReturn, Optional, SupportsIndex, Union
 
+from .errors import CommandRefused
 from .library import (
     DONE, REFUSED, DefaultFacts, FontFacts, Handle, Library, MessageFacts, PathLike, ReplyFacts, ReportFacts, ShownFacts, TableFacts, VerdictFacts,
     load,
 )
 from .picture import Picture, Plane, stride_of
 from .replies import (
-    Activated, Defaults, Display, Done, Ended, Font, Frame, Idle, Message, NotSet, NotShown, Refused, Reply, Report, Table, Ticked, Worked
+    Activated, Defaults, Display, Done, Ended, Font, Frame, Idle, Message, NotSet, NotShown, Refused, Reply, Report, Table, Ticked, Worked, obeyed
 )
 from .sign import MOST_CLOCK, Sign, Verdict, shown_of, told_verdict
-from .values import ActivateError, Default, DefaultError, MultiError, SourceMode, Status, TableError, Text, ValidateError, number_of, octets_of
+from .values import (
+    ActivateError, DefaultError, Memory, MultiError, Octets, Request, SourceMode, Status, TableError, Text, ValidateError, number_of, octets_of,
+    raw_octets,
+)
 
 # A text has at most 4,096 octets in the table of any sign, and an owner 127.
 MOST_TEXT, MOST_OWNER = 4096, 127
@@ -94,12 +98,13 @@ class Controller:
     """The controller of a sign: its message table, what the sign shows, its clock and its defaults. `docs/messages.md` says what each command
     does, and a reply says what came of it.
 
-        with Controller(sign) as controller:
-            controller.request(Memory.CHANGEABLE, 1, Request.MODIFY)
-            controller.set_multi(Memory.CHANGEABLE, 1, "ROAD[np]WORK")
-            controller.request(Memory.CHANGEABLE, 1, Request.VALIDATE)
-            controller.work()
-            controller.activate(ActivationCode(Memory.CHANGEABLE, 1, message_crc("ROAD[np]WORK"), duration=1))
+        with Controller(sign, strict=True) as controller:
+            controller.store(1, "ROAD[np]WORK")
+            controller.validate(1)
+            controller.show(1, duration=1)
+
+    A reply that refuses a command is false, and if the controller is `strict`, it is raised as `CommandRefused`. `store`, `validate`, `show` and
+    `message` raise it always.
 
     Nothing runs between calls: time passes by `tick` alone. Threads may share it; each call waits until the one before it has returned. It
     can't be copied or pickled. `close`, the end of `with`, or the end of the object gives back its memory, and a closed one raises
@@ -109,8 +114,9 @@ class Controller:
     Raises `TableFault` if the message table of the sign file is outside a limit, and `NoMemory`. No other call takes memory of the library.
     """
 
-    def __init__(self, sign: Sign) -> None:
+    def __init__(self, sign: Sign, *, strict: bool = False) -> None:
         self._sign = sign
+        self._strict = strict
         self._lock = threading.RLock()
         self._handle = Handle()
         sign.library.call("controller_new", sign.octets, len(sign.octets), byref(self._handle))
@@ -118,14 +124,24 @@ class Controller:
         self._free.atexit = False  # a thread may still be in a call then, and the memory goes with the process
 
     @classmethod
-    def from_file(cls, path: PathLike, library: Union[Library, PathLike, None] = None) -> Controller:
+    def from_file(cls, path: PathLike, library: Union[Library, PathLike, None] = None, *, strict: bool = False) -> Controller:
         """The controller of the sign of a file. Raises what `Sign.from_file` and the class raise."""
-        return cls(Sign.from_file(path, library))
+        return cls(Sign.from_file(path, library), strict=strict)
 
     @property
     def sign(self) -> Sign:
         """The sign, as its file describes it; `defaults` has the defaults in force."""
         return self._sign
+
+    @property
+    def width(self) -> int:
+        """How many pixels a row of the sign has, 1 to 1,024."""
+        return self._sign.width
+
+    @property
+    def height(self) -> int:
+        """How many rows the sign has, 1 to 128."""
+        return self._sign.height
 
     def close(self) -> None:
         """Gives back the controller's memory. A second call does nothing."""
@@ -148,6 +164,49 @@ class Controller:
 
     def __reduce__(self) -> NoReturn:
         raise TypeError("a controller can't be pickled")
+
+    # A message in one step, without its codes. A refusal is raised.
+
+    def store(
+        self, number: SupportsIndex, text: Text, *, owner: Text = b"", priority: SupportsIndex = 1, beacon: SupportsIndex = 0,
+        pixel_service: SupportsIndex = 0,
+    ) -> None:
+        """Writes a changeable message, which is then in modifying; `validate` makes it ready to be shown. Raises `CommandRefused`, and what was
+        written before the refusal stays."""
+        place, octets, owned = (Memory.CHANGEABLE, number_of("number", number, 65535)), octets_of(text), octets_of(owner)
+        values = number_of("priority", priority, 255), number_of("beacon", beacon, 255), number_of("pixel_service", pixel_service, 255)
+        with self._lock:
+            obeyed(self.request(*place, Request.MODIFY))
+            obeyed(self.set_multi(*place, octets))
+            obeyed(self.set_owner(*place, owned))
+            obeyed(self.set_priority(*place, values[0]))
+            obeyed(self.set_beacon(*place, values[1]))
+            obeyed(self.set_pixel_service(*place, values[2]))
+
+    def validate(self, number: SupportsIndex) -> Worked:
+        """Has a changeable message judged. Others that wait and have lower numbers are judged before it. Raises `CommandRefused` if it doesn't
+        become valid, or can't be judged."""
+        wanted = number_of("number", number, 65535)
+        with self._lock:
+            obeyed(self.request(Memory.CHANGEABLE, wanted, Request.VALIDATE))
+            judged = self.work()
+            while isinstance(judged, Worked) and judged.number != wanted:
+                judged = self.work()
+        if not isinstance(judged, Worked) or judged.status != Status.VALID:
+            raise CommandRefused(judged)
+        return judged
+
+    def show(
+        self, number: SupportsIndex, *, duration: SupportsIndex = NO_END, priority: SupportsIndex = 255,
+        memory: SupportsIndex = Memory.CHANGEABLE,
+    ) -> None:
+        """Shows a message as it stands, whose CRC the controller tells; the address of who asks is 0. `duration` is in minutes, and `NO_END` has
+        no end. Raises `CommandRefused` if it isn't shown, or isn't there."""
+        asked = message_of(memory, number)
+        times = number_of("duration", duration, 65535), number_of("priority", priority, 255)
+        with self._lock:
+            crc = self.message(*asked).crc
+            obeyed(self.activate(ActivationCode(*asked, crc, *times, requester=0)))
 
     # Writing and judging messages.
 
@@ -187,14 +246,14 @@ class Controller:
 
     # Showing messages.
 
-    def activate(self, code: Union[ActivationCode, bytes]) -> Reply:
+    def activate(self, code: Union[ActivationCode, Octets]) -> Reply:
         """Shows a message, named by a code or by its 12 octets. `Activated` or `NotShown`. Raises `BadLength` for another number of octets."""
-        octets = bytes(code)
+        octets = bytes(code) if isinstance(code, ActivationCode) else raw_octets("a code", code, "an ActivationCode or its octets")
         return self._ask("activate", octets, len(octets))
 
-    def set_end(self, code: Union[EndCode, bytes]) -> Reply:
+    def set_end(self, code: Union[EndCode, Octets]) -> Reply:
         """Names the message that follows a duration, by a code or by its 5 octets. `Done`. Raises `BadLength` for another number of octets."""
-        octets = bytes(code)
+        octets = bytes(code) if isinstance(code, EndCode) else raw_octets("a code", code, "an EndCode or its octets")
         return self._ask("set_end", octets, len(octets))
 
     def tick(self, tenths: SupportsIndex) -> Reply:
@@ -215,13 +274,13 @@ class Controller:
         kinds: dict[str, Any] = {"mode": SourceMode, "activate": ActivateError, "validate": ValidateError, "multi": MultiError}
         return Report(**told | {name: kind(told[name]) for name, kind in kinds.items()})
 
-    def message(self, memory: SupportsIndex, number: SupportsIndex) -> Union[Message, Refused]:
-        """A message, or why there is none. Memory type 5 and number 1 is what the display shows."""
+    def message(self, memory: SupportsIndex, number: SupportsIndex) -> Message:
+        """A message. Memory type 5 and number 1 is what the display shows. Raises `CommandRefused`, whose reply says why there is none."""
         asked = message_of(memory, number)
         facts, text, owner = MessageFacts(), create_string_buffer(MOST_TEXT), create_string_buffer(MOST_OWNER)
         outcome = self._call("row", *asked, byref(facts), text, MOST_TEXT, owner, MOST_OWNER, answers=(DONE, REFUSED))
         if outcome == REFUSED:
-            return Refused(TableError(facts.code))
+            raise CommandRefused(Refused(TableError(facts.code)))
         return Message(
             *asked, Status(facts.status), facts.priority, facts.beacon, facts.pixel, facts.crc, owner.raw[:facts.owner], text.raw[:facts.multi]
         )
@@ -299,7 +358,8 @@ class Controller:
     def _ask(self, name: str, *words: Any) -> Reply:
         facts = ReplyFacts()
         self._call(name, *words, byref(facts))
-        return reply_of(facts)
+        reply = reply_of(facts)
+        return obeyed(reply) if self._strict else reply
 
     def _set(self, name: str, memory: SupportsIndex, number: SupportsIndex, what: str, value: SupportsIndex) -> Reply:
         return self._ask(name, *message_of(memory, number), number_of(what, value, 255))

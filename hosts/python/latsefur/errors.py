@@ -5,7 +5,10 @@ that draw a text, which have no answer then.
 """
 from __future__ import annotations
 
-from typing import Optional
+from typing import TYPE_CHECKING, Optional
+
+if TYPE_CHECKING:
+    from .replies import Reply
 
 
 class LatsefurError(Exception):
@@ -21,12 +24,29 @@ class WrongLibrary(LatsefurError, ImportError):
 
 
 class NotAnOctet(LatsefurError, ValueError):
-    """A text has a character above U+00FF, which no octet of a MULTI string names. `[hc..]` names it by its number."""
+    """A text has a character above U+00FF, which no octet of a MULTI string names. `[hc..]` names it by its number, up to U+FFFF."""
 
     def __init__(self, text: str, at: int) -> None:
-        super().__init__(f"{text[at]!r} at {at} is no octet; in MULTI it is written [hc{ord(text[at]):x}]")
+        number = ord(text[at])
+        how = f"in MULTI it is written [hc{number:x}]" if number <= 0xFFFF else "MULTI has no number for it"
+        super().__init__(f"{text[at]!r} at {at} is no octet; {how}")
         self.text = text
         self.at = at
+
+    def __reduce__(self) -> tuple[type[NotAnOctet], tuple[str, int]]:
+        return type(self), (self.text, self.at)
+
+
+class CommandRefused(LatsefurError):
+    """The sign refuses a command. `reply` says why: a `Refused`, `NotShown` or `NotSet`, or what came of judging a message that isn't valid."""
+
+    def __init__(self, reply: Optional[Reply]) -> None:
+        super().__init__(reply)
+        self.reply = reply
+
+    def __str__(self) -> str:
+        why = getattr(self.reply, "why", None)
+        return f"the sign replies {str(self.reply)!r}" + (f": {why.name.lower().replace('_', ' ')}" if why else "")
 
 
 class Outcome(LatsefurError):

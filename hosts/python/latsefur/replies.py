@@ -4,17 +4,34 @@ from __future__ import annotations
 from dataclasses import dataclass
 from typing import Optional
 
+from .errors import CommandRefused
 from .picture import Picture, Plane, Shown
 from .values import ActivateError, DefaultError, MultiError, SourceMode, Status, TableError, ValidateError
 
 
 class Reply:
-    """The base of the replies."""
+    """The base of the replies. Those that refuse a command are false, and all others true."""
 
     __slots__ = ()
 
     def __str__(self) -> str:
         return type(self).__name__.lower()
+
+
+class Refusal(Reply):
+    """The base of the replies that refuse a command: `Refused`, `NotShown` and `NotSet`."""
+
+    __slots__ = ()
+
+    def __bool__(self) -> bool:
+        return False
+
+
+def obeyed(reply: Reply) -> Reply:
+    """A reply that is no refusal, which raises `CommandRefused`."""
+    if not reply:
+        raise CommandRefused(reply)
+    return reply
 
 
 @dataclass(frozen=True)
@@ -23,7 +40,7 @@ class Done(Reply):
 
 
 @dataclass(frozen=True)
-class Refused(Reply):
+class Refused(Refusal):
     """The message table refuses the command, and nothing has changed."""
 
     why: TableError
@@ -64,7 +81,7 @@ class Activated(Reply):
 
 
 @dataclass(frozen=True)
-class NotShown(Reply):
+class NotShown(Refusal):
     """The message isn't shown, and the display keeps what it shows."""
 
     why: ActivateError
@@ -74,7 +91,7 @@ class NotShown(Reply):
 
 
 @dataclass(frozen=True)
-class NotSet(Reply):
+class NotSet(Refusal):
     """The sign refuses the default."""
 
     why: DefaultError

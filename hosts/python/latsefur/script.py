@@ -9,9 +9,9 @@ import re
 from typing import Callable, Iterable, Iterator, Union
 
 from .controller import Controller
-from .errors import BadLength
+from .errors import BadLength, CommandRefused, LatsefurError
 from .replies import Defaults, Frame, Message, Reply, Report
-from .values import Default, Text, octets_of
+from .values import Default, Text, octets_of, several
 
 Answer = Union[Reply, Message, Report, Defaults, Frame]
 Words = list[bytes]
@@ -19,12 +19,15 @@ Words = list[bytes]
 FIELDS = {field.name.lower().encode(): field for field in Default}
 
 
-class BadLine(ValueError):
+class BadLine(LatsefurError, ValueError):
     """A line that is none of a script. `number` is its place, counted from 1."""
 
     def __init__(self, number: int = 0) -> None:
         super().__init__(f"line {number}: bad line")
         self.number = number
+
+    def __reduce__(self) -> tuple[type[BadLine], tuple[int]]:
+        return type(self), (self.number,)
 
 
 def number(word: bytes, most: int) -> int:
@@ -84,6 +87,10 @@ def answer(controller: Controller, line: Text) -> Answer:
         return ask(controller, words)
     except BadLength as fault:
         raise BadLine from fault
+    except CommandRefused as fault:
+        if fault.reply is None:
+            raise
+        return fault.reply
 
 
 def passed_over(line: Text) -> bool:
@@ -92,8 +99,12 @@ def passed_over(line: Text) -> bool:
 
 
 def run(controller: Controller, lines: Iterable[Text]) -> Iterator[Answer]:
-    """The replies to the lines of a script, as they are asked. Raises `BadLine`, with its number, at a line that is none of a script."""
-    for place, line in enumerate(lines, 1):
+    """The replies to the lines of a script, as they are asked.
+
+    Raises `BadLine`, with its number, at a line that is none of a script, and `TypeError` for a lone
+    text, whose characters would be taken for lines.
+    """
+    for place, line in enumerate(several("lines", lines), 1):
         if not passed_over(line):
             try:
                 reply = answer(controller, line)

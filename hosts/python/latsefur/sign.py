@@ -10,7 +10,7 @@ from typing import TYPE_CHECKING, Any, Callable, Iterable, Optional, SupportsInd
 from .errors import TextTooLong
 from .library import DONE, RECORD, REFUSED, VERDICT, Library, PathLike, ShownFacts, SignFacts, Texts, VerdictFacts, load
 from .picture import Picture, Plane, Shown, stride_of
-from .values import MultiError, Text, number_of, octets_of
+from .values import MultiError, Octets, Text, number_of, octets_of, raw_octets, texts_of
 
 if TYPE_CHECKING:
     import numpy
@@ -63,8 +63,9 @@ class Sign:
     It never changes. Threads may share it, and the library runs without Python's lock. It is equal to another one of the same octets, and can
     be pickled: the other process loads its own library. Each call reads the sign file anew, so many texts go into one `check_all`.
 
-    A text is `bytes`, or a `str` in which each character is the octet of its number. Clocks, phases and other times are in tenths of a second.
-    A clock counts from the moment at which the text is first shown, and a phase from the moment at which its page is. Pages count from 0.
+    A text is `bytes`, a `bytearray` or a `memoryview`, or a `str` in which each character is the octet of its number. Clocks, phases and other
+    times are in tenths of a second. A clock counts from the moment at which the text is first shown, and a phase from the moment at which its
+    page is. Pages count from 0.
 
     `library` is a file, or what `load` gives; if none is named, `load` says where it is looked for.
 
@@ -74,8 +75,8 @@ class Sign:
 
     __slots__ = ("_octets", "_named", "_library", "_facts")
 
-    def __init__(self, octets: bytes, library: Union[Library, PathLike, None] = None) -> None:
-        self._octets = bytes(octets)
+    def __init__(self, octets: Octets, library: Union[Library, PathLike, None] = None) -> None:
+        self._octets = raw_octets("a sign file", octets)
         self._named = None if isinstance(library, Library) or library is None else str(library)
         self._library = library if isinstance(library, Library) else load(library)
         self._facts = SignFacts()
@@ -123,14 +124,14 @@ class Sign:
         return told_verdict(facts.at, facts.cycle, facts.outcome, facts.code, facts.pages)
 
     def check_all(self, texts: Iterable[Text]) -> list[Verdict]:
-        """The verdicts on these texts, in their order. The sign file is read once."""
+        """The verdicts on these texts, in their order. The sign file is read once. Raises `TypeError` for a lone text."""
         return [told_verdict(*told) for told in VERDICT.iter_unpack(self._check_all(texts))]
 
     def check_array(self, texts: Iterable[Text]) -> numpy.ndarray[Any, Any]:
         """The verdicts on these texts as a NumPy array of records, in their order, without an object for each.
 
-        A record has `refused`, `error` (0 if the text is accepted), `at`, `pages` and `cycle`, as `Verdict` says them. Raises `ImportError`
-        where NumPy isn't there.
+        A record has `refused`, `error` (0 if the text is accepted), `at`, `pages` and `cycle`, as `Verdict` says them. Raises `TypeError` for a
+        lone text, and `ImportError` where NumPy isn't there.
         """
         import numpy
 
@@ -189,7 +190,7 @@ class Sign:
 
     def _check_all(self, texts: Iterable[Text]) -> bytes:
         """The verdicts on texts, as the library writes them."""
-        given = [octets_of(text) for text in texts]
+        given = texts_of(texts)
         if not given:
             return b""
         asked, room = Texts(given), (VerdictFacts * len(given))()

@@ -3,11 +3,12 @@ from __future__ import annotations
 
 import operator
 from enum import IntEnum
-from typing import SupportsIndex, Union
+from typing import Iterable, SupportsIndex, Union
 
 from .errors import NotAnOctet
 
-Text = Union[str, bytes]
+Octets = Union[bytes, bytearray, memoryview]
+Text = Union[str, Octets]
 
 
 def octets_of(text: Text) -> bytes:
@@ -15,14 +16,31 @@ def octets_of(text: Text) -> bytes:
 
     Raises `NotAnOctet` if a character is above U+00FF, and `TypeError` for any other kind of value.
     """
-    if isinstance(text, bytes):
-        return text
     if not isinstance(text, str):
-        raise TypeError(f"a text is a str or bytes, and not {type(text).__name__}")
+        return raw_octets("a text", text, "a str, bytes, bytearray or memoryview")
     try:
         return text.encode("latin-1")
     except UnicodeEncodeError as fault:
         raise NotAnOctet(text, fault.start) from None
+
+
+def raw_octets(name: str, value: Octets, kinds: str = "bytes, a bytearray or a memoryview") -> bytes:
+    """The octets of a value that is nothing else. Raises `TypeError` for any other kind of value: `bytes` makes five zeros of the number 5."""
+    if isinstance(value, (bytes, bytearray, memoryview)):
+        return bytes(value)
+    raise TypeError(f"{name} is {kinds}, and not {type(value).__name__}")
+
+
+def several(name: str, texts: Iterable[Text]) -> Iterable[Text]:
+    """These texts. Raises `TypeError` for a lone one, whose characters would be taken for texts."""
+    if isinstance(texts, (str, bytes, bytearray, memoryview)):
+        raise TypeError(f"{name} are a list or another iterable, and not a lone {type(texts).__name__}")
+    return texts
+
+
+def texts_of(texts: Iterable[Text]) -> list[bytes]:
+    """The octets of several texts. Raises `TypeError` for a lone text, and what `octets_of` does."""
+    return [octets_of(text) for text in several("texts", texts)]
 
 
 def number_of(name: str, value: SupportsIndex, most: int) -> int:

@@ -2,11 +2,17 @@
 from __future__ import annotations
 
 import sys
+import unittest
 from pathlib import Path
 from typing import Iterator, Optional
 
 TOP = Path(__file__).resolve().parents[3]
 SIGNS = TOP / "signs"
+
+# The program, which is built anew if its sources have changed, and what marks the tests that need it.
+PROGRAM = TOP / "bin" / "signctl"
+needs_program = unittest.skipUnless((TOP / "crates/signctl/out/signctl").is_file(), "signctl isn't built; bin/signctl builds it")
+
 sys.path.insert(0, str(TOP / "tests"))
 
 from harness import examples_of, sign_with  # noqa: E402

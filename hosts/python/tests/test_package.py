@@ -23,7 +23,7 @@ from latsefur import (
     Request, Shown, Sign, Status, Ticked, Verdict, Worked, message_crc,
 )
 
-from tests.places import SIGNS, TOP, sign_with
+from tests.places import PROGRAM, SIGNS, TOP, needs_program, sign_with
 
 SAMPLE = (SIGNS / "sample.toml").read_bytes()
 A_CODE = ActivationCode(Memory.CHANGEABLE, 1, 0x9A66)
@@ -65,8 +65,29 @@ class Texts(unittest.TestCase):
         with self.assertRaises(latsefur.NotAnOctet) as raised:
             sign.check("\u00e9\u2190")
         self.assertEqual((raised.exception.at, "[hc2190]" in str(raised.exception)), (1, True))
-        with self.assertRaises(TypeError):
-            sign.check(65)  # type: ignore[arg-type]
+        with self.assertRaises(latsefur.NotAnOctet) as raised:
+            sign.check("\U0001f6a7")
+        self.assertNotIn("[hc", str(raised.exception))
+        for number in (65, 0, True, None, [65], ("A",)):
+            self.assertRaises(TypeError, sign.check, number)
+
+    def test_octets_are_taken_as_they_come(self) -> None:
+        for kind in (bytes, bytearray, memoryview):
+            self.assertEqual(self.sign.check(kind(b"A[np]I")), Verdict(pages=2, cycle=60))
+            self.assertEqual(self.sign.check_all([kind(b"A")]), [Verdict(pages=1, cycle=30)])
+            self.assertEqual((message_crc(kind(b"A")), Sign(kind(SAMPLE)).octets), (0x9A66, SAMPLE))
+
+    def test_a_number_is_no_sign_file(self) -> None:
+        """`bytes(5)` would be five octets of zero."""
+        for number in (5, 0, "height = 7", [1, 2], None):
+            self.assertRaises(TypeError, Sign, number)
+
+    def test_a_lone_text_is_not_several(self) -> None:
+        for text in ("ABC", b"ABC", bytearray(b"ABC"), memoryview(b"ABC"), ""):
+            self.assertRaises(TypeError, self.sign.check_all, text)
+            with contextlib.suppress(ImportError):
+                self.assertRaises(TypeError, self.sign.check_array, text)
+        self.assertEqual(list(map(bool, self.sign.check_all(("A", "B", "A")))), [True, False, True])
 
     def test_pictures(self) -> None:
         first, second = self.sign.pages("A[np]I")
@@ -134,6 +155,9 @@ class Texts(unittest.TestCase):
     def test_other_processes(self) -> None:
         with ProcessPoolExecutor(2) as pool:
             self.assertEqual(list(map(str, pool.map(self.sign.check, ["A", "B"]))), ["ok 1", "error 7 0"])
+            with self.assertRaises(latsefur.NotAnOctet) as raised:
+                pool.submit(self.sign.check, "A\u2190").result(60)
+            self.assertEqual((raised.exception.text, raised.exception.at), ("A\u2190", 1))
 
     def test_threads(self) -> None:
         wanted = self.sign.colours("A[np]I", 30)
@@ -158,7 +182,9 @@ class Controllers(unittest.TestCase):
             self.assertEqual(controller.set_multi(3, 1, "A"), Refused(latsefur.TableError.WRONG_STATE))
             stored(controller, "A")
             self.assertEqual(controller.message(3, 1), latsefur.Message(3, 1, Status.VALID, 1, 0, 0, 0x9A66, b"", b"A"))
-            self.assertEqual(controller.message(3, 2), Refused(latsefur.TableError.NUMBER))
+            with self.assertRaises(latsefur.CommandRefused) as raised:
+                controller.message(3, 2)
+            self.assertEqual(raised.exception.reply, Refused(latsefur.TableError.NUMBER))
             self.assertEqual(controller.activate(ActivationCode(3, 1, 0)), NotShown(latsefur.ActivateError.MESSAGE_CRC))
             self.assertEqual(controller.set_end(EndCode(Memory.BLANK, 1, 0)), Done())
             self.assertEqual(controller.activate(ActivationCode(3, 1, message_crc("A"), duration=1)), Activated())
@@ -174,6 +200,36 @@ class Controllers(unittest.TestCase):
             controller.request(3, 1, Request.VALIDATE)
             self.assertEqual(controller.work(), Worked(1, Status.ERROR, latsefur.ValidateError.SYNTAX_MULTI, MultiError.CHARACTER_NOT_DEFINED, 0))
 
+    def test_a_refusal_is_false(self) -> None:
+        with Controller(Sign(SAMPLE)) as controller:
+            self.assertFalse(controller.activate(A_CODE))
+            self.assertFalse(controller.set_multi(3, 1, "A"))
+            self.assertFalse(controller.set_default(Default.FONT, 9))
+            self.assertTrue(controller.request(3, 1, Request.MODIFY))
+            self.assertTrue(all((Done(), Idle(), Activated(), Ticked(), Ended(), controller.tick(1), controller.work())))
+            for reply in (Refused(latsefur.TableError.NUMBER), NotShown(latsefur.ActivateError.PRIORITY), NotSet(latsefur.DefaultError.NO_FONT)):
+                self.assertIsInstance(reply, latsefur.Refusal)
+                self.assertIs(bool(reply), False)
+
+    def test_a_strict_controller_raises_refusals(self) -> None:
+        with Controller.from_file(SIGNS / "sample.toml", strict=True) as controller:
+            for reply, call in (
+                (NotShown(latsefur.ActivateError.MESSAGE_STATUS), lambda: controller.activate(A_CODE)),
+                (Refused(latsefur.TableError.WRONG_STATE), lambda: controller.set_multi(3, 1, "A")),
+                (Refused(latsefur.TableError.WRONG_STATE), lambda: controller.set_owner(3, 1, "me")),
+                (Refused(latsefur.TableError.NUMBER), lambda: controller.request(3, 2, Request.MODIFY)),
+                (Refused(latsefur.TableError.WRONG_STATE), lambda: controller.set_priority(3, 1, 2)),
+                (NotSet(latsefur.DefaultError.NO_FONT), lambda: controller.set_default(Default.FONT, 9)),
+            ):
+                with self.assertRaises(latsefur.CommandRefused) as raised:
+                    call()
+                self.assertEqual(raised.exception.reply, reply)
+                self.assertIn(f"the sign replies '{reply}': {reply.why.name.lower().replace('_', ' ')}", str(raised.exception))
+            stored(controller, "A")
+            self.assertEqual((controller.activate(A_CODE), controller.tick(1), controller.work()), (Activated(), Ticked(), Idle()))
+            self.assertEqual([str(reply) for reply in latsefur.script.run(controller, ["row 3 2", "multi 3 1 A", "work"])],
+                             ["refused 2", "refused 4", "idle"])
+
     def test_codes(self) -> None:
         self.assertEqual(bytes(A_CODE).hex(), "ffffff0300019a667f000001")
         self.assertEqual(bytes(EndCode(2, 1, 0xAB77)).hex(), "020001ab77")
@@ -188,6 +244,13 @@ class Controllers(unittest.TestCase):
         for call, words in ((controller.request, (3, 65536, 6)), (controller.request, (256, 1, 6)), (controller.set_beacon, (3, 1, 256))):
             self.assertRaises(ValueError, call, *words)
         self.assertRaises(ValueError, controller.tick, 2**32)
+        before = controller.report()
+        for code in (5, 12, 0, "12 characters", None, [0] * 12, EndCode(3, 1, 0)):
+            self.assertRaises(TypeError, controller.activate, code)
+        for code in (5, 12, 0, "5 ch.", None, [0] * 5, A_CODE):
+            self.assertRaises(TypeError, controller.set_end, code)
+        self.assertRaises(TypeError, controller.set_multi, 3, 1, 5)
+        self.assertEqual(controller.report(), before)
         self.assertRaises(TypeError, copy.copy, controller)
         self.assertRaises(TypeError, copy.deepcopy, controller)
         self.assertRaises(TypeError, pickle.dumps, controller)
@@ -243,6 +306,19 @@ class Controllers(unittest.TestCase):
                 thread.join()
             self.assertEqual(controller.report().clock, 2000)
 
+    def test_codes_are_taken_as_octets_too(self) -> None:
+        with Controller(Sign(SAMPLE)) as controller:
+            stored(controller, "A")
+            for kind in (bytes, bytearray, memoryview):
+                self.assertEqual(controller.activate(kind(bytes(A_CODE))), Activated())
+                self.assertEqual(controller.set_end(kind(bytes(EndCode(Memory.BLANK, 1, 0)))), Done())
+
+    def test_a_lone_text_is_no_script(self) -> None:
+        """Its characters would be lines, and those of `##` comments."""
+        with Controller(Sign(SAMPLE)) as controller:
+            for text in ("##", "", "work", b"work", bytearray(b"work"), memoryview(b"work")):
+                self.assertRaises(TypeError, list, latsefur.script.run(controller, text))
+
     def test_bad_lines(self) -> None:
         for line in ("tick", "tick x", "nothing", "work ", "activate 00", "frame 256", "owner 3 1 4", "default none 1", "request 3 1"):
             with Controller(Sign(SAMPLE)) as controller, self.subTest(line):
@@ -274,20 +350,23 @@ class Libraries(unittest.TestCase):
         if python:
             self.assertRaises(latsefur.WrongLibrary, latsefur.load, python)
 
+    @needs_program
     def test_the_programs_of_the_readme(self) -> None:
         readme = (TOP / "hosts/python/README.md").read_text()
+        subprocess.run([PROGRAM, "--help"], stdout=subprocess.DEVNULL, check=True)
         programs = re.findall(r"\n\n((?:    .*\n|\n(?=    ))+)", readme)
         written = []
         for program in programs:
             code = "".join(line[4:] if line.strip() else line for line in program.splitlines(keepends=True))
             if code.startswith("from latsefur"):
                 told = io.StringIO()
-                program_named = mock.patch.dict(os.environ, {"LATSEFUR_SIGNCTL": str(TOP / "bin/signctl")})
+                program_named = mock.patch.dict(os.environ, {"LATSEFUR_SIGNCTL": str(PROGRAM)})
                 with contextlib.redirect_stdout(told), moved(TOP), program_named:
                     exec(code, {})
                 written.append(told.getvalue().splitlines())
         self.assertEqual(written, [
-            ["ok 1", "error 5 8"], ["worked 1 4 2 2 0", "shown", "ticked 1 ended"], ["1 20 ticked page 1 phase 0"],
+            ["ok 1", "error 5 8"], ["worked 1 4 2 2 0", "ticked 1 ended"], ["the sign replies 'not shown 4': message status"],
+            ["1 20 ticked page 1 phase 0"],
         ])
         for line in (line for lines in written for line in lines):
             self.assertIn(f"`{line}`", readme)

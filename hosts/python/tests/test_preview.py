@@ -2,18 +2,23 @@
 
 from __future__ import annotations
 
+import contextlib
+import io
 import json
+import re
+import shutil
+import subprocess
 import tempfile
 import threading
 import unittest
 from http.client import HTTPConnection
 from pathlib import Path
-from typing import Any, Optional
+from typing import Any, Optional, Sequence
 
 from latsefur import MultiError, Sign
 from latsefur.preview import program
 from latsefur.preview.answers import Answers, name_of, written
-from latsefur.preview.server import ADDRESS, FILES, MOST_BODY, Page, Server
+from latsefur.preview.server import ADDRESS, FILES, MOST_BODY, Page, Server, hosts_of
 from latsefur.preview.templates import templates
 
 from tests.places import SIGNS
@@ -56,7 +61,7 @@ class Served(unittest.TestCase):
 
     def message(self, text: str, view: Any = None, **words: int) -> Any:
         return self.told(
-            "/message", text=text, view=view, **{"caret": 0, "begin": 0, "tenths": 1, **words}
+            "/judge", text=text, view=view, **{"caret": 0, "begin": 0, "tenths": 1, **words}
         )
 
     def test_its_files_and_no_other(self) -> None:
@@ -89,6 +94,20 @@ class Served(unittest.TestCase):
             status = self.ask("POST", "/font", body, **JSON, Origin=origin)[0]
             self.assertEqual(status, 403, origin)
 
+    def test_a_browser_leaves_out_port_80(self) -> None:
+        own = self.server.server_port
+        self.assertEqual(hosts_of(own), [f"127.0.0.1:{own}", f"localhost:{own}"])
+        self.assertEqual(hosts_of(80), ["127.0.0.1:80", "localhost:80", "127.0.0.1", "localhost"])
+
+    def test_a_page_that_goes_away_is_no_fault(self) -> None:
+        for fault, is_told in ((ConnectionResetError(), False), (ValueError("x"), True)):
+            with contextlib.redirect_stderr(io.StringIO()) as said:
+                try:
+                    raise fault
+                except (ConnectionError, ValueError):
+                    self.server.handle_error(None, (ADDRESS, 1))
+            self.assertEqual(bool(said.getvalue()), is_told)
+
     def test_sizes_and_kinds(self) -> None:
         for headers in ({}, {"Content-Type": "text/plain"}, {**JSON, "Transfer-Encoding": "x"}):
             self.assertEqual(self.ask("POST", "/font", b'{"font":1}', **headers)[0], 415)
@@ -106,7 +125,7 @@ class Served(unittest.TestCase):
             {"tenths": -1},
         ):
             body = {"text": "A", "view": None, "caret": 0, "begin": 0, "tenths": 1, **asked}
-            status = self.ask("POST", "/message", json.dumps(body).encode(), **JSON)[0]
+            status = self.ask("POST", "/judge", json.dumps(body).encode(), **JSON)[0]
             self.assertEqual(status, 400, asked)
 
     def test_verdicts(self) -> None:
@@ -123,6 +142,17 @@ class Served(unittest.TestCase):
         self.assertEqual((told["accepted"], told["at"]), (False, 0))
         self.assertEqual(self.message("A\u2190")["at"], 1)
         self.assertEqual(self.message("A" * 4097)["name"], "too long")
+
+    def test_what_more_text_can_mend(self) -> None:
+        for text in ("[", "[n", "A[nl", "A[np]A[", "[hc41", "]", "A]", "[[A]"):
+            self.assertTrue(self.message(text)["unfinished"], text)
+        for text in ("[x]", "[]", "A]B", "[n[", "B[", "AAAA[", "]]]A", "A[np]A[np]A[", "\u2190["):
+            self.assertFalse(self.message(text).get("unfinished"), text)
+        # From key to key of a message that is accepted in the end, nothing else is refused.
+        whole = "A[nl][fl]A[/fl]"
+        for length in range(len(whole) + 1):
+            told = self.message(whole[:length])
+            self.assertTrue(told["accepted"] or told["unfinished"], whole[:length])
 
     def test_what_plays(self) -> None:
         for text in ("A[np]I", "[pt3o2]A[np][fl]I[/fl]", "[fl]A[/fl]"):
@@ -152,6 +182,8 @@ class Served(unittest.TestCase):
 
     def test_the_sign(self) -> None:
         facts = json.loads(self.ask("GET", "/sign")[2])
+        self.assertEqual(facts["stamp"], self.message("A")["stamp"])
+        self.assertNotEqual(facts["stamp"], Answers(Sign(SIGN.octets + b"\n")).stamp)
         self.assertEqual((facts["width"], facts["height"], facts["pages"]), (12, 7, 2))
         self.assertEqual((facts["fonts"], facts["templates"]), ([1, 2], ["A", "A[np]I"]))
         characters = self.told("/font", font=1)["characters"]
@@ -166,7 +198,7 @@ class Served(unittest.TestCase):
 
     def test_words_and_pictures_of_signctl(self) -> None:
         if self.server.page.program is None:
-            self.assertEqual(self.told("/words", text="A"), {"explained": None})
+            self.assertIsNone(self.message("A")["words"])
             self.assertEqual(self.ask("POST", "/gif", b'{"text":"A"}', **JSON)[0], 409)
             self.skipTest("signctl isn't there")
         status, headers, octets = self.ask("POST", "/gif", b'{"text":"A[np]I"}', **JSON)
@@ -179,9 +211,12 @@ class Served(unittest.TestCase):
             self.assertEqual(status, 409)
             self.assertTrue(json.loads(octets)["said"])
         for text in ("A\nA", "\u2190", "A\r", "A" * 4097):
-            self.assertEqual(self.told("/words", text=text), {"explained": None})
+            self.assertIsNone(self.message(text)["words"])
         if self.server.page.program.explains:
-            self.assertIsInstance(self.told("/words", text="B")["explained"], dict)
+            words = self.message("B")["words"]
+            self.assertTrue(words["reason"])
+            self.assertEqual(self.message("A")["words"], {"reason": "", "warnings": []})
+            self.assertEqual(self.message("B", begin=3)["words"], words)
 
     def test_names_as_the_standard_writes_them(self) -> None:
         names = [name_of(error) for error in MultiError]
@@ -191,7 +226,7 @@ class Served(unittest.TestCase):
         self.assertEqual(names, wanted.split())
         self.assertEqual(
             [written(number) for number in (65, 91, 233, 127, 9888)],
-            ["A", "[hc5b]", "\xe9", "[hc7f]", "[hc26a0]"],
+            ["A", "[hc5b]", "[hce9]", "[hc7f]", "[hc26a0]"],
         )
 
     def test_templates(self) -> None:
@@ -201,6 +236,90 @@ class Served(unittest.TestCase):
             self.assertEqual(templates(path), ["A[np]I", "\xe9"])
         portable = Sign.from_file(SIGNS / "portable.toml")
         self.assertTrue(any(portable.check_all(templates())))
+
+
+class Telling(program.Program):
+    """A program that says of each text what it is given to say."""
+
+    def __init__(self, records: dict[bytes, Optional[dict[str, Any]]]) -> None:
+        self.records, self.explains = records, True
+
+    def explained(self, text: bytes) -> Optional[dict[str, Any]]:
+        return self.records.get(text)
+
+
+class OneAnswer(unittest.TestCase):
+    """A verdict comes with its own words, or with none."""
+
+    def words(self, text: str, record: Optional[dict[str, Any]]) -> Any:
+        page = Page("sample", Answers(SIGN), [], Telling({text.encode(): record}))
+        asked = {"text": text, "view": None, "caret": 0, "begin": 0, "tenths": 1}
+        told = page.judge(asked)
+        self.assertEqual(told["accepted"], SIGN.check(text).accepted)
+        self.assertEqual(told["stamp"], page.facts()["stamp"])
+        return told["words"]
+
+    def test_words_of_the_verdict(self) -> None:
+        warnings = [{"octet": 1, "text": "a space"}]
+        accepted = {"outcome": "accepted", "pages": [], "warnings": warnings}
+        self.assertEqual(self.words("A ", accepted), {"reason": "", "warnings": warnings})
+        refused = {"outcome": "refused", "code": 7, "octet": 1, "reason": "no B"}
+        self.assertEqual(self.words("AB", refused), {"reason": "no B", "warnings": []})
+
+    def test_no_words_of_another_verdict(self) -> None:
+        refused = {"outcome": "refused", "code": 7, "octet": 1, "reason": "no B"}
+        for other in (
+            None,
+            {},
+            {"outcome": "accepted", "warnings": []},
+            {**refused, "octet": 0},
+            {**refused, "code": 5},
+        ):
+            self.assertIsNone(self.words("AB", other), other)
+        self.assertIsNone(self.words("A", refused))
+
+
+class OnThePage(unittest.TestCase):
+    def test_what_it_says(self) -> None:
+        """What the page says while answers are late, out of order or lost: tests/state.js."""
+        node = shutil.which("node")
+        if not node:
+            self.skipTest("node isn't there")
+        own = Path(__file__).with_name("state.js")
+        decides = Path(program.__file__).with_name("state.js")
+        ran = subprocess.run([node, own, decides], capture_output=True, text=True, timeout=60)
+        self.assertEqual(ran.returncode, 0, ran.stdout + ran.stderr)
+
+    def test_its_elements(self) -> None:
+        """Each element that the page's script or another element names is there, once."""
+        folder = Path(program.__file__).parent
+        page, script = ((folder / name).read_text() for name in ("page.html", "page.js"))
+        there = re.findall(r'\bid="([\w-]+)"', page)
+        self.assertEqual(len(there), len(set(there)))
+        named = " ".join(re.findall(r'(?:describedby|labelledby|for)="([^"]+)"', page)).split()
+        used = re.findall(r'\bbyId\("([\w-]+)"\)', script)
+        self.assertTrue(named and used)
+        self.assertLessEqual({*named, *used}, set(there))
+
+
+class InTurn(program.Program):
+    """A program that answers in turn, and isn't run."""
+
+    def __init__(self, *answers: bytes) -> None:
+        self.answers = [b"", *answers]
+        super().__init__(Path("signctl"), b"")
+
+    def _ask(self, words: Sequence[str], lines: bytes) -> subprocess.CompletedProcess[bytes]:
+        return subprocess.CompletedProcess([], 0, self.answers.pop(0), b"")
+
+
+class Explained(unittest.TestCase):
+    def test_an_answer_is_kept_and_a_failure_is_not(self) -> None:
+        asked = InTurn(b"", b'{"outcome":"accepted"}\n', b'{"outcome":"refused"}\n')
+        self.assertIsNone(asked.explained(b"A"))
+        for _ in range(2):
+            self.assertEqual(asked.explained(b"A"), {"outcome": "accepted"})
+        self.assertEqual(asked.explained(b"B"), {"outcome": "refused"})
 
 
 class NoProgram(unittest.TestCase):

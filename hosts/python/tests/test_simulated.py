@@ -5,27 +5,28 @@ import unittest
 from typing import Optional
 
 from latsefur import (
-    ActivateError, Controller, Defaults, Ended, Memory, Shown, Sign, SignStopped, SimulatedSign, Status, Ticked, UnexpectedReply,
+    ActivateError, Controller, Defaults, Done, Ended, Memory, NotShown, Shown, Sign, SignStopped, SimulatedSign, Status, Ticked, UnexpectedReply,
     ValidateError, message_crc,
 )
 
-from tests.places import SIGNS, TOP
+from tests.places import PROGRAM, SIGNS, needs_program
 
 
 def simulated(name: Optional[str] = None) -> SimulatedSign:
-    return SimulatedSign(SIGNS / name if name else None, TOP / "bin" / "signctl")
+    return SimulatedSign(SIGNS / name if name else None, PROGRAM, timeout=None)
 
 
+@needs_program
 class SimulatedSigns(unittest.TestCase):
     def test_a_message_is_stored_shown_and_ended(self) -> None:
         with simulated("portable.toml") as sign:
             self.assertEqual((sign.width, sign.height), (50, 24))
             sign.store(1, "ROAD[np]WORK", priority=3)
-            self.assertEqual(sign.message(1).status, Status.MODIFYING)
+            self.assertEqual(sign.message(3, 1).status, Status.MODIFYING)
             self.assertEqual(sign.validate(1).validate_error, ValidateError.NONE)
             self.assertIsNone(sign.next_change())
-            sign.activate(1, duration=1)
-            self.assertEqual(sign.message(1, Memory.CURRENT_BUFFER).text, b"ROAD[np]WORK")
+            sign.show(1, duration=1)
+            self.assertEqual(sign.message(Memory.CURRENT_BUFFER, 1).text, b"ROAD[np]WORK")
             self.assertEqual((sign.report().clock, sign.report().remaining, sign.next_change()), (0, 1, 20))
             self.assertEqual(sign.tick(20), Ticked())
             self.assertEqual((sign.frame().shown, sign.next_change()), (None, 2))
@@ -34,7 +35,7 @@ class SimulatedSigns(unittest.TestCase):
             self.assertEqual(sign.tick(578), Ended())
             self.assertEqual(sign.report().shown_memory, Memory.BLANK)
             sign.clear()
-            self.assertEqual(sign.message(1).status, Status.NOT_USED)
+            self.assertEqual(sign.message(3, 1).status, Status.NOT_USED)
 
     def test_it_answers_as_the_library_does(self) -> None:
         text = "[cf2]ROAD[nl][cf3]WORK"
@@ -42,7 +43,7 @@ class SimulatedSigns(unittest.TestCase):
         with simulated("full-matrix.toml") as served:
             served.store(1, text, owner="me")
             served.validate(1)
-            served.activate(1)
+            served.show(1)
             self.assertEqual(served.colours().picture, sign.colours(text))
             self.assertEqual(served.frame(2).plane, sign.plane(text, 2))
             self.assertEqual(served.crc(text), message_crc(text))
@@ -53,8 +54,12 @@ class SimulatedSigns(unittest.TestCase):
     def test_another_reply_is_told(self) -> None:
         with simulated() as sign:
             with self.assertRaises(UnexpectedReply) as raised:
-                sign.activate(1)
+                sign.show(1)
             self.assertEqual(raised.exception.said, f"not shown {int(ActivateError.MESSAGE_STATUS)}")
+            self.assertEqual(raised.exception.reply, NotShown(ActivateError.MESSAGE_STATUS))
+            with self.assertRaises(UnexpectedReply) as raised:
+                sign._expect("tock 1", Done())
+            self.assertEqual((raised.exception.said, raised.exception.reply), ("bad line", None))
             with self.assertRaises(UnexpectedReply) as raised:
                 sign.store(2, "A")
             self.assertEqual((raised.exception.asked, raised.exception.said), ("request 3 2 6", "refused 2"))

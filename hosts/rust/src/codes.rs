@@ -1,5 +1,7 @@
 //! The enumerations of NTCIP 1203 that the library takes and answers with.
 
+use std::fmt;
+
 /// An enumeration by its numbers.
 macro_rules! codes {
     ($(#[$about:meta])* $name:ident { $($(#[$said:meta])* $variant:ident = $number:literal),* $(,)? }) => {
@@ -37,6 +39,22 @@ macro_rules! codes {
             }
         }
     };
+}
+
+/// Enumerations that say what is wrong: errors, with the words of each.
+macro_rules! errors {
+    ($($name:ident { $($variant:ident: $words:literal),* $(,)? })*) => {$(
+        impl fmt::Display for $name {
+            fn fmt(&self, to: &mut fmt::Formatter<'_>) -> fmt::Result {
+                match self {
+                    $($name::$variant => to.write_str($words),)*
+                    $name::Unlisted(number) => write!(to, "the number {number}, which has no name"),
+                }
+            }
+        }
+
+        impl std::error::Error for $name {}
+    )*};
 }
 
 codes! {
@@ -208,5 +226,54 @@ codes! {
         Fore = 8,
         /// the colour of the page
         Back = 9,
+    }
+}
+
+errors! {
+    MultiError {
+        Other: "another fault",
+        None: "nothing is wrong with the text",
+        UnsupportedTag: "the sign doesn't support the tag",
+        UnsupportedTagValue: "the sign doesn't support the value of the tag",
+        TextTooBig: "the text is too big for the sign",
+        FontNotDefined: "the sign has no such font",
+        CharacterNotDefined: "the font has no such character",
+        TagConflict: "the tag conflicts with another one",
+        TooManyPages: "the text has too many pages",
+        FontVersionId: "the font has another version",
+    }
+
+    ValidateError {
+        Other: "another fault",
+        None: "nothing is wrong with the message",
+        Beacons: "the sign can't do what the message asks of its beacons",
+        PixelService: "the sign can't do what the message asks of its pixel service",
+        SyntaxMulti: "the text of the message is wrong",
+    }
+
+    ActivateError {
+        Other: "another fault",
+        None: "nothing is wrong with the activation",
+        Priority: "what is shown has a higher priority",
+        MessageStatus: "the message isn't valid",
+        MessageMemoryType: "there is no such memory type",
+        MessageNumber: "there is no message of this number",
+        MessageCrc: "the message has another CRC",
+        SyntaxMulti: "the text of the message is wrong",
+    }
+
+    TableError {
+        MemoryType: "there is no such memory type",
+        Number: "there is no message of this number",
+        ReadOnly: "messages of this memory type aren't written",
+        WrongState: "the status of the message doesn't take this",
+        BadValue: "the value is outside its range",
+        TooLong: "the text or the owner is too long",
+        NoSpace: "the table has no room left for it",
+    }
+
+    DefaultError {
+        BadValue: "the value is outside its range",
+        NoFont: "the sign has no such font",
     }
 }

@@ -1,10 +1,11 @@
 //! A controller, which keeps the messages of one sign and what the sign shows.
 
-use crate::codes::{ActivateError, DefaultError, DefaultField, MultiError, SourceMode, Status, TableError, ValidateError};
+use crate::codes::{ActivateError, DefaultError, DefaultField, Memory, MultiError, Request, SourceMode, Status, TableError, ValidateError};
 use crate::error::{done, Error};
 use crate::ffi::{self, Handle};
 use crate::picture::{stride, Picture, Plane, Shown};
 use crate::sign::{Sign, Verdict};
+use std::cell::UnsafeCell;
 use std::fmt;
 use std::ptr::null_mut;
 
@@ -14,6 +15,9 @@ const MOST_TEXT: usize = 4096;
 const MOST_OWNER: usize = 127;
 
 /// The reply to a command. It is written as `signctl run` does.
+///
+/// A command that is refused has a reply too, so each is looked at, or [`obeyed`](Reply::obeyed) is asked for an error.
+#[must_use = "a command that is refused has a reply too; `obeyed` makes an error of it"]
 #[derive(Clone, Copy, Debug, PartialEq, Eq)]
 #[non_exhaustive]
 pub enum Reply {
@@ -68,6 +72,45 @@ impl Reply {
             _ => Reply::Done,
         }
     }
+
+    /// Whether the command was obeyed, for `?`.
+    ///
+    /// ```
+    /// use latsefur::{Controller, Error, Memory, Request, Sign, TableError};
+    ///
+    /// fn write(controller: &mut Controller, text: &str) -> Result<(), Error> {
+    ///     controller.request(Memory::Changeable, 1, Request::Modify)?.obeyed()?;
+    ///     controller.set_multi(Memory::Changeable, 1, text)?.obeyed()
+    /// }
+    ///
+    /// let mut controller = Controller::new(&Sign::from_file("../../signs/sample.toml")?)?;
+    /// write(&mut controller, "A")?;
+    /// assert!(matches!(write(&mut controller, &"A".repeat(99)), Err(Error::Refused(TableError::TooLong))));
+    /// # Ok::<(), Error>(())
+    /// ```
+    ///
+    /// A reply that nobody looks at has a warning:
+    ///
+    /// ```compile_fail
+    /// #![deny(unused_must_use)]
+    /// # use latsefur::{Controller, Error, Sign};
+    /// fn clear(controller: &mut Controller) -> Result<(), Error> {
+    ///     controller.clear()?;
+    ///     Ok(())
+    /// }
+    /// ```
+    ///
+    /// # Errors
+    ///
+    /// [`Error::Refused`], [`Error::NotShown`] and [`Error::NotSet`], of the replies with these names.
+    pub fn obeyed(self) -> Result<(), Error> {
+        match self {
+            Reply::Refused(why) => Err(Error::Refused(why)),
+            Reply::NotShown(why) => Err(Error::NotShown(why)),
+            Reply::NotSet(why) => Err(Error::NotSet(why)),
+            _ => Ok(()),
+        }
+    }
 }
 
 impl fmt::Display for Reply {
@@ -120,7 +163,7 @@ pub struct Report {
     /// Changeable messages that are used (dmsNumChangeableMsg).
     pub used: u16,
     /// The memory type of the message that is shown (dmsMsgTableSource).
-    pub shown_memory: u8,
+    pub shown_memory: Memory,
     /// Its number.
     pub shown_number: u16,
     /// Its CRC; 0 of a blank message.
@@ -209,8 +252,8 @@ pub struct ActivationCode {
     pub duration: u16,
     /// The activate priority.
     pub priority: u8,
-    /// The memory type, as of [`Memory`](crate::Memory).
-    pub memory: u8,
+    /// The memory type.
+    pub memory: Memory,
     /// The number of the message.
     pub number: u16,
     /// Its CRC, as of [`message_crc`].
@@ -224,16 +267,17 @@ impl ActivationCode {
     pub fn octets(&self) -> [u8; 12] {
         let ([d0, d1], [n0, n1], [c0, c1]) = (self.duration.to_be_bytes(), self.number.to_be_bytes(), self.crc.to_be_bytes());
         let [r0, r1, r2, r3] = self.requester;
-        [d0, d1, self.priority, self.memory, n0, n1, c0, c1, r0, r1, r2, r3]
+        [d0, d1, self.priority, self.memory.number(), n0, n1, c0, c1, r0, r1, r2, r3]
     }
 }
 
 /// The CRC of a message's text, beacon and pixel service (dmsMessageCRC), which an activation code has.
 ///
 /// ```
-/// assert_eq!(latsefur::message_crc(b"A", 0, 0), 0x9a66);
+/// assert_eq!(latsefur::message_crc("A", 0, 0), 0x9a66);
 /// ```
-pub fn message_crc(text: &[u8], beacon: u8, pixel_service: u8) -> u16 {
+pub fn message_crc(text: impl AsRef<[u8]>, beacon: u8, pixel_service: u8) -> u16 {
+    let text = text.as_ref();
     // SAFETY: the octets are those of a slice.
     unsafe { ffi::latsefur_message_crc(text.as_ptr(), text.len(), beacon, pixel_service) }
 }
@@ -241,28 +285,30 @@ pub fn message_crc(text: &[u8], beacon: u8, pixel_service: u8) -> u16 {
 /// The controller of a sign: its message table, what the sign shows, its clock and its defaults. `docs/messages.md` says what each command does.
 ///
 /// Nothing runs between calls: time passes by [`tick`](Controller::tick) alone. It may go to another thread, and is used by one at a time. Its
-/// memory is given back when it is dropped. Memory types are those of [`Memory`](crate::Memory), and messages are numbered from 1; any number is
-/// taken, and the reply says what the controller thinks of it.
+/// memory is given back when it is dropped. Commands take it mutably, and questions don't, though those that draw count their steps. Messages
+/// are numbered from 1; any number is taken, and the reply says what the controller thinks of it. Texts, owners and codes are octets: `&[u8]`,
+/// `&str`, `Vec<u8>` and the like.
 ///
 /// ```
 /// use latsefur::{message_crc, ActivationCode, Controller, Memory, Reply, Request, Sign};
 ///
 /// let sign = Sign::from_file("../../signs/portable.toml")?;
 /// let mut controller = Controller::new(&sign)?;
-/// let (memory, text) = (Memory::Changeable, b"ROAD[np]WORK");
-/// controller.request(memory, 1, Request::Modify)?;
-/// controller.set_multi(memory, 1, text)?;
-/// controller.request(memory, 1, Request::Validate)?;
-/// controller.work()?;
+/// let (memory, text) = (Memory::Changeable, "ROAD[np]WORK");
+/// controller.request(memory, 1, Request::Modify)?.obeyed()?;
+/// controller.set_multi(memory, 1, text)?.obeyed()?;
+/// controller.request(memory, 1, Request::Validate)?.obeyed()?;
+/// assert_eq!(controller.work()?.to_string(), "worked 1 4 2 2 0");
 /// let code = ActivationCode {
 ///     duration: 1,
 ///     priority: 255,
-///     memory: memory.number(),
+///     memory,
 ///     number: 1,
 ///     crc: message_crc(text, 0, 0),
 ///     requester: [127, 0, 0, 1],
 /// };
-/// assert_eq!(controller.activate(&code.octets())?, Reply::Shown);
+/// assert_eq!(controller.message(memory, 1)?.crc, code.crc);
+/// controller.activate(code.octets())?.obeyed()?;
 /// assert_eq!(controller.tick(599)?, Reply::Ticked);
 /// assert_eq!(controller.tick(1)?, Reply::Ended);
 /// # Ok::<(), latsefur::Error>(())
@@ -277,18 +323,20 @@ pub fn message_crc(text: &[u8], beacon: u8, pixel_service: u8) -> u16 {
 /// ```
 #[derive(Debug)]
 pub struct Controller {
-    handle: Handle,
+    /// A cell, since questions share the controller, and the library takes a handle that it may write.
+    handle: UnsafeCell<Handle>,
     width: u16,
     height: u16,
 }
 
-// SAFETY: what the handle holds may go to another thread between calls, and each call borrows it alone. Its pointer keeps it from being `Sync`.
+// SAFETY: what the handle holds may go to another thread between calls. Each call has it alone: its cell keeps the type from being `Sync`, no call
+// of the library calls back, and no reference to the handle outlives a call.
 unsafe impl Send for Controller {}
 
 impl Drop for Controller {
     fn drop(&mut self) {
         // SAFETY: the handle was made by `new` alone, has no copy, and isn't used after this.
-        unsafe { ffi::latsefur_controller_free(&mut self.handle) }
+        unsafe { ffi::latsefur_controller_free(self.handle.get_mut()) }
     }
 }
 
@@ -300,26 +348,35 @@ impl Controller {
     /// [`Error::TableFault`] if the message table of the sign file is outside a limit, and [`Error::NoMemory`]. No other call takes memory of the
     /// library.
     pub fn new(sign: &Sign) -> Result<Controller, Error> {
-        let mut made = Controller { handle: Handle { held: null_mut(), full: 0 }, width: sign.width(), height: sign.height() };
+        let handle = UnsafeCell::new(Handle { held: null_mut(), full: 0 });
+        let mut made = Controller { handle, width: sign.width(), height: sign.height() };
         // SAFETY: the octets are those of a slice; the handle is zeros, and is borrowed by this call alone.
-        done(unsafe { ffi::latsefur_controller_new(sign.file().as_ptr(), sign.file().len(), &mut made.handle) })?;
+        done(unsafe { ffi::latsefur_controller_new(sign.file().as_ptr(), sign.file().len(), made.handle.get_mut()) })?;
         Ok(made)
     }
 
     /// A command, whose call borrows the handle and the reply alone.
     fn ask(&mut self, call: impl FnOnce(&mut Handle, &mut ffi::Reply) -> u8) -> Result<Reply, Error> {
         let mut facts = ffi::Reply::default();
-        done(call(&mut self.handle, &mut facts))?;
+        done(call(self.handle.get_mut(), &mut facts))?;
         Ok(Reply::of(facts))
     }
 
-    /// Asks for a status, one of [`Request`](crate::Request). A message waits until [`work`](Controller::work) judges it.
+    /// Asks for a status. A message waits until [`work`](Controller::work) judges it.
+    ///
+    /// A memory type is no status:
+    ///
+    /// ```compile_fail
+    /// # use latsefur::{Controller, Memory, Sign};
+    /// # let mut controller = Controller::new(&Sign::from_file("../../signs/sample.toml").unwrap()).unwrap();
+    /// let _ = controller.request(Memory::Changeable, 1, Memory::Blank);
+    /// ```
     ///
     /// # Errors
     ///
     /// None comes of a sound library, here and wherever nothing else is said.
-    pub fn request(&mut self, memory: impl Into<u8>, number: u16, status: impl Into<u8>) -> Result<Reply, Error> {
-        let (memory, status) = (memory.into(), status.into());
+    pub fn request(&mut self, memory: Memory, number: u16, status: Request) -> Result<Reply, Error> {
+        let (memory, status) = (memory.number(), status.number());
         // SAFETY: the handle and the reply are borrowed by this call alone.
         self.ask(|handle, reply| unsafe { ffi::latsefur_request(handle, memory, number, status, reply) })
     }
@@ -329,8 +386,8 @@ impl Controller {
     /// # Errors
     ///
     /// As [`request`](Controller::request).
-    pub fn set_multi(&mut self, memory: impl Into<u8>, number: u16, text: &[u8]) -> Result<Reply, Error> {
-        let memory = memory.into();
+    pub fn set_multi(&mut self, memory: Memory, number: u16, text: impl AsRef<[u8]>) -> Result<Reply, Error> {
+        let (memory, text) = (memory.number(), text.as_ref());
         // SAFETY: the octets are those of a slice; the handle and the reply are borrowed by this call alone.
         self.ask(|handle, reply| unsafe { ffi::latsefur_set_multi(handle, memory, number, text.as_ptr(), text.len(), reply) })
     }
@@ -340,8 +397,8 @@ impl Controller {
     /// # Errors
     ///
     /// As [`request`](Controller::request).
-    pub fn set_owner(&mut self, memory: impl Into<u8>, number: u16, owner: &[u8]) -> Result<Reply, Error> {
-        let memory = memory.into();
+    pub fn set_owner(&mut self, memory: Memory, number: u16, owner: impl AsRef<[u8]>) -> Result<Reply, Error> {
+        let (memory, owner) = (memory.number(), owner.as_ref());
         // SAFETY: the octets are those of a slice; the handle and the reply are borrowed by this call alone.
         self.ask(|handle, reply| unsafe { ffi::latsefur_set_owner(handle, memory, number, owner.as_ptr(), owner.len(), reply) })
     }
@@ -351,8 +408,8 @@ impl Controller {
     /// # Errors
     ///
     /// As [`request`](Controller::request).
-    pub fn set_priority(&mut self, memory: impl Into<u8>, number: u16, value: u8) -> Result<Reply, Error> {
-        let memory = memory.into();
+    pub fn set_priority(&mut self, memory: Memory, number: u16, value: u8) -> Result<Reply, Error> {
+        let memory = memory.number();
         // SAFETY: the handle and the reply are borrowed by this call alone.
         self.ask(|handle, reply| unsafe { ffi::latsefur_set_priority(handle, memory, number, value, reply) })
     }
@@ -362,8 +419,8 @@ impl Controller {
     /// # Errors
     ///
     /// As [`request`](Controller::request).
-    pub fn set_beacon(&mut self, memory: impl Into<u8>, number: u16, value: u8) -> Result<Reply, Error> {
-        let memory = memory.into();
+    pub fn set_beacon(&mut self, memory: Memory, number: u16, value: u8) -> Result<Reply, Error> {
+        let memory = memory.number();
         // SAFETY: the handle and the reply are borrowed by this call alone.
         self.ask(|handle, reply| unsafe { ffi::latsefur_set_beacon(handle, memory, number, value, reply) })
     }
@@ -373,8 +430,8 @@ impl Controller {
     /// # Errors
     ///
     /// As [`request`](Controller::request).
-    pub fn set_pixel_service(&mut self, memory: impl Into<u8>, number: u16, value: u8) -> Result<Reply, Error> {
-        let memory = memory.into();
+    pub fn set_pixel_service(&mut self, memory: Memory, number: u16, value: u8) -> Result<Reply, Error> {
+        let memory = memory.number();
         // SAFETY: the handle and the reply are borrowed by this call alone.
         self.ask(|handle, reply| unsafe { ffi::latsefur_set_pixel_service(handle, memory, number, value, reply) })
     }
@@ -404,7 +461,8 @@ impl Controller {
     /// # Errors
     ///
     /// [`Error::BadLength`] for another number of octets.
-    pub fn activate(&mut self, code: &[u8]) -> Result<Reply, Error> {
+    pub fn activate(&mut self, code: impl AsRef<[u8]>) -> Result<Reply, Error> {
+        let code = code.as_ref();
         // SAFETY: the octets are those of a slice; the handle and the reply are borrowed by this call alone.
         self.ask(|handle, reply| unsafe { ffi::latsefur_activate(handle, code.as_ptr(), code.len(), reply) })
     }
@@ -414,7 +472,8 @@ impl Controller {
     /// # Errors
     ///
     /// [`Error::BadLength`] for another number of octets.
-    pub fn set_end(&mut self, code: &[u8]) -> Result<Reply, Error> {
+    pub fn set_end(&mut self, code: impl AsRef<[u8]>) -> Result<Reply, Error> {
+        let code = code.as_ref();
         // SAFETY: the octets are those of a slice; the handle and the reply are borrowed by this call alone.
         self.ask(|handle, reply| unsafe { ffi::latsefur_set_end(handle, code.as_ptr(), code.len(), reply) })
     }
@@ -439,21 +498,21 @@ impl Controller {
         self.ask(|handle, reply| unsafe { ffi::latsefur_set_default(handle, field.number(), value, reply) })
     }
 
-    /// The state of the sign. It takes the controller mutably, as all questions do, since the library has one call at a time.
+    /// The state of the sign.
     ///
     /// # Errors
     ///
     /// As [`request`](Controller::request).
-    pub fn report(&mut self) -> Result<Report, Error> {
+    pub fn report(&self) -> Result<Report, Error> {
         let mut facts = ffi::Report::default();
         // SAFETY: the handle and the report are borrowed by this call alone.
-        done(unsafe { ffi::latsefur_report(&mut self.handle, &mut facts) })?;
+        done(unsafe { ffi::latsefur_report(self.handle.get(), &mut facts) })?;
         Ok(Report {
             clock: facts.clock,
             free: facts.free,
             requester: facts.requester,
             used: facts.used,
-            shown_memory: facts.shown_memory,
+            shown_memory: facts.shown_memory.into(),
             shown_number: facts.shown_number,
             crc: facts.crc,
             priority: facts.priority,
@@ -466,24 +525,24 @@ impl Controller {
         })
     }
 
-    /// A message, or why there is none. Memory type 5 and number 1 is what the display shows.
+    /// A message. Number 1 of [`Memory::CurrentBuffer`] is what the display shows.
     ///
     /// # Errors
     ///
-    /// As [`request`](Controller::request).
-    pub fn message(&mut self, memory: impl Into<u8>, number: u16) -> Result<Result<Message, TableError>, Error> {
+    /// [`Error::Refused`], if there is no such message.
+    pub fn message(&self, memory: Memory, number: u16) -> Result<Message, Error> {
         let (mut facts, mut text, mut owner) = (ffi::Message::default(), vec![0; MOST_TEXT], vec![0; MOST_OWNER]);
         let (text_at, owner_at) = (text.as_mut_ptr(), owner.as_mut_ptr());
         // SAFETY: the buffers have these lengths; they, the facts and the handle are borrowed by this call alone.
         let outcome =
-            unsafe { ffi::latsefur_row(&mut self.handle, memory.into(), number, &mut facts, text_at, MOST_TEXT, owner_at, MOST_OWNER) };
+            unsafe { ffi::latsefur_row(self.handle.get(), memory.number(), number, &mut facts, text_at, MOST_TEXT, owner_at, MOST_OWNER) };
         if outcome == 1 {
-            return Ok(Err(facts.code.into()));
+            return Err(Error::Refused(facts.code.into()));
         }
         done(outcome)?;
         text.truncate(facts.multi);
         owner.truncate(facts.owner);
-        Ok(Ok(Message {
+        Ok(Message {
             status: facts.status.into(),
             priority: facts.priority,
             beacon: facts.beacon,
@@ -491,7 +550,7 @@ impl Controller {
             crc: facts.crc,
             owner,
             text,
-        }))
+        })
     }
 
     /// The defaults in force.
@@ -499,10 +558,10 @@ impl Controller {
     /// # Errors
     ///
     /// As [`request`](Controller::request).
-    pub fn defaults(&mut self) -> Result<Defaults, Error> {
+    pub fn defaults(&self) -> Result<Defaults, Error> {
         let mut facts = ffi::Defaults::default();
         // SAFETY: the handle and the defaults are borrowed by this call alone.
-        done(unsafe { ffi::latsefur_defaults(&mut self.handle, &mut facts) })?;
+        done(unsafe { ffi::latsefur_defaults(self.handle.get(), &mut facts) })?;
         let ffi::Defaults { font, line, page, page_on, page_off, flash_on, flash_off, fore, back } = facts;
         Ok(Defaults { font, line, page, page_on, page_off, flash_on, flash_off, fore, back })
     }
@@ -512,11 +571,11 @@ impl Controller {
     /// # Errors
     ///
     /// As [`request`](Controller::request).
-    pub fn frame(&mut self, colour: u8) -> Result<Frame, Error> {
+    pub fn frame(&self, colour: u8) -> Result<Frame, Error> {
         let mut facts = ffi::Shown::default();
         let mut octets = vec![0; stride(self.width) * usize::from(self.height)];
         // SAFETY: the plane has this length; it, what is shown and the handle are borrowed by this call alone.
-        done(unsafe { ffi::latsefur_frame(&mut self.handle, colour, &mut facts, octets.as_mut_ptr(), octets.len()) })?;
+        done(unsafe { ffi::latsefur_frame(self.handle.get(), colour, &mut facts, octets.as_mut_ptr(), octets.len()) })?;
         Ok(Frame { shown: Shown::of(facts), plane: Plane { width: self.width, octets } })
     }
 
@@ -525,11 +584,11 @@ impl Controller {
     /// # Errors
     ///
     /// As [`request`](Controller::request).
-    pub fn colours(&mut self) -> Result<Display, Error> {
+    pub fn colours(&self) -> Result<Display, Error> {
         let mut facts = ffi::Shown::default();
         let mut colours = vec![0; usize::from(self.width) * usize::from(self.height)];
         // SAFETY: the colours have this length; they, what is shown and the handle are borrowed by this call alone.
-        done(unsafe { ffi::latsefur_colours(&mut self.handle, &mut facts, colours.as_mut_ptr(), colours.len()) })?;
+        done(unsafe { ffi::latsefur_colours(self.handle.get(), &mut facts, colours.as_mut_ptr(), colours.len()) })?;
         Ok(Display { shown: Shown::of(facts), picture: Picture { width: self.width, colours } })
     }
 
@@ -538,10 +597,10 @@ impl Controller {
     /// # Errors
     ///
     /// As [`request`](Controller::request).
-    pub fn next_change(&mut self, most: u32) -> Result<u32, Error> {
+    pub fn next_change(&self, most: u32) -> Result<u32, Error> {
         let mut tenths = 0;
         // SAFETY: the handle and the tenths are borrowed by this call alone.
-        done(unsafe { ffi::latsefur_next_change(&mut self.handle, most, &mut tenths) })?;
+        done(unsafe { ffi::latsefur_next_change(self.handle.get(), most, &mut tenths) })?;
         Ok(tenths)
     }
 
@@ -550,10 +609,10 @@ impl Controller {
     /// # Errors
     ///
     /// As [`request`](Controller::request).
-    pub fn table(&mut self) -> Result<Table, Error> {
+    pub fn table(&self) -> Result<Table, Error> {
         let mut facts = ffi::Table::default();
         // SAFETY: the handle and the table are borrowed by this call alone.
-        done(unsafe { ffi::latsefur_held_table(&mut self.handle, &mut facts) })?;
+        done(unsafe { ffi::latsefur_held_table(self.handle.get(), &mut facts) })?;
         let ffi::Table { bytes, slots, max_string, permanents } = facts;
         Ok(Table { bytes, slots, max_string, permanents })
     }
@@ -563,10 +622,10 @@ impl Controller {
     /// # Errors
     ///
     /// [`Error::NoFont`] if the sign has none.
-    pub fn font(&mut self, number: u8) -> Result<Font, Error> {
+    pub fn font(&self, number: u8) -> Result<Font, Error> {
         let mut facts = ffi::Font::default();
         // SAFETY: the handle and the font are borrowed by this call alone.
-        done(unsafe { ffi::latsefur_held_font(&mut self.handle, number, &mut facts) })?;
+        done(unsafe { ffi::latsefur_held_font(self.handle.get(), number, &mut facts) })?;
         let ffi::Font { version, number, height, char_spacing, line_spacing } = facts;
         Ok(Font { version, number, height, char_spacing, line_spacing })
     }
@@ -576,10 +635,11 @@ impl Controller {
     /// # Errors
     ///
     /// [`Error::TextTooLong`].
-    pub fn check(&mut self, text: &[u8]) -> Result<Verdict, Error> {
+    pub fn check(&self, text: impl AsRef<[u8]>) -> Result<Verdict, Error> {
+        let text = text.as_ref();
         let mut facts = ffi::Verdict::default();
         // SAFETY: the octets are those of a slice; the handle and the verdict are borrowed by this call alone.
-        let outcome = unsafe { ffi::latsefur_held_check(&mut self.handle, text.as_ptr(), text.len(), &mut facts) };
+        let outcome = unsafe { ffi::latsefur_held_check(self.handle.get(), text.as_ptr(), text.len(), &mut facts) };
         if outcome != 1 {
             done(outcome)?;
         }
@@ -591,12 +651,13 @@ impl Controller {
     /// # Errors
     ///
     /// [`Error::TextRefused`], [`Error::NoPage`] and [`Error::TextTooLong`].
-    pub fn colours_of_page(&mut self, text: &[u8], page: u8, phase: u64) -> Result<Picture, Error> {
+    pub fn colours_of_page(&self, text: impl AsRef<[u8]>, page: u8, phase: u64) -> Result<Picture, Error> {
+        let text = text.as_ref();
         let mut colours = vec![0; usize::from(self.width) * usize::from(self.height)];
         let (colours_at, len) = (colours.as_mut_ptr(), colours.len());
         // SAFETY: the octets are those of a slice, and the colours have this length; they and the handle are borrowed by this call alone.
         done(unsafe {
-            ffi::latsefur_held_colours_of_page(&mut self.handle, text.as_ptr(), text.len(), page, phase, colours_at, len)
+            ffi::latsefur_held_colours_of_page(self.handle.get(), text.as_ptr(), text.len(), page, phase, colours_at, len)
         })?;
         Ok(Picture { width: self.width, colours })
     }
@@ -606,12 +667,13 @@ impl Controller {
     /// # Errors
     ///
     /// [`Error::TextRefused`], [`Error::NoPage`] and [`Error::TextTooLong`].
-    pub fn plane_of_page(&mut self, text: &[u8], page: u8, colour: u8, phase: u64) -> Result<Plane, Error> {
+    pub fn plane_of_page(&self, text: impl AsRef<[u8]>, page: u8, colour: u8, phase: u64) -> Result<Plane, Error> {
+        let text = text.as_ref();
         let mut octets = vec![0; stride(self.width) * usize::from(self.height)];
         let (plane_at, len) = (octets.as_mut_ptr(), octets.len());
         // SAFETY: the octets are those of a slice, and the plane has this length; it and the handle are borrowed by this call alone.
         done(unsafe {
-            ffi::latsefur_held_plane_of_page(&mut self.handle, text.as_ptr(), text.len(), page, phase, colour, plane_at, len)
+            ffi::latsefur_held_plane_of_page(self.handle.get(), text.as_ptr(), text.len(), page, phase, colour, plane_at, len)
         })?;
         Ok(Plane { width: self.width, octets })
     }
@@ -621,10 +683,10 @@ impl Controller {
     /// # Errors
     ///
     /// As [`request`](Controller::request).
-    pub fn steps(&mut self) -> Result<u64, Error> {
+    pub fn steps(&self) -> Result<u64, Error> {
         let mut steps = 0;
         // SAFETY: the handle and the count are borrowed by this call alone.
-        done(unsafe { ffi::latsefur_steps(&mut self.handle, &mut steps) })?;
+        done(unsafe { ffi::latsefur_steps(self.handle.get(), &mut steps) })?;
         Ok(steps)
     }
 }

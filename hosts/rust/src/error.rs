@@ -1,11 +1,13 @@
 //! What goes wrong, by name.
 
+use crate::codes::{ActivateError, DefaultError, TableError};
 use std::fmt;
 use std::io;
 
 /// An outcome of the library that gives no answer, or a file that can't be read.
 ///
 /// A text that a sign refuses is no error of [`Sign::check`](crate::Sign::check): its verdict says why. It is one for the calls that draw it.
+/// Likewise a command that is refused has a [`Reply`](crate::Reply), of which [`obeyed`](crate::Reply::obeyed) makes an error.
 #[derive(Debug)]
 #[non_exhaustive]
 pub enum Error {
@@ -31,6 +33,12 @@ pub enum Error {
     NoDefault,
     /// The sign has no font of this number.
     NoFont,
+    /// The message table refuses a command, or has no such message.
+    Refused(TableError),
+    /// The message isn't shown.
+    NotShown(ActivateError),
+    /// The sign refuses a default.
+    NotSet(DefaultError),
     /// The library has answered with an outcome that this call hasn't.
     Outcome(u8),
 }
@@ -49,6 +57,9 @@ impl fmt::Display for Error {
             Error::BadLength => to.write_str("the code hasn't the length that it must have"),
             Error::NoDefault => to.write_str("no default has this number"),
             Error::NoFont => to.write_str("the sign has no such font"),
+            Error::Refused(why) => write!(to, "the message table refuses the command: {why}"),
+            Error::NotShown(why) => write!(to, "the message isn't shown: {why}"),
+            Error::NotSet(why) => write!(to, "the sign refuses the default: {why}"),
             Error::Outcome(outcome) => write!(to, "the library answers with the outcome {outcome}"),
         }
     }
@@ -58,6 +69,9 @@ impl std::error::Error for Error {
     fn source(&self) -> Option<&(dyn std::error::Error + 'static)> {
         match self {
             Error::File(fault) => Some(fault),
+            Error::Refused(why) => Some(why),
+            Error::NotShown(why) => Some(why),
+            Error::NotSet(why) => Some(why),
             _ => None,
         }
     }

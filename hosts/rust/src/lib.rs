@@ -6,7 +6,7 @@
 //!
 //! ```
 //! let sign = latsefur::Sign::from_file("../../signs/portable.toml")?;
-//! println!("{}", sign.check(b"ROAD[nl]WORK[nl]AHEAD")?); // ok 1
+//! println!("{}", sign.check("ROAD[nl]WORK[nl]AHEAD")?); // ok 1
 //! # Ok::<(), latsefur::Error>(())
 //! ```
 #![deny(unsafe_op_in_unsafe_fn)]

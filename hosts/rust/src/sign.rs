@@ -8,6 +8,7 @@ use std::fmt;
 use std::path::Path;
 
 /// What a sign says to a text.
+#[must_use]
 #[derive(Clone, Copy, Debug, PartialEq, Eq)]
 pub enum Verdict {
     /// The sign accepts the text.
@@ -53,14 +54,14 @@ impl fmt::Display for Verdict {
 /// A sign by the octets of its sign file, which `docs/signs.md` describes.
 ///
 /// It never changes, and threads may share it. Each call reads the sign file anew, so many texts go into one [`check_all`](Sign::check_all).
-/// Clocks, phases and other times are in tenths of a second. A clock counts from the moment at which the text is first shown, and a phase from
-/// the moment at which its page is. Pages count from 0.
+/// Texts and files are octets: `&[u8]`, `&str`, `Vec<u8>` and the like. Clocks, phases and other times are in tenths of a second. A clock counts
+/// from the moment at which the text is first shown, and a phase from the moment at which its page is. Pages count from 0.
 ///
 /// Any call may have [`Error::NoMemory`], and one with a text [`Error::TextTooLong`]. The thread needs 64 KiB of stack.
 ///
 /// ```
 /// let sign = latsefur::Sign::from_file("../../signs/portable.toml")?;
-/// assert_eq!(sign.check(b"ROAD[nl]WORK[nl]AHEAD")?.to_string(), "ok 1");
+/// assert_eq!(sign.check("ROAD[nl]WORK[nl]AHEAD")?.to_string(), "ok 1");
 /// assert_eq!(sign.check(b"CONGESTION")?.to_string(), "error 5 8");
 /// # Ok::<(), latsefur::Error>(())
 /// ```
@@ -76,8 +77,12 @@ impl Sign {
     /// # Errors
     ///
     /// [`Error::NoSignFile`] if the octets aren't one, [`Error::SignFault`] if the sign is outside a limit.
-    pub fn new(file: impl Into<Vec<u8>>) -> Result<Sign, Error> {
-        let mut sign = Sign { file: file.into(), facts: ffi::SignFacts::default() };
+    pub fn new(file: impl AsRef<[u8]>) -> Result<Sign, Error> {
+        Sign::of(file.as_ref().to_vec())
+    }
+
+    fn of(file: Vec<u8>) -> Result<Sign, Error> {
+        let mut sign = Sign { file, facts: ffi::SignFacts::default() };
         // SAFETY: the octets are those of a slice, and the facts are borrowed by this call alone.
         done(unsafe { ffi::latsefur_sign(sign.file.as_ptr(), sign.file.len(), &mut sign.facts) })?;
         Ok(sign)
@@ -89,7 +94,7 @@ impl Sign {
     ///
     /// [`Error::File`] if it can't be read, and those of [`new`](Sign::new).
     pub fn from_file(path: impl AsRef<Path>) -> Result<Sign, Error> {
-        Sign::new(std::fs::read(path).map_err(Error::File)?)
+        Sign::of(std::fs::read(path).map_err(Error::File)?)
     }
 
     /// The octets of the sign file.
@@ -122,7 +127,8 @@ impl Sign {
     /// # Errors
     ///
     /// Those of the type.
-    pub fn check(&self, text: &[u8]) -> Result<Verdict, Error> {
+    pub fn check(&self, text: impl AsRef<[u8]>) -> Result<Verdict, Error> {
+        let text = text.as_ref();
         let mut facts = ffi::Verdict::default();
         // SAFETY: the octets are those of slices, and the verdict is borrowed by this call alone.
         let outcome = unsafe { ffi::latsefur_check(self.file.as_ptr(), self.file.len(), text.as_ptr(), text.len(), &mut facts) };
@@ -160,7 +166,8 @@ impl Sign {
     /// # Errors
     ///
     /// [`Error::TextRefused`], and those of the type.
-    pub fn shown(&self, text: &[u8], clock: u64) -> Result<Option<Shown>, Error> {
+    pub fn shown(&self, text: impl AsRef<[u8]>, clock: u64) -> Result<Option<Shown>, Error> {
+        let text = text.as_ref();
         let mut facts = ffi::Shown::default();
         // SAFETY: the octets are those of slices, and what is written is borrowed by this call alone.
         done(unsafe { ffi::latsefur_shown_at(self.file.as_ptr(), self.file.len(), text.as_ptr(), text.len(), clock, &mut facts) })?;
@@ -178,7 +185,8 @@ impl Sign {
     /// # Errors
     ///
     /// [`Error::TextRefused`], and those of the type.
-    pub fn colours(&self, text: &[u8], clock: u64) -> Result<Picture, Error> {
+    pub fn colours(&self, text: impl AsRef<[u8]>, clock: u64) -> Result<Picture, Error> {
+        let text = text.as_ref();
         let mut colours = vec![0; usize::from(self.width()) * usize::from(self.height())];
         let (file, len) = (self.file.as_ptr(), self.file.len());
         // SAFETY: the octets are those of slices, and the colours are borrowed by this call alone.
@@ -191,7 +199,8 @@ impl Sign {
     /// # Errors
     ///
     /// [`Error::TextRefused`], [`Error::NoPage`] if the text has no such page, and those of the type.
-    pub fn colours_of_page(&self, text: &[u8], page: u8, phase: u64) -> Result<Picture, Error> {
+    pub fn colours_of_page(&self, text: impl AsRef<[u8]>, page: u8, phase: u64) -> Result<Picture, Error> {
+        let text = text.as_ref();
         let mut colours = vec![0; usize::from(self.width()) * usize::from(self.height())];
         let (file, len) = (self.file.as_ptr(), self.file.len());
         // SAFETY: the octets are those of slices, and the colours are borrowed by this call alone.
@@ -206,7 +215,8 @@ impl Sign {
     /// # Errors
     ///
     /// [`Error::TextRefused`], and those of the type.
-    pub fn pages(&self, text: &[u8]) -> Result<Vec<Picture>, Error> {
+    pub fn pages(&self, text: impl AsRef<[u8]>) -> Result<Vec<Picture>, Error> {
+        let text = text.as_ref();
         match self.check(text)? {
             Verdict::Accepted { pages, .. } => (0..pages).map(|page| self.colours_of_page(text, page, 0)).collect(),
             Verdict::Refused { .. } => Err(Error::TextRefused),
@@ -218,7 +228,8 @@ impl Sign {
     /// # Errors
     ///
     /// [`Error::TextRefused`], and those of the type.
-    pub fn plane(&self, text: &[u8], colour: u8, clock: u64) -> Result<Plane, Error> {
+    pub fn plane(&self, text: impl AsRef<[u8]>, colour: u8, clock: u64) -> Result<Plane, Error> {
+        let text = text.as_ref();
         let mut octets = vec![0; stride(self.width()) * usize::from(self.height())];
         let (file, len) = (self.file.as_ptr(), self.file.len());
         // SAFETY: the octets are those of slices, and the plane is borrowed by this call alone.
@@ -233,7 +244,8 @@ impl Sign {
     /// # Errors
     ///
     /// [`Error::TextRefused`], [`Error::NoPage`] if the text has no such page, and those of the type.
-    pub fn plane_of_page(&self, text: &[u8], page: u8, colour: u8, phase: u64) -> Result<Plane, Error> {
+    pub fn plane_of_page(&self, text: impl AsRef<[u8]>, page: u8, colour: u8, phase: u64) -> Result<Plane, Error> {
+        let text = text.as_ref();
         let mut octets = vec![0; stride(self.width()) * usize::from(self.height())];
         let (file, len) = (self.file.as_ptr(), self.file.len());
         // SAFETY: the octets are those of slices, and the plane is borrowed by this call alone.

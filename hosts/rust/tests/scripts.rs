@@ -2,7 +2,7 @@
 
 mod common;
 
-use latsefur::{Controller, DefaultField};
+use latsefur::{Controller, DefaultField, Error, Memory};
 use std::fmt::Display;
 
 /// A number of a script, within its range.
@@ -34,32 +34,34 @@ fn told<T: Display, E>(reply: Result<T, E>) -> Option<String> {
     reply.ok().map(|reply| reply.to_string())
 }
 
-fn row(held: &mut Controller, memory: u8, of: u16) -> Option<String> {
-    Some(match held.message(memory, of).ok()? {
-        Err(why) => format!("refused {}", why.number()),
+fn row(held: &Controller, memory: Memory, of: u16) -> Option<String> {
+    Some(match held.message(memory, of) {
+        Err(Error::Refused(why)) => format!("refused {}", why.number()),
+        Err(_) => return None,
         Ok(m) => {
+            let memory = memory.number();
             let (status, owner, text) = (m.status.number(), hexadecimal(&m.owner), hexadecimal(&m.text));
             format!("row {memory} {of} {status} {} {} {} {:04x} {owner} {text}", m.priority, m.beacon, m.pixel_service, m.crc)
         }
     })
 }
 
-fn report(held: &mut Controller) -> Option<String> {
+fn report(held: &Controller) -> Option<String> {
     let r = held.report().ok()?;
     let (mode, activate, validate, multi) = (r.mode.number(), r.activate.number(), r.validate.number(), r.multi.number());
     Some(format!(
         "report used={} free={} mode={mode} shown={}/{} crc={:04x} priority={} remaining={} requester={:08x} activate={activate} \
          validate={validate} multi={multi} position={} clock={}",
-        r.used, r.free, r.shown_memory, r.shown_number, r.crc, r.priority, r.remaining, r.requester, r.position, r.clock
+        r.used, r.free, r.shown_memory.number(), r.shown_number, r.crc, r.priority, r.remaining, r.requester, r.position, r.clock
     ))
 }
 
-fn frame(held: &mut Controller, colour: u8) -> Option<String> {
+fn frame(held: &Controller, colour: u8) -> Option<String> {
     let frame = held.frame(colour).ok()?;
     Some(format!("{}\n{}", frame.shown.map_or("off".to_string(), |shown| shown.to_string()), frame.plane))
 }
 
-fn defaults(held: &mut Controller) -> Option<String> {
+fn defaults(held: &Controller) -> Option<String> {
     let d = held.defaults().ok()?;
     let all = [d.font, d.line, d.page, d.page_on, d.page_off, d.flash_on, d.flash_off, d.fore, d.back];
     Some(all.iter().fold("defaults".to_string(), |line, value| format!("{line} {value}")))
@@ -68,12 +70,12 @@ fn defaults(held: &mut Controller) -> Option<String> {
 /// The reply to a line of a script, if it is one.
 fn answer(held: &mut Controller, line: &str) -> Option<String> {
     let words: Vec<&str> = line.split(' ').collect();
-    let place = |words: &[&str]| Some((number(words[1], 255)? as u8, number(words[2], 65535)? as u16));
+    let place = |words: &[&str]| Some((Memory::from(number(words[1], 255)? as u8), number(words[2], 65535)? as u16));
     match (words[0], words.len()) {
         ("request" | "priority" | "beacon" | "pixel", 4) => {
             let ((memory, of), value) = (place(&words)?, number(words[3], 255)? as u8);
             told(match words[0] {
-                "request" => held.request(memory, of, value),
+                "request" => held.request(memory, of, value.into()),
                 "priority" => held.set_priority(memory, of, value),
                 "beacon" => held.set_beacon(memory, of, value),
                 _ => held.set_pixel_service(memory, of, value),
@@ -82,15 +84,15 @@ fn answer(held: &mut Controller, line: &str) -> Option<String> {
         ("multi" | "multix" | "owner", 3..) => {
             let ((memory, of), text) = (place(&words)?, words[3..].join(" "));
             told(match words[0] {
-                "multi" => held.set_multi(memory, of, text.as_bytes()),
-                "multix" => held.set_multi(memory, of, &octets(&text)?),
-                _ => held.set_owner(memory, of, &octets(&text)?),
+                "multi" => held.set_multi(memory, of, text),
+                "multix" => held.set_multi(memory, of, octets(&text)?),
+                _ => held.set_owner(memory, of, octets(&text)?),
             })
         }
         ("clear", 1) => told(held.clear()),
         ("work", 1) => told(held.work()),
-        ("activate", 2) => told(held.activate(&octets(words[1])?)),
-        ("end", 2) => told(held.set_end(&octets(words[1])?)),
+        ("activate", 2) => told(held.activate(octets(words[1])?)),
+        ("end", 2) => told(held.set_end(octets(words[1])?)),
         ("tick", 2) => told(held.tick(number(words[1], u64::from(u32::MAX))? as u32)),
         ("default", 3) => told(held.set_default(field(words[1])?, number(words[2], 255)? as u8)),
         ("row", 3) => place(&words).and_then(|(memory, of)| row(held, memory, of)),

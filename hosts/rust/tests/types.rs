@@ -3,13 +3,87 @@
 mod common;
 
 use latsefur::{
-    message_crc, ActivationCode, Controller, DefaultField, Error, Font, Memory, MultiError, Reply, Request, Sign, Table, Verdict,
+    message_crc, ActivateError, ActivationCode, Controller, DefaultError, DefaultField, Error, Font, Memory, MultiError, Reply, Request, Sign, Table,
+    TableError, ValidateError, Verdict,
 };
 use std::error::Error as _;
 use std::fs;
 
 fn sample() -> String {
     fs::read_to_string(common::signs().join("sample.toml")).unwrap()
+}
+
+/// Stores a text as message 1 of the changeable ones, and has it judged.
+fn store(held: &mut Controller, text: impl AsRef<[u8]>) -> Result<Reply, Error> {
+    held.request(Memory::Changeable, 1, Request::Modify)?.obeyed()?;
+    held.set_multi(Memory::Changeable, 1, text)?.obeyed()?;
+    held.request(Memory::Changeable, 1, Request::Validate)?.obeyed()?;
+    held.work()
+}
+
+fn a_code(crc: u16) -> ActivationCode {
+    ActivationCode { duration: 1, priority: 255, memory: Memory::Changeable, number: 1, crc, requester: [127, 0, 0, 1] }
+}
+
+#[test]
+fn refusals_are_errors_for_who_asks() {
+    let mut held = Controller::new(&Sign::new(sample()).unwrap()).unwrap();
+    assert!(matches!(held.set_multi(Memory::Changeable, 1, "A").unwrap().obeyed(), Err(Error::Refused(TableError::WrongState))));
+    assert!(matches!(held.activate(a_code(0).octets()).unwrap().obeyed(), Err(Error::NotShown(ActivateError::MessageStatus))));
+    assert!(matches!(held.set_default(DefaultField::Font, 9).unwrap().obeyed(), Err(Error::NotSet(DefaultError::NoFont))));
+    assert!(matches!(held.message(Memory::Changeable, 2), Err(Error::Refused(TableError::Number))));
+    assert_eq!(store(&mut held, "A").unwrap().to_string(), "worked 1 4 2 2 0");
+    assert!(held.tick(1).unwrap().obeyed().is_ok());
+    let fault: Box<dyn std::error::Error> = held.message(Memory::Unlisted(99), 1).unwrap_err().into();
+    assert_eq!(fault.to_string(), "the message table refuses the command: there is no such memory type");
+    assert_eq!(fault.source().unwrap().to_string(), "there is no such memory type");
+}
+
+#[test]
+fn numbers_that_say_what_is_wrong_are_errors() {
+    let all: [Box<dyn std::error::Error + Send + Sync>; 6] = [
+        Box::new(MultiError::TextTooBig),
+        Box::new(ValidateError::SyntaxMulti),
+        Box::new(ActivateError::Priority),
+        Box::new(TableError::NoSpace),
+        Box::new(DefaultError::NoFont),
+        Box::new(TableError::Unlisted(99)),
+    ];
+    let told: Vec<String> = all.iter().map(|fault| fault.to_string()).collect();
+    assert_eq!((told[0].as_str(), told[3].as_str()), ("the text is too big for the sign", "the table has no room left for it"));
+    assert_eq!(told[5], "the number 99, which has no name");
+}
+
+#[test]
+fn questions_share_a_controller() {
+    let mut held = Controller::new(&Sign::new(sample()).unwrap()).unwrap();
+    store(&mut held, "A").unwrap().obeyed().unwrap();
+    held.activate(a_code(message_crc("A", 0, 0)).octets()).unwrap().obeyed().unwrap();
+    let (first, second) = (&held, &held);
+    assert_eq!(first.report().unwrap(), second.report().unwrap());
+    assert_eq!(first.report().unwrap().shown_memory, Memory::Changeable);
+    assert_eq!(first.frame(1).unwrap(), second.frame(1).unwrap());
+    assert_eq!(first.message(Memory::CurrentBuffer, 1).unwrap().text, second.message(Memory::Changeable, 1).unwrap().text);
+    assert_eq!((first.table().unwrap().slots, first.font(1).unwrap().number, first.defaults().unwrap().page_on), (1, 1, 30));
+    assert_eq!((first.next_change(9).unwrap(), first.check("A").unwrap().is_accepted(), first.steps().is_ok()), (9, true, true));
+    assert_eq!(first.colours().unwrap().picture, first.colours_of_page("A", 0, 0).unwrap());
+    assert_eq!(first.frame(1).unwrap().plane, first.plane_of_page("A", 0, 1, 0).unwrap());
+}
+
+#[test]
+fn octets_are_taken_in_each_form() {
+    let (sign, text) = (Sign::new(sample().as_bytes()).unwrap(), "A[np]I");
+    let told = sign.check(text).unwrap();
+    assert_eq!([sign.check(text.as_bytes()).unwrap(), sign.check(String::from(text)).unwrap(), sign.check(b"A[np]I").unwrap()], [told; 3]);
+    assert_eq!(sign.check(vec![b'A']).unwrap(), sign.check("A").unwrap());
+    assert_eq!((sign.shown(text, 30).unwrap(), sign.pages(text).unwrap().len()), (sign.shown(b"A[np]I", 30).unwrap(), 2));
+    assert_eq!(sign.plane(text, 1, 30).unwrap(), sign.plane_of_page(String::from(text), 1, 1, 0).unwrap());
+    assert_eq!(sign.colours(text, 30).unwrap(), sign.colours_of_page(text, 1, 0).unwrap());
+    assert_eq!(message_crc(vec![b'A'], 0, 0), message_crc("A", 0, 0));
+    let mut held = Controller::new(&sign).unwrap();
+    held.request(Memory::Changeable, 1, Request::Modify).unwrap().obeyed().unwrap();
+    held.set_owner(Memory::Changeable, 1, "me").unwrap().obeyed().unwrap();
+    assert_eq!(held.set_end([7, 0, 1, 0, 0]).unwrap(), Reply::Done);
 }
 
 #[test]
@@ -23,7 +97,7 @@ fn errors_have_names() {
     let unsound = Sign::new(sample().replace("slots = 1", "slots = 0")).unwrap();
     assert!(matches!(Controller::new(&unsound), Err(Error::TableFault)));
     let mut held = Controller::new(&sign).unwrap();
-    assert!(matches!(held.activate(&[]), Err(Error::BadLength)));
+    assert!(matches!(held.activate([]), Err(Error::BadLength)));
     assert!(matches!(held.set_default(DefaultField::Unlisted(0), 1), Err(Error::NoDefault)));
     let fault = Sign::from_file("nowhere").unwrap_err();
     assert!(fault.source().is_some() && fault.to_string().starts_with("the file can't be read"));
@@ -55,13 +129,13 @@ fn threads_share_a_sign() {
 fn a_controller_goes_to_another_thread() {
     let mut held = Controller::new(&Sign::new(sample()).unwrap()).unwrap();
     assert_eq!(held.request(Memory::Changeable, 1, Request::Modify).unwrap(), Reply::Done);
-    let mut held = std::thread::spawn(move || {
-        held.set_multi(Memory::Changeable, 1, b"A").unwrap();
+    let held = std::thread::spawn(move || {
+        held.set_multi(Memory::Changeable, 1, "A").unwrap().obeyed().unwrap();
         held
     })
     .join()
     .unwrap();
-    assert_eq!(held.message(Memory::Changeable, 1).unwrap().unwrap().crc, message_crc(b"A", 0, 0));
+    assert_eq!(held.message(Memory::Changeable, 1).unwrap().crc, message_crc(b"A", 0, 0));
     assert!(held.steps().is_ok());
 }
 
@@ -72,19 +146,14 @@ fn a_controller_tells_what_it_holds() {
     assert_eq!(held.table().unwrap(), Table { bytes: 4, slots: 1, max_string: 64, permanents: 1 });
     assert_eq!(held.font(1).unwrap(), Font { version: 6699, number: 1, height: 3, char_spacing: 1, line_spacing: 1 });
     assert!(matches!(held.font(9), Err(Error::NoFont)));
-    held.set_default(DefaultField::PageOn, 10).unwrap();
+    held.set_default(DefaultField::PageOn, 10).unwrap().obeyed().unwrap();
     assert_eq!(held.check(b"A[np]I").unwrap(), Verdict::Accepted { pages: 2, cycle: 20 });
     assert!(!held.check(b"B").unwrap().is_accepted());
     assert_eq!(held.colours_of_page(b"A[np]I", 1, 0).unwrap(), sign.colours(b"A[np]I", 30).unwrap());
     assert_eq!(held.plane_of_page(b"A[np]I", 1, 1, 0).unwrap(), sign.plane(b"A[np]I", 1, 30).unwrap());
     assert!(matches!(held.plane_of_page(b"A", 1, 1, 0), Err(Error::NoPage)));
-    held.request(Memory::Changeable, 1, Request::Modify).unwrap();
-    held.set_multi(Memory::Changeable, 1, b"A").unwrap();
-    held.request(Memory::Changeable, 1, Request::Validate).unwrap();
-    held.work().unwrap();
-    let (memory, crc) = (Memory::Changeable.number(), message_crc(b"A", 0, 0));
-    let code = ActivationCode { duration: 1, priority: 255, memory, number: 1, crc, requester: [127, 0, 0, 1] };
-    assert_eq!(held.activate(&code.octets()).unwrap(), Reply::Shown);
+    store(&mut held, "A").unwrap().obeyed().unwrap();
+    assert_eq!(held.activate(a_code(message_crc("A", 0, 0)).octets()).unwrap(), Reply::Shown);
     assert_eq!(held.colours().unwrap().picture, sign.colours(b"A", 0).unwrap());
     assert_eq!((held.next_change(u32::MAX).unwrap(), held.next_change(7).unwrap()), (600, 7));
 }

@@ -1,8 +1,8 @@
 //! Fonts that are written as tables.
 
 use super::{FailingReader, NarrowWriter};
+use file_aids::{FontFault, run_font};
 use font_bdf::{CharacterRange, FontSetting, Outside};
-use sign_aids::{FontFault, run_font};
 use tool_streams::ToolFault;
 
 /// A font of three rows with an `I`.

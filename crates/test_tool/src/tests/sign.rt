@@ -1,7 +1,7 @@
 //! Sign files, and what is told of them.
 
 use super::{FailingReader, NarrowWriter};
-use sign_aids::{SignFound, run_sign};
+use file_aids::{SignFound, run_sign};
 use sign_words::SignView;
 use tool_streams::ToolFault;
 

@@ -1,6 +1,8 @@
 """What the page is told of its sign and of the message that is written. All of it comes from the library."""
 from __future__ import annotations
 
+import hashlib
+import re
 import threading
 from functools import lru_cache
 from typing import Any, Iterable, Optional
@@ -16,6 +18,9 @@ MOST_TENTHS = 100
 # Characters of a font that are drawn on their buttons.
 MOST_DRAWN = 1024
 
+# A bracket that more text can still mend: a tag that isn't closed, or a lone `]` at the end.
+OPEN = re.compile(rb"\]|\[[^][]*")
+
 DIGITS = bytes(range(ord("0"), ord("0") + 10)) + bytes(246)
 
 
@@ -28,11 +33,12 @@ class Answers:
 
     def __init__(self, sign: Sign) -> None:
         self.sign = sign
+        self.stamp = hashlib.sha256(sign.octets).hexdigest()[:16]
         self.font = lru_cache(maxsize=255)(self._font)
         self.drawing = threading.Lock()
 
     def facts(self, templates: Iterable[str]) -> dict[str, Any]:
-        """What the sign is like, its fonts, and those of the templates that it accepts."""
+        """What the sign is like, its fonts, and those of the templates that it accepts. `stamp` tells its sign file from others."""
         sign, offered = self.sign, list(templates)
         verdicts = sign.check_all(template.encode("latin-1") for template in offered)
         fonts = sign.check_all(f"[fo{number}]" for number in range(1, 256))
@@ -41,6 +47,7 @@ class Answers:
             "height": sign.height,
             "pages": sign.max_pages,
             "classic": sign.classic,
+            "stamp": self.stamp,
             "colours": list(COLOURS),
             "templates": [template for template, verdict in zip(offered, verdicts) if verdict],
             "fonts": [
@@ -57,6 +64,8 @@ class Answers:
         or `None`, the message as it plays, and the times are then clocks. A page past the last one is the last one. A frame has its time, its
         page or `None` in an off time, and the place of its picture among the pictures. It stands until the next frame.
 
+        A refused text is `unfinished` if more text can still mend it.
+
         Raises what `Sign.check` does, and `TooLong`.
         """
         octets = octets_of(text)
@@ -69,6 +78,7 @@ class Answers:
                 "at": verdict.at,
                 "code": int(verdict.error),
                 "name": name_of(verdict.error),
+                "unfinished": is_unfinished(octets, verdict),
             }
         if view == "caret":
             view = self._page_at(octets, caret)
@@ -133,6 +143,12 @@ def is_there(verdict: Verdict) -> bool:
     return verdict.accepted or verdict.error == MultiError.TEXT_TOO_BIG
 
 
+def is_unfinished(octets: bytes, verdict: Verdict) -> bool:
+    """Whether what is wrong with a text is a bracket at its end that more text can mend."""
+    is_bracket = verdict.error == MultiError.UNSUPPORTED_TAG
+    return is_bracket and OPEN.fullmatch(octets, verdict.at) is not None
+
+
 def name_of(error: MultiError) -> str:
     """The name of an error as NTCIP 1203 writes it."""
     first, *others = error.name.lower().split("_")
@@ -140,9 +156,8 @@ def name_of(error: MultiError) -> str:
 
 
 def written(character: int) -> str:
-    """What a message has for a character: itself, if a keyboard has it, or its number."""
-    plain = 32 <= character < 127 or 161 <= character < 256
-    return chr(character) if plain and chr(character) not in "[]" else f"[hc{character:x}]"
+    """What a message has for a character: itself, if it is printed ASCII, or its number. So the message means the same in a file of UTF-8."""
+    return chr(character) if 32 <= character < 127 and chr(character) not in "[]" else f"[hc{character:x}]"
 
 
 def digits(octets: bytes) -> str:

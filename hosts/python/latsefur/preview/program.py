@@ -46,18 +46,26 @@ class Program:
         self.path = path
         self.front = sign_file + (b"" if sign_file.endswith(b"\n") else b"\n") + b"%%\n"
         self.explains = self._ask(["explain", "--format", "json"], b"").returncode == 0
+        # The last text that was explained: each moment of a message that plays is asked for with its words.
+        self.last: Optional[tuple[bytes, dict[str, Any]]] = None
 
     def explained(self, text: bytes) -> Optional[dict[str, Any]]:
         """What `signctl explain --format json` says of a text. `None` if it can't be asked: the text has a line feed, say, or the program is
         older than this format."""
         if not self.explains or not is_line(text):
             return None
+        known = self.last
+        if known and known[0] == text:
+            return known[1]
         told = self._ask(["explain", "--format", "json"], text + b"\n").stdout
         try:
             record = json.loads(told.splitlines()[0])
         except (IndexError, ValueError):
             return None
-        return record if isinstance(record, dict) else None
+        if not isinstance(record, dict):
+            return None
+        self.last = text, record
+        return record
 
     def gif(self, text: bytes, words: Sequence[str]) -> bytes:
         """A picture of a text in GIF; `words` are options of `signctl picture`. Raises `NotDrawn`."""

@@ -1,7 +1,9 @@
-"""The page's server: on the loopback interface alone, for one origin, with its own three files and no other."""
+"""The page's server: on the loopback interface alone, for one origin, with its own files and no other."""
 from __future__ import annotations
 
 import json
+import sys
+from concurrent.futures import ThreadPoolExecutor
 from dataclasses import dataclass
 from http import HTTPStatus
 from http.server import BaseHTTPRequestHandler, ThreadingHTTPServer
@@ -18,6 +20,8 @@ FILES = {
     "/": ("page.html", "text/html; charset=utf-8"),
     "/page.css": ("page.css", "text/css; charset=utf-8"),
     "/page.js": ("page.js", "text/javascript; charset=utf-8"),
+    "/state.js": ("state.js", "text/javascript; charset=utf-8"),
+    "/favicon.svg": ("favicon.svg", "image/svg+xml"),
 }
 
 # The octets of the longest question: a message of 4,096 octets with each written as `\u00ff` has 24,576.
@@ -27,8 +31,8 @@ MOST_BODY = 32768
 MOST_TIME = 2**53 - 1
 
 HEADERS = {
-    "Content-Security-Policy": "default-src 'none'; script-src 'self'; style-src 'self'; connect-src 'self'; base-uri 'none';"
-    " form-action 'none'; frame-ancestors 'none'",
+    "Content-Security-Policy": "default-src 'none'; script-src 'self'; style-src 'self'; img-src 'self'; connect-src 'self';"
+    " base-uri 'none'; form-action 'none'; frame-ancestors 'none'",
     "X-Content-Type-Options": "nosniff",
     "Referrer-Policy": "no-referrer",
     "Cross-Origin-Opener-Policy": "same-origin",
@@ -43,6 +47,9 @@ class Refused(Exception):
     def __init__(self, status: HTTPStatus, said: str) -> None:
         super().__init__(said)
         self.status = status
+
+    def __reduce__(self) -> tuple[type[Refused], tuple[HTTPStatus, str]]:
+        return type(self), (self.status, str(self))
 
 
 @dataclass(frozen=True)
@@ -62,11 +69,25 @@ class Page:
             **self.answers.facts(self.templates),
         }
 
-    def message(self, asked: dict[str, Any]) -> dict[str, Any]:
+    def judge(self, asked: dict[str, Any]) -> dict[str, Any]:
+        """All that is told of a text: what `message` says, and beside it `words` and the sign's `stamp`.
+
+        `words` are the reason and the warnings of `signctl explain`, or `None` if there are none or they are of another verdict than the
+        library's. A page that finds another `stamp` than it began with is about a sign that isn't served any more.
+        """
+        text = text_of(asked)
+        # The program runs while the library draws.
+        with ThreadPoolExecutor(1) as asking:
+            explained = asking.submit(self.explained, text)
+            told = self.message(text, asked)
+            words = words_of(explained.result(), told)
+        return {**told, "words": words, "stamp": self.answers.stamp}
+
+    def message(self, text: str, asked: dict[str, Any]) -> dict[str, Any]:
+        """The verdict on a text and what is shown of it, as `Answers.message` says them. A text that isn't judged is refused by name."""
         view = asked.get("view")
         if view != "caret" and view is not None:
             view = number(asked, "view", 255)
-        text = text_of(asked)
         words = (
             number(asked, "caret", MOST_BODY),
             number(asked, "begin", MOST_TIME),
@@ -86,13 +107,13 @@ class Page:
         except TooLong as fault:
             return {"accepted": False, "at": None, "said": str(fault), "name": "too long"}
 
-    def words(self, asked: dict[str, Any]) -> dict[str, Any]:
-        """What `signctl explain` says of a message, or nothing."""
+    def explained(self, text: str) -> Optional[dict[str, Any]]:
+        """What `signctl explain` says of a text, or nothing."""
         try:
-            octets = text_of(asked).encode("latin-1")
+            octets = text.encode("latin-1")
         except UnicodeEncodeError:
-            return {"explained": None}
-        return {"explained": self.program.explained(octets) if self.program else None}
+            return None
+        return self.program.explained(octets) if self.program else None
 
     def font(self, asked: dict[str, Any]) -> dict[str, Any]:
         return {"characters": self.answers.font(number(asked, "font", 255))}
@@ -115,6 +136,16 @@ class Page:
             return self.program.gif(text_of(asked).encode("latin-1", "replace"), words)
         except NotDrawn as fault:
             raise Refused(HTTPStatus.CONFLICT, str(fault)) from fault
+
+
+def words_of(record: Optional[dict[str, Any]], told: dict[str, Any]) -> Optional[dict[str, Any]]:
+    """The reason and the warnings of a record of `signctl explain`, if its verdict is the one that is told."""
+    if record is None:
+        return None
+    verdict = record.get("outcome") == "accepted", record.get("code"), record.get("octet")
+    if verdict != (told["accepted"], told.get("code"), told.get("at")):
+        return None
+    return {"reason": record.get("reason", ""), "warnings": record.get("warnings", [])}
 
 
 def text_of(asked: dict[str, Any]) -> str:
@@ -179,7 +210,7 @@ class Handler(BaseHTTPRequestHandler):
         page = self.server.page
         if self.path == "/gif":
             return page.gif(asked), "image/gif"
-        calls = {"/message": page.message, "/words": page.words, "/font": page.font}
+        calls = {"/judge": page.judge, "/font": page.font}
         if self.path not in calls:
             raise Refused(HTTPStatus.NOT_FOUND, "no such call")
         return self.json(calls[self.path](asked))
@@ -232,6 +263,12 @@ class Handler(BaseHTTPRequestHandler):
         pass
 
 
+def hosts_of(port: int) -> list[str]:
+    """The names by which the page may be asked for. Browsers leave out port 80."""
+    names = (ADDRESS, "localhost")
+    return [f"{name}:{port}" for name in names] + (list(names) if port == 80 else [])
+
+
 class Server(ThreadingHTTPServer):
     """The server of a page. With port 0 the system chooses one."""
 
@@ -243,7 +280,12 @@ class Server(ThreadingHTTPServer):
             name: Path(__file__).with_name(name).read_bytes() for name, _ in FILES.values()
         }
         super().__init__((ADDRESS, port), Handler)
-        self.hosts = [f"{name}:{self.server_port}" for name in (ADDRESS, "localhost")]
+        self.hosts = hosts_of(self.server_port)
+
+    def handle_error(self, request: Any, client_address: Any) -> None:
+        """Says nothing of a page that goes away before its answer."""
+        if not isinstance(sys.exc_info()[1], ConnectionError):
+            super().handle_error(request, client_address)
 
     @property
     def url(self) -> str:

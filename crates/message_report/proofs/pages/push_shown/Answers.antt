@@ -8,7 +8,7 @@ pub returns : goal.returns
 returns c =
     let string = c.args.checked.now in
     let text = c.args.text.now in
-    let pages = ExplanationLemmas.pages_are string.sign string.source.octets c.pages-2.result c.pages-2.ensures c.requires.short in
+    let pages = ExplanationLemmas.pages_are string.sign string.source.octets c.pages.result c.pages.ensures c.requires.short in
     let first = c.in_ok-push_accepted.ensures ∙ ap (λ n. c.push_line_head.new.text ++ accepted_text n) pages in
     let (front, line, between) = c.in_ok-push_message.ensures in
     let (shown, second, has) = c.in_ok-push_pages.ensures in

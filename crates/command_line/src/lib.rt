@@ -1,0 +1,22 @@
+//! What a command line of `signctl` asks for, or why it is refused: the commands, their options, and the ranges of these.
+//!
+//! It reads words alone: no file is opened, and no stream read. `docs/signctl.1` describes each option to people.
+#![tactic(auto)]
+
+mod answer;
+mod build;
+mod characters;
+mod explain;
+mod font;
+mod picture;
+mod request;
+mod source;
+mod table;
+
+pub use answer::Answer;
+pub use characters::Characters;
+pub use explain::{ExplainRequest, Messages, ReportFormat};
+pub use font::{FontRequest, OutsideChoice};
+pub use picture::{PictureRequest, Shown};
+pub use request::{Request, SignRequest, request_of};
+pub use source::SignSource;

@@ -1,0 +1,82 @@
+//! `signctl picture`, which writes a message as a picture.
+
+use crate::source::{SignSource, number_of, octet_of, sign_source, word_of};
+use clap::ArgMatches;
+
+/// What is drawn of a message (own).
+#[derive(Clone, Copy)]
+pub enum Shown {
+    /// A page, counted from 0, some tenths of a second after it began.
+    Page { page: u8, phase: u32 },
+    /// What is shown some tenths of a second after the message began.
+    Clock { clock: u32 },
+    /// The message as it plays, until it begins anew, or for its first seconds, 1 to 600. It is written in GIF.
+    Film { seconds: Option<u16> },
+}
+
+/// A message as a picture (own).
+#[derive(Clone, Copy)]
+pub struct PictureRequest<'a> {
+    /// Where the sign comes from.
+    pub sign: SignSource<'a>,
+    /// What is drawn of the message.
+    pub shown: Shown,
+    /// Whether it is written in GIF, and not in PPM.
+    pub is_gif: bool,
+    /// How many points side by side a pixel has, 1 to 16.
+    pub side: u8,
+    /// The name of the file that is written, if not the output.
+    pub file: Option<&'a str>,
+}
+
+/// What a file with this name, or the output, is written in: whether it is GIF, or why it is nothing.
+fn is_gif(file: Option<&str>, gif: bool) -> Result<bool, &'static str> {
+    let Some(file) = file else {
+        return Ok(gif);
+    };
+    if file.ends_with(".gif") {
+        return Ok(true);
+    }
+    if !file.ends_with(".ppm") {
+        return Err("the name of a picture's file ends in .gif or .ppm");
+    }
+    if gif {
+        return Err("a file whose name ends in .ppm is no GIF");
+    }
+    Ok(false)
+}
+
+/// What is drawn of a message.
+fn shown_of(picture: &ArgMatches<'_>) -> Shown {
+    if picture.get_flag("all") {
+        return Shown::Film {
+            seconds: word_of(picture, "seconds"),
+        };
+    }
+    if let Some(clock) = number_of(picture, "clock") {
+        return Shown::Clock { clock };
+    }
+    // both have a default
+    Shown::Page {
+        page: octet_of(picture, "page").unwrap_or(1).saturating_sub(1),
+        phase: number_of(picture, "phase").unwrap_or(0),
+    }
+}
+
+/// The picture that is asked for, or why it is none.
+pub(crate) fn picture_asked<'a>(
+    picture: &ArgMatches<'a>,
+) -> Result<PictureRequest<'a>, &'static str> {
+    let file = picture.get_str("output");
+    let is_gif = is_gif(file, picture.get_flag("gif"))?;
+    if picture.get_flag("all") && !is_gif {
+        return Err("--all writes GIF: it goes with --gif, or with a file whose name ends in .gif");
+    }
+    Ok(PictureRequest {
+        sign: sign_source(picture),
+        shown: shown_of(picture),
+        is_gif,
+        side: octet_of(picture, "scale").unwrap_or(8),
+        file,
+    })
+}

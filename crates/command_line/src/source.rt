@@ -1,0 +1,47 @@
+//! Where the sign comes from, and the numbers that options have.
+
+use clap::ArgMatches;
+
+/// Where the sign comes from (own).
+#[derive(Clone, Copy)]
+pub enum SignSource<'a> {
+    /// The input begins with a sign file and the mark `%%`, or it is none that a sign takes.
+    Input,
+    /// The sample sign.
+    Sample,
+    /// The sign file of this name.
+    File(&'a str),
+}
+
+impl SignSource<'_> {
+    /// Whether it is the sample sign.
+    pub fn is_sample(self) -> bool {
+        matches!(&self, SignSource::Sample)
+    }
+}
+
+/// Where the sign comes from.
+pub(crate) fn sign_source<'a>(asked: &ArgMatches<'a>) -> SignSource<'a> {
+    if asked.get_flag("sample") {
+        return SignSource::Sample;
+    }
+    match asked.get_str("sign") {
+        Some(name) => SignSource::File(name),
+        None => SignSource::Input,
+    }
+}
+
+/// The number of an option, if it has one.
+pub(crate) fn number_of(asked: &ArgMatches<'_>, name: &str) -> Option<u32> {
+    asked.get_one(name)
+}
+
+/// A number that the table of options keeps below 256.
+pub(crate) fn octet_of(asked: &ArgMatches<'_>, name: &str) -> Option<u8> {
+    number_of(asked, name).map(|number| number.min(255) as u8)
+}
+
+/// A number that the table of options keeps below 65,536.
+pub(crate) fn word_of(asked: &ArgMatches<'_>, name: &str) -> Option<u16> {
+    number_of(asked, name).map(|number| number.min(65535) as u16)
+}

@@ -1,0 +1,372 @@
+//! The commands and their options, as tables.
+
+/// What an option takes.
+#[derive(Clone, Copy)]
+pub(crate) enum Takes {
+    /// Nothing: it is there, or it isn't.
+    Nothing,
+    /// A number from the first to the second.
+    Number(i64, i64),
+    /// One of these words; the first text says what they are.
+    Word(&'static str, &'static [&'static str]),
+    /// A text, of which this says what it is.
+    Text(&'static str),
+    /// A message. It can be given more than once, and may begin with a hyphen.
+    Messages,
+    /// The name of a file, which stands alone, without the option's name.
+    Place,
+}
+
+/// An option of a command.
+#[derive(Clone, Copy)]
+pub(crate) struct OptionRow {
+    pub(crate) name: &'static str,
+    pub(crate) takes: Takes,
+    pub(crate) help: &'static str,
+    /// What it is if it isn't given.
+    pub(crate) default: Option<&'static str>,
+    /// The options that don't go with it.
+    pub(crate) conflicts: &'static [&'static str],
+    /// The options without which it doesn't go.
+    pub(crate) needs: &'static [&'static str],
+}
+
+/// A command, with its options in groups.
+#[derive(Clone, Copy)]
+pub(crate) struct CommandRow {
+    pub(crate) name: &'static str,
+    pub(crate) about: &'static str,
+    pub(crate) options: &'static [&'static [OptionRow]],
+}
+
+/// Where the sign comes from.
+const SIGN: [OptionRow; 2] = [
+    OptionRow {
+        name: "sign",
+        takes: Takes::Text("FILE"),
+        help: "Takes the sign of this sign file: the input has none",
+        default: None,
+        conflicts: &[],
+        needs: &[],
+    },
+    OptionRow {
+        name: "sample",
+        takes: Takes::Nothing,
+        help: "Takes the sample sign: the input has no sign file",
+        default: None,
+        conflicts: &["sign"],
+        needs: &[],
+    },
+];
+
+/// What is shown of a message.
+const SHOW: [OptionRow; 2] = [
+    OptionRow {
+        name: "colour",
+        takes: Takes::Number(0, 9),
+        help: "The colour whose pixels are shown, 0 to 9",
+        default: Some("1"),
+        conflicts: &[],
+        needs: &[],
+    },
+    OptionRow {
+        name: "clock",
+        takes: Takes::Number(0, 4294967295),
+        help: "How long the message was shown, in tenths of a second, 0 to 4294967295",
+        default: Some("0"),
+        conflicts: &[],
+        needs: &[],
+    },
+];
+
+/// How messages are explained.
+const EXPLAIN: [OptionRow; 8] = [
+    OptionRow {
+        name: "phase",
+        takes: Takes::Number(0, 4294967295),
+        help: "Draws each page as it is N tenths of a second after it began",
+        default: Some("0"),
+        conflicts: &[],
+        needs: &[],
+    },
+    OptionRow {
+        name: "format",
+        takes: Takes::Word("WHAT", &["text", "lines", "json"]),
+        help: "Writes words and pictures, or lines as editors read them, or a record in JSON for each message",
+        default: Some("text"),
+        conflicts: &[],
+        needs: &[],
+    },
+    OptionRow {
+        name: "ansi",
+        takes: Takes::Nothing,
+        help: "With --format text: draws pages in the sign's colours for a terminal, two rows of pixels a line",
+        default: None,
+        conflicts: &[],
+        needs: &[],
+    },
+    OptionRow {
+        name: "refused",
+        takes: Takes::Nothing,
+        help: "Tells of refused messages and of warnings alone",
+        default: None,
+        conflicts: &[],
+        needs: &[],
+    },
+    OptionRow {
+        name: "pages",
+        takes: Takes::Nothing,
+        help: "With --format json: adds the picture of each page",
+        default: None,
+        conflicts: &[],
+        needs: &[],
+    },
+    OptionRow {
+        name: "strict",
+        takes: Takes::Nothing,
+        help: "Counts a warning as a refusal, for the exit status",
+        default: None,
+        conflicts: &[],
+        needs: &[],
+    },
+    OptionRow {
+        name: "message",
+        takes: Takes::Messages,
+        help: "Explains this message, with --sign or --sample, and reads no input; it can be given more than once",
+        default: None,
+        conflicts: &["file"],
+        needs: &[],
+    },
+    OptionRow {
+        name: "file",
+        takes: Takes::Place,
+        help: "Reads this file in place of the input",
+        default: None,
+        conflicts: &[],
+        needs: &[],
+    },
+];
+
+/// How a message is drawn.
+const PICTURE: [OptionRow; 8] = [
+    OptionRow {
+        name: "page",
+        takes: Takes::Number(1, 255),
+        help: "Draws this page of the message, 1 to 255",
+        default: Some("1"),
+        conflicts: &[],
+        needs: &[],
+    },
+    OptionRow {
+        name: "phase",
+        takes: Takes::Number(0, 4294967295),
+        help: "Draws each page as it is N tenths of a second after it began",
+        default: Some("0"),
+        conflicts: &[],
+        needs: &[],
+    },
+    OptionRow {
+        name: "clock",
+        takes: Takes::Number(0, 4294967295),
+        help: "Draws what is shown N tenths of a second after the message began, 0 to 4294967295",
+        default: None,
+        conflicts: &["page", "phase"],
+        needs: &[],
+    },
+    OptionRow {
+        name: "all",
+        takes: Takes::Nothing,
+        help: "Draws the message as it plays, over and over, in GIF",
+        default: None,
+        conflicts: &["page", "phase", "clock"],
+        needs: &[],
+    },
+    OptionRow {
+        name: "seconds",
+        takes: Takes::Number(1, 600),
+        help: "With --all: draws the first N seconds, 1 to 600",
+        default: None,
+        conflicts: &[],
+        needs: &["all"],
+    },
+    OptionRow {
+        name: "gif",
+        takes: Takes::Nothing,
+        help: "Writes GIF in place of PPM",
+        default: None,
+        conflicts: &[],
+        needs: &[],
+    },
+    OptionRow {
+        name: "scale",
+        takes: Takes::Number(1, 16),
+        help: "Draws each pixel with N by N points, 1 to 16; its dot is round from 4 on",
+        default: Some("8"),
+        conflicts: &[],
+        needs: &[],
+    },
+    OptionRow {
+        name: "output",
+        takes: Takes::Text("FILE"),
+        help: "Writes this file, in the format of its ending, .gif or .ppm",
+        default: None,
+        conflicts: &[],
+        needs: &[],
+    },
+];
+
+/// How a sign file is told of.
+const SIGN_FILE: [OptionRow; 3] = [
+    OptionRow {
+        name: "font",
+        takes: Takes::Number(1, 255),
+        help: "Shows the characters of this font, 1 to 255",
+        default: None,
+        conflicts: &["format"],
+        needs: &[],
+    },
+    OptionRow {
+        name: "format",
+        takes: Takes::Word("FORMAT", &["text", "json"]),
+        help: "Tells of the file in words, or in JSON for programs",
+        default: None,
+        conflicts: &[],
+        needs: &[],
+    },
+    OptionRow {
+        name: "strict",
+        takes: Takes::Nothing,
+        help: "Counts warnings as faults: the exit status is then 1",
+        default: None,
+        conflicts: &[],
+        needs: &[],
+    },
+];
+
+/// How a font is made.
+const FONT: [OptionRow; 10] = [
+    OptionRow {
+        name: "number",
+        takes: Takes::Number(1, 255),
+        help: "The font's number, 1 to 255",
+        default: Some("1"),
+        conflicts: &[],
+        needs: &[],
+    },
+    OptionRow {
+        name: "version",
+        takes: Takes::Number(0, 65535),
+        help: "The font's version, 0 to 65535",
+        default: Some("0"),
+        conflicts: &[],
+        needs: &[],
+    },
+    OptionRow {
+        name: "char-spacing",
+        takes: Takes::Number(0, 255),
+        help: "Columns between characters, 0 to 255, by which each cell is narrower than its advance; 1 if each character fits so, else 0",
+        default: None,
+        conflicts: &[],
+        needs: &[],
+    },
+    OptionRow {
+        name: "line-spacing",
+        takes: Takes::Number(0, 255),
+        help: "Rows between lines, 0 to 255",
+        default: Some("1"),
+        conflicts: &[],
+        needs: &[],
+    },
+    OptionRow {
+        name: "first",
+        takes: Takes::Number(1, 65535),
+        help: "The lowest character that is taken",
+        default: None,
+        conflicts: &[],
+        needs: &[],
+    },
+    OptionRow {
+        name: "last",
+        takes: Takes::Number(1, 65535),
+        help: "The highest character that is taken",
+        default: None,
+        conflicts: &[],
+        needs: &[],
+    },
+    OptionRow {
+        name: "characters",
+        takes: Takes::Text("LIST"),
+        help: "The characters that are taken, as ascii, latin1 or A-Z,0-9,32,0x2190-0x2193",
+        default: None,
+        conflicts: &["first", "last"],
+        needs: &[],
+    },
+    OptionRow {
+        name: "outside",
+        takes: Takes::Word("WHAT", &["refuse", "widen", "crop", "skip"]),
+        help: "What is done with a character that doesn't fit its cell: the font is refused, the cell is widened, the pixels outside are cropped, or the character is skipped",
+        default: Some("widen"),
+        conflicts: &[],
+        needs: &[],
+    },
+    OptionRow {
+        name: "crop",
+        takes: Takes::Nothing,
+        help: "Takes off the rows at the top and at the bottom in which no character has a pixel",
+        default: None,
+        conflicts: &[],
+        needs: &[],
+    },
+    OptionRow {
+        name: "height",
+        takes: Takes::Number(1, 64),
+        help: "Adds rows without pixels above and below, until there are so many, 1 to 64",
+        default: None,
+        conflicts: &[],
+        needs: &[],
+    },
+];
+
+/// The commands of the tool.
+pub(crate) const COMMANDS: [CommandRow; 8] = [
+    CommandRow {
+        name: "check",
+        about: "Reads a sign file, a line %% and messages, and says of each message whether the sign accepts it",
+        options: &[&SIGN],
+    },
+    CommandRow {
+        name: "show",
+        about: "Reads a sign file, a line %% and messages, and shows a page of each message that the sign accepts",
+        options: &[&SIGN, &SHOW],
+    },
+    CommandRow {
+        name: "run",
+        about: "Reads a sign file, a line %% and a script, and writes the reply to each of its lines",
+        options: &[&SIGN],
+    },
+    CommandRow {
+        name: "serve",
+        about: "Serves a sign: answers each line that is asked of it by one reply, for as long as they come",
+        options: &[&SIGN],
+    },
+    CommandRow {
+        name: "explain",
+        about: "Reads a sign file, a line %% and messages, and says of each why it is refused, or draws its pages",
+        options: &[&SIGN, &EXPLAIN],
+    },
+    CommandRow {
+        name: "picture",
+        about: "Reads a sign file, a line %% and one message, and writes it as a picture in PPM or GIF",
+        options: &[&SIGN, &PICTURE],
+    },
+    CommandRow {
+        name: "sign",
+        about: "Reads a sign file, and says what it describes, or what is wrong with it",
+        options: &[&SIGN_FILE],
+    },
+    CommandRow {
+        name: "font",
+        about: "Reads a font in BDF, and writes it as the [[font]] table of a sign file",
+        options: &[&FONT],
+    },
+];
