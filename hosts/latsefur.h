@@ -12,7 +12,8 @@
  *   be written too. All of them have been given some value before the call, as by `= {0}`, or `= {}` in C++.
  * - What a call writes overlaps nothing else that is handed to it. What it reads stays the same until it returns.
  * - malloc, realloc and free come from one allocator, align as C asks, and return.
- * - The thread has 64 KiB of stack left. That serves for every sign file: one that nests too deep isn't read.
+ * - The thread has 64 KiB of stack left for a call that takes a sign file, and 8 KiB for any other. What malloc, realloc and free take is
+ *   part of it. That serves for every text, and for every sign file, since one that nests too deep isn't read.
  * - No call is made from a signal handler, or from the forked child of a process that had threads. None is left by longjmp, or by cancelling
  *   its thread.
  * - No other function of the program has a name that begins with latsefur_ or rattle_.
@@ -32,6 +33,10 @@
 
 #include <stddef.h>
 #include <stdint.h>
+
+#if defined(UINTPTR_MAX) && UINTPTR_MAX < 0xffffffffffffffff
+#error "Latsefur needs pointers of 64 bits"
+#endif
 
 #ifdef __cplusplus
 extern "C" {
@@ -349,13 +354,15 @@ uint8_t latsefur_held_colours_of_page(latsefur_controller *handle, const uint8_t
 /* The CRC of a message's text, beacon and pixel service (dmsMessageCRC). An activation code has it, the high octet first. */
 uint16_t latsefur_message_crc(const uint8_t *text, size_t text_len, uint8_t beacon, uint8_t pixel);
 
-/* The sizes that the library takes these structures to have; the platform is Linux on x86-64 or AArch64. */
+/* The sizes that the library takes these structures to have; the platform is Linux on x86-64 or AArch64. Before C11 and C++11 an array of a negative
+ * length refuses another size. */
 #if defined(__cplusplus) && __cplusplus >= 201103L
 #define LATSEFUR_HAS_SIZE(type, size) static_assert(sizeof(type) == (size), #type " has another size than the library takes it to have")
 #elif defined(__STDC_VERSION__) && __STDC_VERSION__ >= 201112L
 #define LATSEFUR_HAS_SIZE(type, size) _Static_assert(sizeof(type) == (size), #type " has another size than the library takes it to have")
+#else
+#define LATSEFUR_HAS_SIZE(type, size) typedef char type##_has_another_size[sizeof(type) == (size) ? 1 : -1]
 #endif
-#ifdef LATSEFUR_HAS_SIZE
 LATSEFUR_HAS_SIZE(latsefur_sign_facts, 6);
 LATSEFUR_HAS_SIZE(latsefur_verdict, 16);
 LATSEFUR_HAS_SIZE(latsefur_shown, 16);
@@ -367,7 +374,6 @@ LATSEFUR_HAS_SIZE(latsefur_default_facts, 9);
 LATSEFUR_HAS_SIZE(latsefur_message, 24);
 LATSEFUR_HAS_SIZE(latsefur_table_facts, 12);
 LATSEFUR_HAS_SIZE(latsefur_font_facts, 6);
-#endif
 
 #ifdef __cplusplus
 }

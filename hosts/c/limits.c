@@ -13,8 +13,15 @@
 #include <string.h>
 #include <sys/mman.h>
 
-/* The stack that latsefur.h asks for, and a larger one, in which it is seen how much is used. */
-enum { STACK = 64 << 10, PAINTED = 256 << 10 };
+/* The stack that latsefur.h asks for: of a call that reads a sign file, and of any other. What groups of the others use at most, as
+ * docs/hosts.md says. A larger stack, in which it is seen how much is used. */
+enum { STACK = 64 << 10, HELD_STACK = 8 << 10 };
+enum { DRAWING = 6 << 10, JUDGING = 3 << 10, TELLING = 1 << 10, PAINTED = 256 << 10 };
+
+/* What a sanitizer uses of the stack itself, when it begins a thread. */
+#ifndef SANITIZER_STACK
+#define SANITIZER_STACK 0
+#endif
 
 enum { MARK = 0xa5, BEHIND = 16, THREADS = 4, MANY = 1000 };
 
@@ -580,7 +587,40 @@ static void test_threads(void) {
     }
 }
 
-/* A call that is made on a thread with a stack of ours. */
+/* What is run on a thread with a painted stack, and how much of that it used. What the thread itself uses isn't counted. */
+typedef struct {
+    void (*run)(void *);
+    void *given;
+    const uint8_t *stack;
+    size_t used;
+} painted;
+
+static void *run_painted(void *given) {
+    painted *mine = given;
+    const uint8_t *from = __builtin_frame_address(0), *at = mine->stack;
+    mine->run(mine->given);
+    while (*at == MARK)
+        at++;
+    mine->used = (size_t)(from - at);
+    return NULL;
+}
+
+static size_t stack_used(void (*run)(void *), void *given) {
+    painted mine = {run, given, NULL, 0};
+    pthread_attr_t ours;
+    pthread_t thread;
+    uint8_t *stack = mmap(NULL, PAINTED, PROT_READ | PROT_WRITE, MAP_PRIVATE | MAP_ANONYMOUS, -1, 0);
+    EXPECT(stack != MAP_FAILED && pthread_attr_init(&ours) == 0 && pthread_attr_setstack(&ours, stack, PAINTED) == 0);
+    memset(stack, MARK, PAINTED);
+    mine.stack = stack;
+    EXPECT(pthread_create(&thread, &ours, run_painted, &mine) == 0);
+    EXPECT(pthread_join(thread, NULL) == 0);
+    pthread_attr_destroy(&ours);
+    munmap(stack, PAINTED);
+    return mine.used;
+}
+
+/* A call that reads a sign file; the last one makes a controller. */
 typedef struct {
     export which;
     const uint8_t *sign;
@@ -588,34 +628,170 @@ typedef struct {
     uint8_t outcome;
 } small_call;
 
-static void *call_there(void *given) {
+static void call_there(void *given) {
     small_call *mine = given;
-    mine->outcome = call(mine->which, mine->sign, mine->sign_len, octets_of("A[np]A"), 6);
-    return NULL;
+    static latsefur_controller made;
+    if (mine->which < EXPORTS) {
+        mine->outcome = call(mine->which, mine->sign, mine->sign_len, octets_of("A[np]A"), 6);
+    } else {
+        mine->outcome = latsefur_controller_new(mine->sign, mine->sign_len, &made);
+        latsefur_controller_free(&made);
+    }
 }
 
-/* The outcome of each export must be this one, and no call may use more stack than latsefur.h asks for, with what the thread itself
- * uses of it. */
+/* The outcome of each call that reads a sign file must be this one, and none may use more stack than latsefur.h asks for. */
 static void expect_on_stack(const uint8_t *sign, size_t sign_len, uint8_t outcome) {
     small_call mine = {SIGN, sign, sign_len, MARK};
-    pthread_attr_t ours;
-    pthread_t thread;
-    size_t unused;
     int which;
-    uint8_t *stack = mmap(NULL, PAINTED, PROT_READ | PROT_WRITE, MAP_PRIVATE | MAP_ANONYMOUS, -1, 0);
-    EXPECT(stack != MAP_FAILED && pthread_attr_init(&ours) == 0 && pthread_attr_setstack(&ours, stack, PAINTED) == 0);
-    for (which = SIGN; which < EXPORTS; which++) {
+    for (which = SIGN; which <= EXPORTS; which++) {
         mine.which = (export)which;
-        memset(stack, MARK, PAINTED);
-        EXPECT(pthread_create(&thread, &ours, call_there, &mine) == 0);
-        EXPECT(pthread_join(thread, NULL) == 0);
+        EXPECT(stack_used(call_there, &mine) <= STACK);
         EXPECT(mine.outcome == outcome);
-        for (unused = 0; unused < PAINTED && stack[unused] == MARK; unused++) {
-        }
-        EXPECT(PAINTED - unused <= STACK);
     }
-    pthread_attr_destroy(&ours);
-    munmap(stack, PAINTED);
+}
+
+/* The calls that read no sign file, each by a number, in the groups of docs/hosts.md. */
+typedef enum {
+    FRAME, COLOURS, HELD_PLANE, HELD_COLOURS, DRAWINGS,
+    REQUEST = DRAWINGS, SET_MULTI, SET_OWNER, SET_PRIORITY, SET_BEACON, SET_PIXEL_SERVICE, VALIDATE, WORK, ACTIVATE, SET_END, SET_DEFAULT, TICK,
+    CLEAR, NEXT_CHANGE, HELD_CHECK, JUDGINGS,
+    REPORT = JUDGINGS, DEFAULTS, STEPS, ROW, HELD_SIGN, HELD_TABLE, HELD_FONT, MESSAGE_CRC, LIBRARY_VERSION, FREE, HELD_CALLS
+} held_call;
+
+static struct {
+    latsefur_controller held;
+    held_call which;
+    const uint8_t *text;
+    size_t text_len;
+    uint8_t code[12], outcome;
+    latsefur_reply reply;
+    latsefur_report_facts report;
+    latsefur_default_facts defaults;
+    latsefur_message row;
+    latsefur_table_facts table;
+    latsefur_font_facts font;
+    uint64_t steps;
+    uint32_t tenths;
+    uint8_t octets[4096], owner[127];
+} there;
+
+/* A text with tags of each kind; it is only judged and drawn, since a small table may have no room for it. */
+static const char tagged[] = "[jl3][jp3][cf1][pb0][fo1][sc1]A[/sc][pt20o5][hc41][nl1]A[np][tr1,1,5,5][flt2o2]A[/fl][[";
+
+static uint8_t draw_held(void) {
+    latsefur_controller *held = &there.held;
+    const uint8_t *text = octets_of("[sc1]A[/sc][np][flt2o2]A[/fl]");
+    switch (there.which) {
+    case FRAME:
+        return latsefur_frame(held, 1, &out.shown, out.plane, sizeof out.plane);
+    case COLOURS:
+        return latsefur_colours(held, &out.shown, out.colours, sizeof out.colours);
+    case HELD_PLANE:
+        return latsefur_held_plane_of_page(held, text, 29, 1, 0, 1, out.plane, sizeof out.plane);
+    default:
+        return latsefur_held_colours_of_page(held, text, 29, 1, 0, out.colours, sizeof out.colours);
+    }
+}
+
+static uint8_t judge_held(void) {
+    latsefur_controller *held = &there.held;
+    switch (there.which) {
+    case REQUEST:
+        return latsefur_request(held, 3, 1, 6, &there.reply);
+    case SET_MULTI:
+        return latsefur_set_multi(held, 3, 1, there.text, there.text_len, &there.reply);
+    case SET_OWNER:
+        return latsefur_set_owner(held, 3, 1, there.text, 0, &there.reply);
+    case SET_PRIORITY:
+        return latsefur_set_priority(held, 3, 1, 9, &there.reply);
+    case SET_BEACON:
+        return latsefur_set_beacon(held, 3, 1, 0, &there.reply);
+    case SET_PIXEL_SERVICE:
+        return latsefur_set_pixel_service(held, 3, 1, 0, &there.reply);
+    case VALIDATE:
+        return latsefur_request(held, 3, 1, 7, &there.reply);
+    case WORK:
+        return latsefur_work(held, &there.reply);
+    case ACTIVATE:
+        return latsefur_activate(held, there.code, 12, &there.reply);
+    case SET_END:
+        return latsefur_set_end(held, there.code + 3, 5, &there.reply);
+    case SET_DEFAULT:
+        return latsefur_set_default(held, 5, 7, &there.reply);
+    case TICK:
+        return latsefur_tick(held, 600, &there.reply);
+    case CLEAR:
+        return latsefur_clear(held, &there.reply);
+    case NEXT_CHANGE:
+        return latsefur_next_change(held, UINT32_MAX, &there.tenths);
+    default:
+        latsefur_held_check(held, octets_of(tagged), sizeof tagged - 1, &out.verdict);
+        return LATSEFUR_DONE;
+    }
+}
+
+static uint8_t tell_held(void) {
+    latsefur_controller *held = &there.held;
+    switch (there.which) {
+    case REPORT:
+        return latsefur_report(held, &there.report);
+    case DEFAULTS:
+        return latsefur_defaults(held, &there.defaults);
+    case STEPS:
+        return latsefur_steps(held, &there.steps);
+    case ROW:
+        return latsefur_row(held, 3, 1, &there.row, there.octets, sizeof there.octets, there.owner, sizeof there.owner);
+    case HELD_SIGN:
+        return latsefur_held_sign(held, &out.facts);
+    case HELD_TABLE:
+        return latsefur_held_table(held, &there.table);
+    case HELD_FONT:
+        return latsefur_held_font(held, 1, &there.font);
+    case MESSAGE_CRC:
+        return latsefur_message_crc(there.text, there.text_len, 0, 0) == 0;
+    case LIBRARY_VERSION:
+        return latsefur_version() == 0;
+    default:
+        latsefur_controller_free(held);
+        return LATSEFUR_DONE;
+    }
+}
+
+static void call_held(void *given) {
+    (void)given;
+    there.outcome = there.which < DRAWINGS ? draw_held() : there.which < JUDGINGS ? judge_held() : tell_held();
+}
+
+/* The calls of a group on the controller, in their order. None may use more stack than this. */
+static void expect_held_on_stack(held_call first, held_call behind, size_t most) {
+    size_t used;
+    int which;
+    for (which = first; which < (int)behind; which++) {
+        there.which = (held_call)which;
+        used = stack_used(call_held, NULL);
+        EXPECT(used <= most + SANITIZER_STACK && used <= HELD_STACK + SANITIZER_STACK);
+        EXPECT(there.outcome == LATSEFUR_DONE);
+    }
+}
+
+/* Each group of calls keeps to its stack, and so to what latsefur.h asks for: while the message is shown that the commands write, and after it. */
+static void test_held_stack(void) {
+    uint16_t crc;
+    uint8_t code[12] = {0, 1, 255, 3, 0, 1, 0, 0, 127, 0, 0, 1};
+    EXPECT(latsefur_controller_new(file, file_len, &there.held) == LATSEFUR_DONE);
+    there.text_len = number_at("\nbytes = ") >= 9 ? 9 : 1;
+    there.text = octets_of(there.text_len == 9 ? "[flt3o2]A" : "A");
+    crc = latsefur_message_crc(there.text, there.text_len, 0, 0);
+    code[6] = (uint8_t)(crc >> 8);
+    code[7] = (uint8_t)crc;
+    memcpy(there.code, code, sizeof code);
+    expect_held_on_stack(REQUEST, SET_END, JUDGING);
+    EXPECT(there.reply.kind == LATSEFUR_REPLY_SHOWN);
+    expect_held_on_stack(FRAME, DRAWINGS, DRAWING);
+    expect_held_on_stack(SET_END, CLEAR, JUDGING);
+    EXPECT(there.reply.kind == LATSEFUR_REPLY_ENDED);
+    expect_held_on_stack(CLEAR, JUDGINGS, JUDGING);
+    expect_held_on_stack(REPORT, HELD_CALLS, TELLING);
 }
 
 static char *put_name(char *at, int parts) {
@@ -919,6 +1095,7 @@ int main(int count, char **paths) {
         test_read_once();
         test_largest();
         test_stack();
+        test_held_stack();
         test_threads();
         test_controller();
         free(file);

@@ -1,5 +1,5 @@
 -- Messages as they are told, what the sample sign says of them, and in how many steps, computed.
-use Rattle.std.proofs.Common.{◌≡◌, ◌≤◌, ℕ, Bool, true, false, [], ◌∷◌, map, codes, refl, Some, None, Ok, Err}
+use Rattle.std.proofs.Common.{◌≡◌, ℕ, Bool, true, false, [], ◌∷◌, map, codes, refl, Some, None, Ok, Err}
 use Rattle.multi_token.specs.Reading.{reading, read_items}
 use Rattle.sign_font.specs.Sample.{sample}
 use Rattle.sign_font.specs.Sign.{SignData}
@@ -11,7 +11,7 @@ use Rattle.message_store.specs.declared.work.ValidateError.TheVariants as valida
 use Rattle.message_store.specs.Crc.{message_crc}
 use Rattle.message_store.specs.Slot.{StoreData, empty_slot}
 use Rattle.message_store.specs.Row.{RowData, blank_row, row_in, is_current_buffer}
-use Rattle.message_store.specs.Work.{IsCounted, JudgementData, judgement, of_verdict}
+use Rattle.message_store.specs.Work.{JudgementData, judgement, of_verdict, slot_steps}
 
 -- ---- rows
 
@@ -93,13 +93,7 @@ a_message_needs_neither = refl
 a_text_that_is_too_wide_is_syntaxMULTI : of_verdict (Refused 5 3) ≡ record { error = validate.SyntaxMulti; syntax = Some (5, 3) }
 a_text_that_is_too_wide_is_syntaxMULTI = refl
 
--- ---- the steps of judging four octets, by the validate error
+-- ---- the steps of judging a message
 
-an_accepted_text_is_read_to_its_end : (steps : ℕ) → IsCounted 4 2 (Some (2, 0)) steps → (5 ≤ steps) × (steps ≤ 37)
-an_accepted_text_is_read_to_its_end steps counted = counted
-
-a_refused_text_is_read_to_its_error : (steps : ℕ) → IsCounted 4 5 (Some (5, 3)) steps → (4 ≤ steps) × (steps ≤ 37)
-a_refused_text_is_read_to_its_error steps counted = counted
-
-a_text_that_is_not_judged_takes_no_steps : (steps : ℕ) → IsCounted 4 3 None steps → steps ≡ 0
-a_text_that_is_not_judged_takes_no_steps steps counted = counted
+a_message_whose_beacon_is_refused_takes_none : slot_steps (record sample { beacons = false }) (record empty_slot { beacon = 1; multi = codes "AAAA" }) ≡ 0
+a_message_whose_beacon_is_refused_takes_none = refl

@@ -1,8 +1,8 @@
 -- The judgement of the message that waits for it (NTCIP 1203 v03, dmsValidateMessageError).
-use Rattle.std.specs.Prelude.{◌≡◌, ◌≤◌, ℕ, ◌+◌, not, ◌&&◌, ◌==◌, if◌then◌else◌, position, Option, Some, None}
+use Rattle.std.specs.Prelude.{ℕ, ◌+◌, not, ◌&&◌, ◌==◌, if◌then◌else◌, position, Option, Some, None}
 use Rattle.sign_font.specs.Sign.{SignData}
 use Rattle.multi_meaning.specs.Verdict.{Verdict, Accepted, Refused, verdict}
-use Rattle.multi_layout.specs.Limits.{check_limit}
+use Rattle.multi_meaning.specs.Steps.{judging_steps}
 use Rattle.message_store.specs.declared.slot.Status.{Status}
 use Rattle.message_store.specs.declared.slot.Status.TheVariants.{Valid, Error}
 use Rattle.message_store.specs.declared.work.Judged.{Judged}
@@ -30,6 +30,12 @@ judgement sign slot =
     if (slot.beacon == 1) && not sign.beacons then record { error = validate.Beacons; syntax = None }
     else (if (slot.pixel == 1) && not sign.pixel_service then record { error = validate.PixelService; syntax = None }
     else of_verdict (verdict sign slot.multi))
+
+-- the steps of judging a message: those of judging its text, and none where that isn't judged (own)
+abbrev pub slot_steps : SignData → SlotData → ℕ
+slot_steps sign slot =
+    if (slot.beacon == 1) && not sign.beacons then 0
+    else (if (slot.pixel == 1) && not sign.pixel_service then 0 else judging_steps sign slot.multi)
 
 -- the status of a message that was judged (NTCIP 1203 v03, dmsMessageStatus)
 abbrev pub judged_status : ValidateError → Status
@@ -79,9 +85,3 @@ worked_at sign store (Some index) =
 -- the message that waits, if one does, is judged (NTCIP 1203 v03, dmsValidateMessageError)
 abbrev pub worked : SignData → StoreData → Worked
 worked sign store = worked_at sign store (waiting store)
-
--- the steps of judging a message with a text of n octets: none where the text wasn't judged, and else from n + 1, where it
--- was accepted, or one more than the offset of its error, to the check limit (own)
-abbrev pub IsCounted : ℕ → ℕ → Option (ℕ × ℕ) → ℕ → Type 0
-IsCounted n error None steps = steps ≡ 0
-IsCounted n error (Some syntax) steps = ((if error == 2 then n + 1 else syntax.1 + 1) ≤ steps) × (steps ≤ check_limit n)

@@ -2,8 +2,9 @@
 
 ghost use Rattle.std.specs.Prelude.{◌≡◌, ◌≤◌, length, None};
 ghost use Rattle.sign_font.specs.Defaults.{default_fault, under};
+ghost use Rattle.multi_meaning.specs.Steps.{judging_steps};
 ghost use Rattle.multi_meaning.specs.Verdict.{verdict};
-ghost use Rattle.message_store.specs.Judged.{AreStepsOf, error_of, is_accepted, position_of};
+ghost use Rattle.message_store.specs.Judged.{error_of, is_accepted, position_of};
 
 use multi_layout::check_with;
 use multi_token::Source;
@@ -29,7 +30,7 @@ pub fn judge_text(sign: &Sign, defaults: Defaults, text: &[u8]) -> TextJudgement
     ensures accepted { result.accepted ≡ is_accepted (verdict (under sign.now defaults) text.now) }
     ensures error { result.error ≡ error_of (verdict (under sign.now defaults) text.now) }
     ensures position { result.position ≡ position_of (verdict (under sign.now defaults) text.now) }
-    ensures steps { AreStepsOf (length text.now) (verdict (under sign.now defaults) text.now) result.steps }
+    ensures steps { result.steps ≡ judging_steps (under sign.now defaults) text.now }
 {
     match check_with(sign, defaults, Source::new(text)) {
         Ok(checked) => TextJudgement {

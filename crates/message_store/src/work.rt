@@ -2,13 +2,14 @@
 
 ghost use Rattle.std.specs.Prelude.{◌≡◌, ◌≤◌, ◌-◌, [], length, IfSome, None, option_map};
 ghost use Rattle.sign_font.specs.Defaults.{default_fault, under};
+ghost use Rattle.multi_meaning.specs.Steps.{judging_steps};
 ghost use Rattle.multi_meaning.specs.Verdict.{verdict};
 ghost use Rattle.message_store.specs.Codes.{validate_code};
 ghost use Rattle.message_store.specs.Limits.{IsKept};
 ghost use Rattle.message_store.specs.kept.Working.{judgement_of};
 ghost use Rattle.message_store.specs.Slot.{slot_at};
 ghost use Rattle.message_store.specs.kept.Stored.{slot_of};
-ghost use Rattle.message_store.specs.Work.{IsCounted, judged_status, judgement, of_verdict, worked, judged_of};
+ghost use Rattle.message_store.specs.Work.{judged_status, judgement, of_verdict, slot_steps, worked, judged_of};
 
 use crate::judge::judge_text;
 use crate::slot::{Slot, Status};
@@ -79,7 +80,7 @@ fn judge_syntax(sign: &Sign, defaults: &Defaults, text: &[u8]) -> Judgement
     requires taken { default_fault sign.now defaults.now ≡ None }
     requires short { length text.now ≤ 4096 }
     ensures judgement { judgement_of result ≡ of_verdict (verdict (under sign.now defaults.now) text.now) }
-    ensures steps { IsCounted (length text.now) (validate_code result.error) result.syntax result.steps }
+    ensures steps { result.steps ≡ judging_steps (under sign.now defaults.now) text.now }
 {
     let judged = judge_text(sign, *defaults, text);
     let syntax = Some((judged.error, judged.position));
@@ -104,7 +105,7 @@ fn judge(sign: &Sign, defaults: &Defaults, slot: Slot, text: &[u8]) -> Judgement
     requires taken { default_fault sign.now defaults.now ≡ None }
     requires short { length text.now ≤ 4096 }
     ensures judgement { judgement_of result ≡ judgement (under sign.now defaults.now) (slot_of slot text.now []) }
-    ensures steps { IsCounted (length text.now) (validate_code result.error) result.syntax result.steps }
+    ensures steps { result.steps ≡ slot_steps (under sign.now defaults.now) (slot_of slot text.now []) }
 {
     if slot.beacon == 1 && !sign.beacons() {
         Judgement {
@@ -134,7 +135,7 @@ impl Store {
         ensures judged { option_map judged_of result ≡ (worked (under sign.now defaults.now) self.old).judged }
         ensures store { self.new ≡ (worked (under sign.now defaults.now) self.old).store }
         ensures steps { IfSome result (λ judged.
-            IsCounted (length (slot_at self.old (judged.number - 1)).multi) judged.validate_error judged.syntax judged.steps) }
+            judged.steps ≡ slot_steps (under sign.now defaults.now) (slot_at self.old (judged.number - 1))) }
         ensures kept { IsKept self.new }
         ensures limits { self.new.limits ≡ self.old.limits }
     {

@@ -1,5 +1,5 @@
 -- The sums of an area after one more placing item, and what is judged by them.
-use Rattle.multi_judge.proofs.Common.{◌≡◌, ℕ, ◌<◌, ◌≤◌, Bool, true, false, not, ◌&&◌, ◌||◌, ◌==◌, List, [], ◌∷◌, ◌++◌, refl, sym, ap, ◌∙◌, arith, rules, inl, inr, Option, Some, None, nat_lt, list_any, after_last, or_parts, cases_eq, cases_lt, eq-eqb, le-ltb, lt-ltb, ne_eqb, cases_Bool, false≢true, le-leb, lt-leb, All-head, All-weaker, page_number, largest, Off, Spot, is_glyph, is_break, area_of, in_group, line_before, line_fits, area_fits, too_big, clashes, conflicts, page_number_known, largest_most, largest_push, push_ind, filter_none, own_group, in_group_other, filled, IsFilledOn, Area, Group, group_sum, area_sum, area_sum_in, line_sum, Split, split_sum, IsMost, group_room, ltb-false, leb-false, leb-true, goes_back, group_goes_back, break_put, ReachesGroup}
+use Rattle.multi_judge.proofs.Common.{◌≡◌, ℕ, ◌<◌, ◌≤◌, Bool, true, false, not, ◌&&◌, ◌||◌, ◌==◌, List, [], ◌∷◌, ◌++◌, refl, sym, ap, ◌∙◌, arith, rules, Option, Some, None, nat_lt, list_any, after_last, or_parts, cases_eq, cases_lt, eq-eqb, le-ltb, lt-ltb, ne_eqb, cases_Bool, false≢true, le-leb, lt-leb, All-head, All-weaker, page_number, largest, Off, Spot, is_glyph, is_break, area_of, in_group, line_before, line_fits, area_fits, too_big, clashes, conflicts, page_number_known, largest_most, largest_push, push_ind, filter_none, own_group, in_group_other, filled, IsFilledOn, Area, Group, group_sum, area_sum, area_sum_in, line_sum, Split, split_sum, IsMost, group_room, ltb-false, leb-false, leb-true, goes_back, group_goes_back, break_put, ReachesGroup}
 use Rattle.multi_judge.proofs.LineSumLemmas.{present_push}
 
 -- no item of an area is in a group behind the one with the largest justification
@@ -22,10 +22,6 @@ pub area_with : (area : List Spot) (s : Spot) (just : ℕ) → page_number s.at.
     → (kept r : Area) → kept ≡ area_sum_in just area → r.present ≡ kept.present → r.top ≡ kept.top → r.middle ≡ kept.middle → r.group ≡ group_sum (in_group just (area ++ s ∷ []))
     → r ≡ area_sum (area ++ s ∷ [])
 area_with area s just own a e order kept r is present top middle group = search (rules, cases_lt, in_group_other, largest_push, le-ltb)
-
--- behind an item that isn't before the present group, the present group is that item's
-pub present_behind : (area : List Spot) (s : Spot) (a b : Area) → a ≡ area_sum area → b ≡ area_sum (area ++ s ∷ []) → a.present ≤ page_number s.at.page_just → b.present ≡ page_number s.at.page_just
-present_behind area s a b e f order = omega (arith, ap (λ (a : Area). a.present) e, ap (λ (a : Area). a.present) f, largest_push (λ t. page_number t.at.page_just) area s, order)
 
 -- the height of a group, by what is kept of the area
 module _ (area : List Spot) (a : Area) (e : a ≡ area_sum area) where
@@ -70,11 +66,6 @@ pub conflict_is : (before : List Spot) (s : Spot) (page_just present : ℕ) → 
     → conflicts before s ≡ (nat_lt page_just present || (is_glyph s && list_any (clashes s) (after_last is_break (in_group page_just (area_of s before)))))
 conflict_is before s page_just present page e = first_of (search (rules, back), grind (arith, back))
 
-pub conflicts_character : (before : List Spot) (s : Spot) (page_just present : ℕ) → is_glyph s ≡ true → page_number s.at.page_just ≡ page_just → present ≡ largest (λ t. page_number t.at.page_just) (area_of s before)
-    → (nat_lt page_just present || list_any (clashes s) (after_last is_break (in_group page_just (area_of s before)))) ≡ conflicts before s
-conflicts_character before s page_just present g page e =
-    sym (conflict_is before s page_just present page e ∙ ap (λ b. nat_lt page_just present || (b && list_any (clashes s) (after_last is_break (in_group page_just (area_of s before))))) g)
-
 -- one that doesn't conflict isn't before the present group
 pub no_back : (before : List Spot) (s : Spot) (page_just present : ℕ) → page_number s.at.page_just ≡ page_just → present ≡ largest (λ t. page_number t.at.page_just) (area_of s before) → conflicts before s ≡ false → present ≤ page_just
 no_back before s page_just present page e none = ltb-false page_just present (or_parts _ _ (sym (conflict_is before s page_just present page e) ∙ none)).0
@@ -84,26 +75,14 @@ pub no_clash : (before : List Spot) (s : Spot) (page_just : ℕ) → is_glyph s 
     → list_any (clashes s) (after_last is_break (in_group page_just (area_of s before))) ≡ false
 no_clash before s page_just g page none = first_of (search (rules, conflict_is, or_parts), grind (arith, conflict_is, or_parts))
 
--- a character on a line with this clash, if its group is the present one
-clash_by : (before : List Spot) (s : Spot) (page_just present : ℕ) (clash : Bool) → present ≡ largest (λ (t : Spot). page_number t.at.page_just) (area_of s before)
-    → clash ≡ list_any (clashes s) (after_last is_break (in_group present (area_of s before)))
-    → (nat_lt page_just present || ((page_just == present) && clash)) ≡ (nat_lt page_just present || list_any (clashes s) (after_last is_break (in_group page_just (area_of s before))))
-clash_by before s page_just present clash e c = search (rules, back, cases_eq, cases_lt, eq-eqb, group_behind, lt-ltb, ne_eqb)
-
 pub conflicts_kept : (before : List Spot) (s : Spot) (page_just present : ℕ) (clash : Bool) → is_glyph s ≡ true → page_number s.at.page_just ≡ page_just → present ≡ largest (λ t. page_number t.at.page_just) (area_of s before)
     → clash ≡ list_any (clashes s) (after_last is_break (in_group present (area_of s before))) → (nat_lt page_just present || ((page_just == present) && clash)) ≡ conflicts before s
-conflicts_kept before s page_just present clash g page e c = clash_by before s page_just present clash e c ∙ conflicts_character before s page_just present g page e
+conflicts_kept before s page_just present clash g page e c = search (rules, back, cases_eq, cases_lt, conflict_is, eq-eqb, group_behind, lt-ltb, ne_eqb)
 
 -- FIT
 
 pub both_fit : (a b : Bool) → (a && b) ≡ not (not a || not b)
-both_fit true true = refl
-both_fit true false = refl
-both_fit false b = refl
-
-no_line : (b : Bool) → b ≡ not (not b)
-no_line true = refl
-no_line false = refl
+both_fit a b = search rules
 
 -- the present line of a character's group is its line
 pub present_line : (before : List Spot) (s : Spot) (page_just : ℕ) → is_glyph s ≡ true → page_number s.at.page_just ≡ page_just → after_last is_break (in_group page_just (area_of s before ++ s ∷ [])) ≡ line_before before s ++ s ∷ []
@@ -130,12 +109,7 @@ module _ {page height : ℕ} {old : Area} {most : ℕ} {reached : Bool} {new : A
   -- tells by it whether an item of that group conflicts
   pub reached_conflicts : (before : List Spot) (s : Spot) → old ≡ area_sum (area_of s before) → page_number s.at.page_just ≡ page
       → conflicts before s ≡ (not reached || (is_glyph s && list_any (clashes s) (after_last is_break (in_group page (area_of s before)))))
-  reached_conflicts before s e own =
-      conflict_is before s page old.present own (ap (λ (a : Area). a.present) e)
-      ∙ ap (λ b. b || (is_glyph s && list_any (clashes s) (after_last is_break (in_group page (area_of s before))))) (elim (cases_lt page old.present) [
-        | inl back ↦ lt-ltb page old.present back ∙ sym (ap not (r.order ∙ lt-leb old.present page back))
-        | inr on ↦ le-ltb page old.present on ∙ sym (ap not (r.order ∙ le-leb old.present page on))
-      ])
+  reached_conflicts before s e own = search (rules, back, cases_lt, group_goes_back, le-leb, le-ltb, lt-leb, lt-ltb)
 
   -- the limits of its present group and of its present line are known where they were
   pub reached_group : (2 ≤ old.present → most ≡ group_room old height) → most' ≡ group_room new height

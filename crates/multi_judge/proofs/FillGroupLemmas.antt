@@ -1,21 +1,15 @@
 -- The sums around the last space of a line, at one more character.
-use Rattle.multi_judge.proofs.Common.{◌≡◌, true, false, List, [], ◌∷◌, ◌++◌, Option, Some, None, sym, ap, subst, ◌∙◌, rules, arith, ◌≤◌, ◌<◌, ◌^◌, inl, inr, ℕ, Bool, cond, not, ◌&&◌, ◌==◌, refl, append_assoc, append-nil, or_parts, and_from, and_parts, false≢true, AllPass, list_any, after_last, All, option_map, list_any-append, nat_le, sum_by-append, All-nil, All-cons, All-head, All-tail, Spot, is_glyph, is_break, segment, CutAt, is_space, filled, clashes, le_test, open_line, open_line_is, cut_with, none_mapped, Cut, after_last_is, smaller_fits, ended_break, ended_glyph, line_number, char_gap, glyph_width, width_of, fit, line_fits, IsPlacing, ended_lines, Split, Character, Line, split_sum, EndsLine, IsCharacter, line_sum, IsBreak, group_sum, Group, PutsCharacter, FitsBefore, IsMost, segment_room, cut_at_last, longer, dropped, word_begins, word_grows, broken_line, breaks, drops, stands, stays, LaidAll, LaidAs, filled_laid, ended, ended_ends, ends_open, open_line_glyphs, filled_is, is_cut, All-around, glyphs_around, successive, info_of, parts_sum}
+use Rattle.multi_judge.proofs.Common.{◌≡◌, true, false, List, [], ◌∷◌, ◌++◌, Option, Some, None, sym, ap, subst, ◌∙◌, rules, arith, ◌≤◌, ◌<◌, ◌^◌, ℕ, Bool, not, refl, append_assoc, append-nil, or_parts, and_from, and_parts, false≢true, AllPass, list_any, after_last, All, option_map, list_any-append, nat_le, sum_by-append, All-nil, All-cons, All-head, All-tail, Spot, is_glyph, is_break, segment, CutAt, is_space, filled, clashes, le_test, open_line, open_line_is, cut_with, none_mapped, Cut, after_last_is, smaller_fits, ended_break, ended_glyph, width_of, fit, line_fits, IsPlacing, ended_lines, Split, Character, Line, split_sum, EndsLine, IsCharacter, line_sum, IsBreak, group_sum, Group, PutsCharacter, FitsBefore, IsMost, segment_room, cut_at_last, longer, dropped, word_begins, word_grows, broken_line, breaks, drops, stands, stays, LaidAll, LaidAs, filled_laid, ended, ended_ends, ends_open, open_line_glyphs, filled_is, is_cut, All-around, glyphs_around, info_of, parts_sum, common_steps}
 use Rattle.multi_judge.proofs.Sums.{some_mapped, all_glyphs, none_behind, relined, present_push}
 use Rattle.multi_judge.proofs.LimitLemmas.{fits_behind, none_before, told_behind}
-
--- what doesn't clash with a line doesn't with its end
-pub no_clash_behind : (s : Spot) (xs : List Spot) (x : Spot) (ys : List Spot) → list_any (clashes s) (xs ++ x ∷ ys) ≡ false → list_any (clashes s) ys ≡ false
-no_clash_behind s xs x ys e = (or_parts _ _ (or_parts _ _ (sym (list_any-append (clashes s) xs (x ∷ ys)) ∙ e)).1).1
 
 -- a line with a space has parts around it, and what doesn't clash with the line doesn't with the last one
 pub parts_of : (line : List Spot) (s : Spot) (split : Split) → AllPass is_glyph line → list_any (clashes s) line ≡ false → Some split ≡ split_sum line
     → (c : CutAt Spot) × (cut_at_last is_space line ≡ Some c) × (parts_sum c ≡ split) × AllPass is_glyph c.before × AllPass is_glyph c.behind × (list_any (clashes s) c.behind ≡ false)
 parts_of line s split glyphs apart o =
     let (c, found, same) = some_mapped parts_sum (cut_at_last is_space line) split (sym o) in
-    let parts = sym same in
     let at = is_cut is_space line c found in
-    let (before, behind) = glyphs_around c.before c.item c.behind (subst (AllPass is_glyph) at.parts glyphs) in
-    (c, found, parts, before, behind, no_clash_behind s c.before c.item c.behind (subst (λ l. list_any (clashes s) l ≡ false) at.parts apart))
+    search (rules, glyphs_around, list_any-append, or_parts)
 
 pub split_space : (line : List Spot) (s : Spot) (character : Character) → IsCharacter s character → is_space s ≡ true → (before none : Line) → before ≡ line_sum line → none ≡ line_sum []
     → ◌≡◌ {A = Option Split} (Some (record { before = before; font = character.font; behind = none })) (split_sum (line ++ s ∷ []))
@@ -38,16 +32,10 @@ split_word line s character glyphs is w apart split more o grows =
 
 -- a segment is as wide as what stands behind its first character, or wider
 wider : (x : Spot) (line : List Spot) → width_of line ≤ width_of (x ∷ line)
-wider x [] = omega arith
-wider x (y ∷ line) =
-    omega (arith, sum_by-append glyph_width (x ∷ []) (y ∷ line), sum_by-append (λ (pair : Spot × Spot). char_gap pair.0 pair.1) ((x, y) ∷ []) (successive (y ∷ line)))
+wider x line = grind (arith, common_steps, sum_by-append)
 
 segment_behind : (just : ℕ) (x : Spot) (line : List Spot) → width_of (segment just line) ≤ width_of (segment just (x ∷ line))
-segment_behind just x line = by_member (is_glyph x && (line_number x.at.line_just == just))
-  where
-    by_member : (b : Bool) → width_of (segment just line) ≤ width_of (cond b (x ∷ segment just line) (segment just line))
-    by_member true = wider x (segment just line)
-    by_member false = omega arith
+segment_behind just x line = search (rules, wider)
 
 -- what stands behind the front of a line that fits fits too
 part_fits : (width : ℕ) (front line : List Spot) → line_fits width (front ++ line) ≡ true → line_fits width line ≡ true
@@ -90,14 +78,12 @@ broken_at old split new ends front before behind space placing none first last g
     (ended ∙ ap group_sum (sym (append-nil ((front ++ before) ++ dropped space ∷ [])))) split.behind rest
 
 laid_one : (s t : Spot) → IsPlacing s → LaidAs s t → IsPlacing t
-laid_one s t h (inl e) = subst IsPlacing (sym e) h
-laid_one s t h (inr (glyph, e)) = subst IsPlacing (sym e) (inr refl)
+laid_one s t h laid = search rules
 
 laid_placing : (xs ys : List Spot) → All IsPlacing xs → LaidAll xs ys → All IsPlacing ys
 laid_placing [] [] h k = All-nil IsPlacing
-laid_placing [] (y ∷ ys) h k = absurd k
-laid_placing (x ∷ xs) [] h k = absurd k
 laid_placing (x ∷ xs) (y ∷ ys) h k = All-cons IsPlacing y ys (laid_one x y (All-head IsPlacing x xs h) k.0) (laid_placing xs ys (All-tail IsPlacing x xs h) k.1)
+laid_placing _ _ h k = absurd k
 
 -- the items of a filled group are placing items
 pub filled_placing : (o : Option ℕ) (group : List Spot) → All IsPlacing group → All IsPlacing (filled o group)

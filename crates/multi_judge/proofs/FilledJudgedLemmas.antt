@@ -1,8 +1,6 @@
 -- What is kept behind one more tag, where lines are filled.
-use Rattle.multi_judge.proofs.Common.{order_of, inl, inr, nat_lt, ◌≡◌, ℕ, ◌≤◌, ◌<◌, ◌^◌, true, false, List, [], ◌∷◌, ◌++◌, Option, Some, None, Result, Ok, Err, refl, sym, ap, subst, ◌∙◌, arith, append-nil, ◌&&◌, rules, Bool, cond, not, ◌||◌, ◌==◌, after_last, list_any, cases_eq, le-leb, Tag, NewPage, NewLine, Rect, page_number, LineFill, Off, Words, SignData, CellData, cell_in, cell_numbered, SyntaxError, Break, Spot, Standing, in_area, in_group, is_break, spots, standing, Glyph, area_of, group_of, filled, is_space, line_fits, area_fits, too_big, laid_items, Meaning, Does, Shows, conflicts, offence, clashes, first_code, never_big, unsized_offence, present_area, largest, in_group_other, own_group, placing_group, area_placing, nothing_fits, largest_laid, are_laid, offence-break, no_conflict, standing_push, present_area-new, present_area-placing, offence-character, largest_push, SizedCell, page_number_known, area_sum, IsSmall, IsCharacter, line_sum, Area, Pass, State, IsFilledOf, begins_line, order_sum, split_sum, EndsLine, AreaFits, IsJudged, IsPassOf, IsFilledOn, IsPlacing, All, IsLimited, IsStateOf, attributes_of, Split, Character, Line, Attributes, is_within, FitsBefore, Limits, filled_break, offends_as_laid, laid_tag, fits_next, after_last_push}
+use Rattle.multi_judge.proofs.Common.{order_of, inl, inr, nat_lt, ◌≡◌, ℕ, ◌≤◌, ◌<◌, ◌^◌, true, false, List, [], ◌∷◌, ◌++◌, Option, Some, None, Result, Ok, Err, refl, sym, ap, subst, ◌∙◌, arith, append-nil, ◌&&◌, rules, Bool, cond, not, ◌||◌, ◌==◌, after_last, list_any, cases_eq, le-leb, Tag, NewPage, NewLine, Rect, page_number, LineFill, Off, Words, SignData, CellData, cell_in, cell_numbered, SyntaxError, Break, Spot, Standing, in_area, in_group, is_break, spots, standing, Glyph, area_of, group_of, filled, is_space, line_fits, area_fits, too_big, laid_items, Meaning, Does, Shows, conflicts, offence, clashes, first_code, never_big, unsized_offence, present_area, largest, in_group_other, own_group, placing_group, area_placing, nothing_fits, largest_laid, are_laid, offence-break, no_conflict, standing_push, present_area-new, present_area-placing, offence-character, largest_push, SizedCell, page_number_known, area_sum, IsSmall, IsCharacter, line_sum, Area, Pass, State, IsFilledOf, begins_line, order_sum, split_sum, EndsLine, AreaFits, IsJudged, IsPassOf, IsFilledOn, IsPlacing, All, IsLimited, IsStateOf, attributes_of, Split, Character, Line, Attributes, is_within, FitsBefore, Limits, filled_break, offends_as_laid, laid_tag, fits_next, after_last_push, code_of, groups_laid, same_fill}
 use Rattle.multi_judge.proofs.Sums.{area_stays, cell_found, cell_missing, no_back, empty_area, both_fit, no_clash, present_glyphs}
-use Rattle.multi_meaning.specs.Codes.{code_of}
-use Rattle.multi_meaning.proofs.LaidItemLemmas.{groups_laid, same_fill}
 use Rattle.multi_meaning.specs.kept.FillOpen.{AllOpenFit}
 use Rattle.multi_judge.proofs.LimitLemmas.{limited_none, area_told, open_told, groups_fit_before}
 use Rattle.multi_judge.proofs.FilledStateLemmas.{area_with, conflicts_by, doesn't_fit, goes_behind, offends_by, offends_without, present_is, shown, no_clash_filled}
@@ -23,9 +21,6 @@ group_laid sign items just =
     (λ i. in_group just (in_area (here i).area (are i)))
     ∙ groups_laid Words (standing sign items).rectangle.width (standing sign items).area (spots sign items) (record { at = standing sign items; put = Break None }) refl (same_fill Words sign items) just
 
-no_height : (height : ℕ) → area_fits height [] ≡ true
-no_height height = ap (λ b. b && true) (le-leb 0 height (omega arith))
-
 -- what is kept where an area begins
 pub filled_start : (sign : SignData) (items : List Meaning) (state : State) → IsStateOf sign (laid_items Words sign items items) state → present_area sign items ≡ []
     → IsFilledOf sign items (record { state = state; split = None; order = 0 })
@@ -36,7 +31,7 @@ filled_start sign items state st none =
     empty_area (present_area sign laid) (sym (ap (λ (a : Area). a.present) st.area) ∙ present_laid sign items state st ∙ ap (largest (λ (t : Spot). page_number t.at.page_just)) none) in
     record {
       limited = limited_none state (st.area ∙ ap area_sum empty);
-      area_fits = ap (area_fits (standing sign laid).rectangle.height) empty ∙ no_height (standing sign laid).rectangle.height;
+      area_fits = rw empty (search (rules, le-leb));
       state_is = st;
       split_is = sym (ap (λ (area : List Spot). split_sum (after_last is_break (filled (Some width) (in_group state.area.present area)))) none);
       order_is = sym (ap (λ (area : List Spot). order_sum (after_last is_break (in_group state.area.present area))) none);
@@ -50,19 +45,11 @@ pub filled_of : (sign : SignData) (items more : List Meaning) (old new : Pass) �
     → (group : List Spot) → in_group page (present_area sign more) ≡ group → new.split ≡ split_sum (after_last is_break (filled (Some (standing sign items).rectangle.width) group))
     → order_of new.order ≡ order_sum (after_last is_break group) → line_fits (standing sign items).rectangle.width (after_last is_break (filled (Some (standing sign items).rectangle.width) group)) ≡ true → IsFilledOf sign more new
 filled_of sign items more old new of st limited high width page present others group own split order fits =
-    let here : group ≡ in_group new.state.area.present (present_area sign more) = sym (ap (λ j. in_group j (present_area sign more)) present ∙ own) in
     let all : AllOpenFit (Some (standing sign more).rectangle.width) (present_area sign more) = λ just. elim (cases_eq page just) [
       | inl same ↦ (λ i. line_fits (width i) (after_last is_break (filled (Some (width i)) ((ap (λ j. in_group j (present_area sign more)) (sym same) ∙ own) i)))) ∙ fits
       | inr differ ↦ (λ i. line_fits (width i) (after_last is_break (filled (Some (width i)) (others just differ i)))) ∙ of.fits just
     ] in
-    record {
-      state_is = st;
-      split_is = split ∙ (λ i. split_sum (after_last is_break (filled (Some (sym width i)) (here i))));
-      order_is = order ∙ ap (λ g. order_sum (after_last is_break g)) here;
-      limited = limited;
-      area_fits = high;
-      fits = all;
-    }
+    search (rules, fits, order, width)
 
 module _ (sign : SignData) (items : List Meaning) (kept : Pass) (of : IsFilledOf sign items kept) (tag : Tag) (state : State)
     (st : IsStateOf sign (laid_items Words sign items items ++ Does tag ∷ []) state) (limited : IsLimited state) (fine : offence Off sign (laid_items Words sign items items) (Does tag) ≡ None) where
@@ -145,16 +132,13 @@ module _ (sign : SignData) (items : List Meaning) (kept : Pass) (of : IsFilledOf
   abbrev laid : List Meaning
   laid = laid_items Words sign items items
 
-  width_stays : (tag : Tag) → begins_line tag ≡ false → (standing sign (items ++ Does tag ∷ [])).rectangle.width ≡ (standing sign items).rectangle.width
-  width_stays tag e = search (rules, standing_push, width)
-
   as_laid : sign.line_fill ≡ Words → (tag : Tag) → offence sign.line_fill sign items (Does tag) ≡ offence Off sign laid (Does tag)
   as_laid words tag = ap (λ (setting : LineFill). offence setting sign items (Does tag)) words ∙ offends_as_laid sign items tag
 
   pub judged-stays : sign.line_fill ≡ Words → (tag : Tag) (result : Result (Unit {0}) SyntaxError) (state : State) → begins_line tag ≡ false → IsLimited state → IsJudged sign laid (Does tag) result state
       → IsTagJudged true sign items (Does tag) result (record { state = state; split = kept.split; order = kept.order })
   judged-stays words tag (Err error) state e limited j = as_laid words tag ∙ j
-  judged-stays words tag (Ok done) state e limited j = (as_laid words tag ∙ j.0, record { words = words; of = stays sign items kept of tag state j.1 limited j.0 (area_stays sign items tag e) (width_stays tag e) })
+  judged-stays words tag (Ok done) state e limited j = (as_laid words tag ∙ j.0, record { words = words; of = stays sign items kept of tag state j.1 limited j.0 (area_stays sign items tag e) (search (rules, standing_push)) })
 
   begins : (tag : Tag) (state : State) → IsStateOf sign (laid ++ Does tag ∷ []) state → present_area sign (items ++ Does tag ∷ []) ≡ []
       → IsFilledOf sign (items ++ Does tag ∷ []) (record { state = state; split = None; order = 0 })
@@ -180,10 +164,7 @@ FillsArea just width area split character space area' split' ended =
     → (area' ≡ area_sum new) × (split' ≡ split_sum (after_last is_break (filled (Some width) (group ++ s ∷ [])))) × EndsLine (filled (Some width) group) (filled (Some width) (group ++ s ∷ [])) ended × FitsBefore width area'.group.line
 
 size_by : (fits big : Bool) → fits ≡ not big → first_code ((false, 11) ∷ (big, 5) ∷ []) ≡ cond fits None (Some 5)
-size_by true true e = cc
-size_by true false e = refl
-size_by false true e = refl
-size_by false false e = cc
+size_by fits big e = search rules
 
 module _ (sign : SignData) (items : List Meaning) (kept : Pass) (of : IsFilledOf sign items kept) where
   -- the next item stands where it does among the items as they are laid out

@@ -1,16 +1,7 @@
 -- What is kept of the items of a string as they are laid out, behind one more character.
-use Rattle.multi_judge.proofs.Common.{nat_lt, ◌≡◌, ℕ, ◌+◌, Bool, true, false, cond, List, [], ◌∷◌, ◌++◌, length, Option, Some, None, refl, sym, ap, subst, ◌∙◌, arith, append_assoc, append-nil, rules, not, ◌&&◌, ◌||◌, ◌==◌, zero, suc, cons_option, after_last, list_any, All, eq-eqb, le-ltb, or_parts, list_any-append, LineFill, SignData, CellData, cell_numbered, font_numbered, Glyph, Standing, in_area, spots, standing, Spot, area_of, group_of, in_group, is_break, too_big, laid_item, laid_items, Meaning, Shows, is_new_page, present_area, standing_behind, IsFilledOn, IsPlacing, Times, cycle, ended_times, times_at, pages_of, are_laid, largest_laid, standing_push, each_after_push, push_ind, some_after_push, after_last_is, cut, largest_push, page_number, line_number, Words, area_fits, line_fits, clashes, conflicts, first_code, offence, offence_by, largest, CutAt, filled, open_line, open_line_is, Area, Limits, State, IsStateOf, attributes_of, area_sum, line_sum, Order, order_sum, laid, filled_on, same_width, too_big_laid, spots_more, character_cases, soft_break, broken_parts, parts, parts_off}
-use Rattle.multi_judge.proofs.Sums.{cycle-stays, conflicts_kept, no_back, any_more, in_order, line_clashes}
+use Rattle.multi_judge.proofs.Common.{nat_lt, ◌≡◌, ℕ, ◌+◌, Bool, false, List, [], ◌∷◌, ◌++◌, length, Option, Some, None, refl, sym, ap, subst, ◌∙◌, arith, append_assoc, append-nil, rules, not, ◌&&◌, ◌||◌, ◌==◌, zero, suc, after_last, list_any, All, eq-eqb, le-ltb, or_parts, list_any-append, LineFill, SignData, CellData, cell_numbered, font_numbered, Glyph, Standing, in_area, spots, standing, Spot, area_of, group_of, in_group, is_break, too_big, laid_items, Meaning, Shows, present_area, standing_behind, IsFilledOn, IsPlacing, cycle, ended_times, pages_of, are_laid, largest_laid, standing_push, each_after_push, push_ind, some_after_push, after_last_is, cut, largest_push, page_number, line_number, Words, area_fits, line_fits, clashes, conflicts, first_code, offence, offence_by, largest, CutAt, filled, open_line, open_line_is, Area, Limits, State, IsStateOf, attributes_of, area_sum, line_sum, Order, order_sum, laid, filled_on, same_width, too_big_laid, spots_more, character_cases, soft_break, broken_parts, parts, parts_off, IfSome, ◌≤◌, any_largest, cases_eq, cases_lt, ne_eqb, false≢true, lt-ltb, inl, inr, split_sum, parts_sum, cut_at_last, is_space, is_cut, option_map, common_steps, IsOrderedBy}
+use Rattle.multi_judge.proofs.Sums.{cycle-stays, conflicts_kept, no_back, in_order, line_clashes}
 use Rattle.std.proofs.Math.Bool.{or_comm}
-use Rattle.multi_judge.proofs.RunLemmas.{not_full, or_same}
-use Rattle.multi_judge.specs.FilledState.{IsOrderedBy}
-use Rattle.multi_judge.proofs.Common.{IfSome, ◌≤◌, any_largest, cases_lt, false≢true, lt-ltb, inl, inr, split_sum, parts_sum, cut_at_last, is_space, is_cut, option_map}
-
-one_of : (b c : Bool) → cond {A = ℕ} b 1 0 ≡ cond c 1 0 → b ≡ c
-one_of true true e = refl
-one_of true false e = absurd (omega (arith, e))
-one_of false true e = absurd (omega (arith, e))
-one_of false false e = refl
 
 -- the pages of items are counted by where they stand
 pub pages_at : (sign : SignData) (xs ys : List Meaning) → (standing sign xs).page ≡ (standing sign ys).page → pages_of xs ≡ pages_of ys
@@ -18,26 +9,13 @@ unfolding standing
 pages_at sign xs ys e = ap (λ n. n + 1) e
 
 module _ (setting : LineFill) (sign : SignData) where
-  -- what is laid of a new page is a new page
-  pub same_page : (all some more : List Meaning) (x : Meaning) → all ≡ some ++ x ∷ more → is_new_page (laid_item setting sign all some x) ≡ is_new_page x
-  same_page all some more x is = search (rules, append_assoc, are_laid, each_after_push, standing_push)
-
   -- the pages that are ended have the same times
   pub same_times : (all some more : List Meaning) → all ≡ some ++ more → ended_times sign (laid_items setting sign all some) ≡ ended_times sign some
   same_times all = push_ind (λ some. (more : List Meaning) → all ≡ some ++ more → ended_times sign (laid_items setting sign all some) ≡ ended_times sign some) (λ more is. refl) step
     where
       step : (some : List Meaning) (x : Meaning) → ((more : List Meaning) → all ≡ some ++ more → ended_times sign (laid_items setting sign all some) ≡ ended_times sign some)
           → (more : List Meaning) → all ≡ (some ++ x ∷ []) ++ more → ended_times sign (laid_items setting sign all (some ++ x ∷ [])) ≡ ended_times sign (some ++ x ∷ [])
-      step some x ih more is =
-          let is' : all ≡ some ++ x ∷ more = is ∙ append_assoc some (x ∷ []) more in
-          let y = laid_item setting sign all some x in
-          let f : List Meaning → Meaning → Option Times = λ before item. cond (is_new_page item) (Some (times_at (standing sign before))) None in
-          ap (ended_times sign) (each_after_push (laid_item setting sign all) some x)
-          ∙ some_after_push f (laid_items setting sign all some) y
-          ∙ ap (λ l. l ++ cons_option (f (laid_items setting sign all some) y) []) (ih (x ∷ more) is')
-          ∙ ap (λ b. ended_times sign some ++ cons_option (cond b (Some (times_at (standing sign (laid_items setting sign all some)))) None) []) (same_page all some more x is')
-          ∙ ap (λ s. ended_times sign some ++ cons_option (cond (is_new_page x) (Some (times_at s)) None) []) (are_laid setting sign all some (x ∷ more) is').0
-          ∙ sym (some_after_push f some x)
+      step some x ih more is = search (rules, append_assoc, are_laid, each_after_push, standing_push, some_after_push)
 
   -- the state of the laid items behind one more character, from its area alone
   module _ (items : List Meaning) (number : ℕ) (cell : CellData) (found : cell_numbered (standing sign items).font number ≡ Some cell) where
@@ -80,10 +58,7 @@ module _ (setting : LineFill) (sign : SignData) where
         }
       where
         unchanged : standing sign items ≡ standing_behind sign (standing sign items) (Shows number)
-        unchanged = λ i. record (standing sign items) { page = plus_zero (standing sign items).page i; area = plus_zero (standing sign items).area i }
-          where
-            plus_zero : (n : ℕ) → n ≡ n + 0
-            plus_zero n = omega arith
+        unchanged = search rules
 
 module _ (sign : SignData) (items : List Meaning) (number : ℕ) (cell : CellData) (found : cell_numbered (standing sign items).font number ≡ Some cell) where
   abbrev with_glyph : List Meaning
@@ -126,10 +101,7 @@ module _ (sign : SignData) (items : List Meaning) (number : ℕ) (cell : CellDat
       let width = shown.at.rectangle.width in
       let order = no_back all shown (page_number shown.at.page_just) (largest (λ t. page_number t.at.page_just) (area_of shown all)) refl refl apart in
       let on = filled_on Words width all shown refl (same_width sign items (Glyph cell)) order in
-      let before = laid_area Words sign items number cell found in
-      let behind = laid_area_more Words sign items number cell found in
-      subst (λ l. IsFilledOn (page_number shown.at.page_just) width (group_of shown all) shown l area_with) (sym before)
-      (subst (λ l. IsFilledOn (page_number shown.at.page_just) width (group_of shown all) shown (in_area shown.at.area (laid Words all all)) l) (sym behind) on)
+      search (rules, area_with, laid_area, laid_area_more)
 
   pub offends_by : offence Words sign items (Shows number) ≡ first_code ((conflicts (spots sign items) shown, 11) ∷ (doesn't_fit, 5) ∷ [])
   unfolding offence_by
@@ -200,16 +172,12 @@ order_more line s just parts is apart e =
     let most : largest (λ (t : Spot). line_number t.at.line_just) (line ++ s ∷ []) ≡ just =
     let least = in_order line s (line_sum line) refl apart in
     omega (arith, least, is, largest_push (λ (t : Spot). line_number t.at.line_just) line s) in
-    let some : list_any (λ (t : Spot). nat_lt (line_number t.at.line_just) 5) (line ++ s ∷ []) ≡ (nat_lt just 5 || parts) =
-    any_more (λ (t : Spot). nat_lt (line_number t.at.line_just) 5) line s ∙ ap (λ b. b || nat_lt (line_number s.at.line_just) 5) (sym e) ∙ ap (λ n. parts || nat_lt n 5) is ∙ or_comm parts (nat_lt just 5) in
-    rw (most, some) refl
+    search (rules, list_any-append, or_comm)
 
 -- a character with the justification of the last one clashes with none
 pub order_apart : (line : List Spot) (s : Spot) (order : Order) → order ≡ order_sum line → order.largest ≡ line_number s.at.line_just → order.has_parts ≡ nat_lt (line_number s.at.line_just) 5 → list_any (clashes s) line ≡ false
-order_apart line s order e largest_is parts = search (rules, le-ltb, line_clashes, not_full, parts)
+order_apart line s order e largest_is parts = search (rules, cases_eq, le-ltb, line_clashes, ne_eqb, parts)
 
 -- and leaves it as it is
 pub order_stays : (line : List Spot) (s : Spot) (order : Order) → order ≡ order_sum line → order.largest ≡ line_number s.at.line_just → order.has_parts ≡ nat_lt (line_number s.at.line_just) 5 → order ≡ order_sum (line ++ s ∷ [])
-order_stays line s order e largest_is parts =
-    (λ i. let o : Order = record { largest = largest_is i; has_parts = (parts ∙ or_same (nat_lt (line_number s.at.line_just) 5)) i } in o)
-    ∙ order_more line s (line_number s.at.line_just) (nat_lt (line_number s.at.line_just) 5) refl (order_apart line s order e largest_is parts) (sym parts ∙ ap (λ (o : Order). o.has_parts) e)
+order_stays line s order e largest_is parts = grind (arith, common_steps, order_apart, order_more)

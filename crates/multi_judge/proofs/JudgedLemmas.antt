@@ -1,5 +1,5 @@
 -- What is judged of tags and of characters, by the state.
-use Rattle.multi_judge.proofs.Common.{ℕ, ◌+◌, ◌≤◌, Option, Some, None, arith, rules, ◌≡◌, true, false, cond, inl, inr, List, [], ◌∷◌, ◌++◌, refl, sym, ap, ◌∙◌, append-nil, not, ◌==◌, subst, nat_lt, count_by, cons_option, option_map, unwrap_or, option_map_or, cases_Bool, eq-eqb, eqb-true, sum_by-append, Tag, Back, NewLine, NewPage, Rect, Off, too_big, SizedCell, SignData, CellData, FontData, cell_in, cell_numbered, font_numbered, FontInfo, Cover, Glyph, spots, standing, Meaning, Shows, Does, is_new_page, conflicts, never_big, offence, unsized_offence, offence_by, present_area, standing_behind, Times, cycle, ended_times, times_at, pages_of, offence-undefined, offence-character, standing_push, present_area-nothing, present_area-cover, present_area-new, some_after_push, none_mapped, Area, area_sum, begins_line, Attributes, Limits, State, IsReady, IsSmall, IsStateOf, attributes_of, find, option_and_then, same_Some, sum_by_push, Font, info_of, sized, default_line_just, default_page_just, whole_sign, is_inside, offence-page, offence-rectangle, offence-font, offence-no_font, IsSimple}
+use Rattle.multi_judge.proofs.Common.{ℕ, ◌+◌, ◌≤◌, Option, Some, None, arith, rules, ◌≡◌, true, false, cond, List, [], ◌∷◌, ◌++◌, refl, sym, ap, ◌∙◌, append-nil, not, ◌==◌, nat_lt, count_by, cons_option, option_map, unwrap_or, option_map_or, cases_Bool, eqb-true, sum_by-append, Tag, Back, NewLine, NewPage, Rect, Off, too_big, SizedCell, SignData, CellData, FontData, cell_in, cell_numbered, font_numbered, FontInfo, Cover, Glyph, spots, standing, Meaning, Shows, Does, is_new_page, conflicts, never_big, offence, unsized_offence, offence_by, present_area, standing_behind, cycle, ended_times, times_at, pages_of, offence-undefined, offence-character, standing_push, present_area-nothing, present_area-cover, present_area-new, some_after_push, none_mapped, Area, area_sum, begins_line, Attributes, Limits, State, IsReady, IsSmall, IsStateOf, attributes_of, find, option_and_then, same_Some, sum_by_push, Font, info_of, sized, default_line_just, default_page_just, whole_sign, is_inside, offence-page, offence-rectangle, offence-font, offence-no_font, IsSimple, common_steps}
 use Rattle.multi_tag.specs.declared.tag.FontPick.{FontPick}
 
 -- ---- pages and times
@@ -11,27 +11,19 @@ pub ended_times-push : (sign : SignData) (items : List Meaning) (x : Meaning)
     → ended_times sign (items ++ x ∷ []) ≡ ended_times sign items ++ cons_option (cond (is_new_page x) (Some (times_at (standing sign items))) None) []
 ended_times-push sign items x = some_after_push (λ before item. cond (is_new_page item) (Some (times_at (standing sign before))) None) items x
 
-cycle-append : (a b : List Times) → cycle (a ++ b) ≡ cycle a + cycle b
-cycle-append a b = sum_by-append (λ (t : Times). t.on + t.off) a b
-
 pub cycle-stays : (sign : SignData) (items : List Meaning) (x : Meaning) → is_new_page x ≡ false → cycle (ended_times sign (items ++ x ∷ [])) ≡ cycle (ended_times sign items)
 cycle-stays sign items x same = first_of (search (rules, append-nil, ended_times-push), grind (arith, append-nil, ended_times-push))
 
 pub cycle-grows : (sign : SignData) (items : List Meaning) (x : Meaning) → is_new_page x ≡ true
     → cycle (ended_times sign (items ++ x ∷ [])) ≡ cycle (ended_times sign items) + ((standing sign items).on + (standing sign items).off)
-cycle-grows sign items x new = search (rules, cycle-append, ended_times-push)
+cycle-grows sign items x new = search (rules, ended_times-push, sum_by-append)
 
 -- ---- a font in force is one of the sign's
 
 -- the font that was found has the number that was asked for
-found_number : (fonts : List FontData) (n : ℕ) (font : FontData) → find (λ f. f.number == n) fonts ≡ Some font → font.number ≡ n
+pub found_number : (fonts : List FontData) (n : ℕ) (font : FontData) → find (λ f. f.number == n) fonts ≡ Some font → font.number ≡ n
 found_number [] n font e = cc
-found_number (f ∷ fonts) n font e = elim (cases_Bool (f.number == n)) [
-  | inl here ↦
-      let is : Some f ≡ Some font = sym (ap (λ b. cond b (Some f) (find (λ g. g.number == n) fonts)) here) ∙ e in
-      ap (λ (g : FontData). g.number) (sym (same_Some f font is)) ∙ eqb-true f.number n here
-  | inr there ↦ found_number fonts n font (sym (ap (λ b. cond b (Some f) (find (λ g. g.number == n) fonts)) there) ∙ e)
-]
+found_number (f ∷ fonts) n font e = search (rules, cases_Bool, eqb-true, found_number fonts n font)
 
 pub found_again : (sign : SignData) (n : ℕ) (font : FontData) → font_numbered sign n ≡ Some font → font_numbered sign font.number ≡ Some font
 found_again sign n font e = ap (font_numbered sign) (found_number sign.fonts n font e) ∙ e
@@ -42,8 +34,7 @@ cell_of_font sign font number e = ap (option_and_then (λ f. option_map (sized f
 
 -- what a function made of a value that there may be, it made of one that there is
 pub some_mapped : {X Y : Type 0} (f : X → Y) (o : Option X) (y : Y) → option_map f o ≡ Some y → (x : X) × (o ≡ Some x) × (y ≡ f x)
-some_mapped f None y e = cc
-some_mapped f (Some x) y e = (x, refl, sym (same_Some (f x) y e))
+some_mapped f o y e = search (rules, same_Some)
 
 -- ---- one more item that begins no page
 
@@ -70,8 +61,7 @@ pub state-attribute : (sign : SignData) (items : List Meaning) (state : State) (
     → is_new_page x ≡ false → present_area sign (items ++ x ∷ []) ≡ present_area sign items → attributes ≡ attributes_of (standing_behind sign (standing sign items) x)
     → font_numbered sign (standing_behind sign (standing sign items) x).font.number ≡ Some (standing_behind sign (standing sign items) x).font
     → attributes.rectangle ≡ state.attributes.rectangle → IsStateOf sign (items ++ x ∷ []) (record state { attributes = attributes })
-state-attribute sign items state attributes x st page area is font same =
-    state-same_page sign items state (record state { attributes = attributes }) x st page refl refl is (st.area ∙ ap area_sum (sym area)) font (subst IsSmall (sym same) st.small)
+state-attribute sign items state attributes x st page area is font same = search (rules, cycle-stays, pages_of-push, standing_push)
 
 -- what the items so far make of a state doesn't hang on its limits
 pub state-limits : (sign : SignData) (items : List Meaning) (state new : State) → new ≡ record state { area = new.area; limits = new.limits } → IsStateOf sign items (record state { area = new.area }) → IsStateOf sign items new
@@ -83,33 +73,20 @@ pub shown_free : (sign : SignData) (items : List Meaning) (number : ℕ) (cell :
 shown_free sign items number cell found fine = grind (arith, offence-character never_big sign items number cell found)
 
 module _ (sign : SignData) (items : List Meaning) (state : State) (st : IsStateOf sign items state) where
-  -- the font in force
-  font_number : state.attributes.font.number ≡ (standing sign items).font.number
-  font_number = ap (λ (a : Attributes). a.font.number) st.attributes
-
-  cell_is : (number : ℕ) → cell_in sign state.attributes.font.number number ≡ option_map (sized (standing sign items).font) (cell_numbered (standing sign items).font number)
-  cell_is number = ap (λ n. cell_in sign n number) font_number ∙ cell_of_font sign (standing sign items).font number st.font
-
   pub cell_missing : (number : ℕ) → cell_in sign state.attributes.font.number number ≡ None → cell_numbered (standing sign items).font number ≡ None
-  cell_missing number none = first_of (search (rules, cell_is, none_mapped), grind (arith, cell_is, none_mapped))
-
-  pub judged-undefined : (number : ℕ) → cell_in sign state.attributes.font.number number ≡ None → offence Off sign items (Shows number) ≡ Some 7
-  judged-undefined number none = offence-undefined (too_big Off) sign items number (cell_missing number none)
+  cell_missing number none = first_of (search (rules, cell_of_font, none_mapped), grind (arith, cell_of_font, none_mapped))
 
   pub unsized-undefined : (number : ℕ) → cell_in sign state.attributes.font.number number ≡ None → unsized_offence sign items (Shows number) ≡ Some 7
   unsized-undefined number none = offence-undefined never_big sign items number (cell_missing number none)
 
   pub cell_found : (number : ℕ) (c : SizedCell) → cell_in sign state.attributes.font.number number ≡ Some c
       → (cell : CellData) × (cell_numbered (standing sign items).font number ≡ Some cell) × (c.width ≡ cell.width)
-  cell_found number c some = search (rules, cell_is)
+  cell_found number c some = search (rules, cell_of_font)
 
   -- ---- new pages and rectangles
 
-  pages_are : count_by is_new_page items + 2 ≡ state.pages + 1
-  pages_are = omega (arith, st.pages)
-
   pub judged-page : offence Off sign items (Does NewPage) ≡ cond (nat_lt sign.max_pages (state.pages + 1)) (Some 12) None
-  judged-page = offence-page (too_big Off) sign items ∙ ap (λ n. cond (nat_lt sign.max_pages n) (Some 12) None) pages_are
+  judged-page = let pages : count_by is_new_page items + 2 ≡ state.pages + 1 = omega (arith, st.pages) in offence-page (too_big Off) sign items ∙ ap (λ n. cond (nat_lt sign.max_pages n) (Some 12) None) pages
 
   -- a new page: the times of the one before are ended, and the whole sign and an empty area begin
   pub state-page : (new : State) → new.pages ≡ state.pages + 1 → new.cycle ≡ state.cycle + (state.attributes.on + state.attributes.off)
@@ -162,11 +139,7 @@ state-rectangle sign items state new x y w h st pages times attributes area smal
 
 -- a tag that is none of these is a simple one
 pub simple_of : (tag : Tag) → (tag ≡ NewPage → ⊥) → ((gap : Option ℕ) → tag ≡ NewLine gap → ⊥) → ((pick : Option FontPick) → tag ≡ Font pick → ⊥) → ((x y w h : ℕ) → tag ≡ Rect x y w h → ⊥) → IsSimple tag
-simple_of NewPage a b c d = a refl
-simple_of (NewLine gap) a b c d = b gap refl
-simple_of (Font pick) a b c d = c pick refl
-simple_of (Rect x y w h) a b c d = d x y w h refl
-simple_of tag a b c d = tt
+simple_of tag page line font rect = search rules
 
 module _ (sign : SignData) (items : List Meaning) (state : State) (st : IsStateOf sign items state) (attributes : Attributes) where
   abbrev pub After : Tag → Type 0
@@ -187,16 +160,13 @@ module _ (sign : SignData) (items : List Meaning) (state : State) (st : IsStateO
   -- a font: the values in force have its numbers
   pub judged-font : (pick : Option FontPick) (font : FontData) → (standing_behind sign (standing sign items) (Does (Font pick))).font ≡ font → font_numbered sign font.number ≡ Some font
       → attributes ≡ record state.attributes { font = info_of font } → offence Off sign items (Does (Font pick)) ≡ None → CheckedData (Font pick)
-  judged-font pick font new own is fine =
-      let x = Does (Font pick) in
-      let after : attributes ≡ attributes_of (standing_behind sign (standing sign items) x) =
-      is ∙ ap (λ (a : Attributes). let b : Attributes = record a { font = info_of font } in b) st.attributes
-      ∙ ap (λ (f : FontData). let b : Attributes = record (attributes_of (standing sign items)) { font = info_of f } in b) (sym new) in (
-        fine,
-        state-attribute sign items state attributes x st refl (area_stays sign items (Font pick) refl) after (subst (λ (f : FontData). font_numbered sign f.number ≡ Some f) (sym new) own) (ap (λ (a : Attributes). a.rectangle) is),
-      )
+  judged-font pick font new own is fine = grind (arith, common_steps, area_stays, cycle-stays, pages_of-push, standing_push)
 
 -- FONTS
+
+-- a font that is found by its number has it
+pub info_number : (sign : SignData) (number : ℕ) (info : FontInfo) → option_map info_of (font_numbered sign number) ≡ Some info → info.number ≡ number
+info_number sign number info is = search (rules, found_number, some_mapped)
 
 -- the default font
 pub judged-default_font : (sign : SignData) (items : List Meaning) (state : State) (st : IsStateOf sign items state) (info : FontInfo)
@@ -214,8 +184,7 @@ judged-no_font sign items pick none = offence-no_font (too_big Off) sign items p
 
 -- the version that is asked for is another, where the font doesn't agree with it
 other_version : (o : Option ℕ) (n : ℕ) → option_map_or (λ v. not (v == n)) o false ≡ not (unwrap_or o n == n)
-other_version None n = ap not (sym (eq-eqb n n refl))
-other_version (Some v) n = refl
+other_version o n = search rules
 
 -- a font of another version
 pub judged-version : (sign : SignData) (items : List Meaning) (pick : FontPick) (info : FontInfo) → option_map info_of (font_numbered sign pick.number) ≡ Some info

@@ -3,10 +3,12 @@ pub mod Common
 pub mod FillGroupLemmas
 pub mod FilledJudgedLemmas
 pub mod FilledStateLemmas
+pub mod GoneLemmas
 pub mod JudgedLemmas
 pub mod Lemmas
 pub mod LimitLemmas
 pub mod LineSumLemmas
+pub mod LookLemmas
 pub mod PassedLemmas
 pub mod PlaceLemmas
 pub mod PlacingLemmas

@@ -1,26 +1,15 @@
 -- What fits behind one more character, where what was before it fits: only the present segment and the present group can be too much.
-use Rattle.multi_judge.proofs.Common.{◌==◌, ◌≡◌, ℕ, ◌≤◌, Bool, true, List, [], ◌∷◌, ◌++◌, refl, ap, arith, rules, inl, inr, false, cond, ◌&&◌, not, Option, Some, None, sym, subst, ◌∙◌, nat_le, if◌then◌else◌, All, AllPass, list_any, and_from, and_parts, cases_eq, eq-eqb, ne_eqb, false≢true, le-leb, nat_tests, All-head, All-push, line_number, page_number, le_test, nothing_fits, Off, SignData, cell_in, Spot, in_group, lines_of, segment, spots, standing, Standing, area_of, is_glyph, line_before, area_fits, fit, line_fits, height_of, width_of, Meaning, Does, Shows, offence, clashes, conflicts, IsPlacing, present_area, some_after, largest, smaller_fits, each_just, area_placing, in_group_other, area_fits_always, too_big, largest_most, largest_push, line_number_known, page_number_known, SizedCell, NewLine, Area, Line, group_room, AreaFits, IsLimited, IsMost, IsStateOf, segment_room, FitsBefore, kept_height, kept_width, lengthened_line, IsBehindCharacter, is_within, kept_fits, area_sum, line_sum, held, ◌^◌, ◌<◌, IsSmall, Group, State, Attributes, AddsCharacter, character_of, FitsWithout, room_for, room_end, room_middle, room_start, lines_fit_always, AddsBreak}
+use Rattle.multi_judge.proofs.Common.{◌==◌, ◌≡◌, ℕ, ◌≤◌, Bool, true, List, [], ◌∷◌, ◌++◌, refl, ap, arith, rules, inl, inr, false, cond, not, Option, Some, None, sym, subst, ◌∙◌, nat_le, if◌then◌else◌, All, AllPass, list_any, and_from, and_parts, cases_eq, eq-eqb, ne_eqb, false≢true, le-leb, nat_tests, All-head, All-push, line_number, page_number, le_test, nothing_fits, Off, SignData, cell_in, Spot, in_group, spots, standing, Standing, area_of, is_glyph, line_before, area_fits, fit, line_fits, Meaning, Does, Shows, offence, clashes, conflicts, IsPlacing, present_area, some_after, largest, smaller_fits, each_just, area_placing, in_group_other, area_fits_always, too_big, largest_most, largest_push, line_number_known, page_number_known, SizedCell, NewLine, Area, Line, group_room, AreaFits, IsLimited, IsMost, IsStateOf, segment_room, FitsBefore, kept_height, lengthened_line, IsBehindCharacter, is_within, kept_fits, area_sum, line_sum, ◌^◌, ◌<◌, IsSmall, Group, State, Attributes, AddsCharacter, character_of, FitsWithout, room_for, room_end, room_middle, room_start, lines_fit_always, AddsBreak}
 use Rattle.multi_judge.proofs.Sums.{group_known, kept_width_is, present_known, segment_other, in_order, no_character, fits_break, fits_character, group_of_own, no_clash, present_line, cell_found, state-limits}
 use Rattle.multi_meaning.specs.declared.attributes.Rectangle.{Rectangle}
 use Rattle.multi_judge.proofs.RunLemmas.{kept_group_height, kept_group_height_is, kept_area_fits, kept_fits_is}
 use Rattle.multi_judge.proofs.PlacingLemmas.{IsFound, Placed, break-grown, character-grown, line_end, item_of, line_here, page_here, placed_order, placed_size, shown, spot_of, state-placed}
 
-held_most : (n : ℕ) → held n ≤ n
-held_most n = omega arith
-
 -- ---- the line of a character
 
 module _ (width : ℕ) (line : List Spot) (s : Spot) (l : Line) (e : l ≡ line_sum (line ++ s ∷ [])) (own : l.present ≡ line_number s.at.line_just) (fits : line_fits width line ≡ true) where
-  -- the other segments are as wide as without the character
-  no_wider : (just : ℕ) → 2 ≤ just → just ≤ 5 → kept_width just (lengthened_line 0 0 l) ≤ width_of (segment just line)
-  no_wider just low high = search (rules, cases_eq, eq-eqb, held_most, kept_width_is, ne_eqb, segment_other)
-
   pub segments_fit_before : FitsBefore width l
-  segments_fit_before =
-      let w = λ (just : ℕ). width_of (segment just line) in
-      let k = λ (just : ℕ). kept_width just (lengthened_line 0 0 l) in
-      let (parts, full) = and_parts (fit (w 2) (w 3) (w 4) width) (nat_le (w 5) width) fits in
-      and_from (fit (k 2) (k 3) (k 4) width) (nat_le (k 5) width) (smaller_fits (w 2) (w 3) (w 4) (k 2) (k 3) (k 4) width (no_wider 2 (omega arith) (omega arith)) (no_wider 3 (omega arith) (omega arith)) (no_wider 4 (omega arith) (omega arith)) parts) (le_test (k 5) (w 5) width (no_wider 5 (omega arith) (omega arith)) full)
+  segments_fit_before = search (rules, and_from, and_parts, cases_eq, eq-eqb, fits, kept_width_is, le_test, ne_eqb, segment_other, smaller_fits, width)
 
 -- ---- the area of a character, whose group alone grows by it
 
@@ -34,12 +23,8 @@ GroupsFitBefore height area = fit (kept_before 2 area) (kept_before 3 area) (kep
 
 module _ (height : ℕ) (area more : List Spot) (page : ℕ) (others : (just : ℕ) → (just ≡ page → ⊥) → in_group just more ≡ in_group just area) (a : Area) (e : a ≡ area_sum more) (placing : All IsPlacing more)
     (own : a.present ≡ page) (fits : area_fits height area ≡ true) where
-  -- the other groups are as high as without the character
-  no_higher : (just : ℕ) → 2 ≤ just → just ≤ 4 → kept_before just a ≤ height_of (lines_of (in_group just area))
-  no_higher just low high = search (rules, cases_eq, eq-eqb, held_most, kept_group_height, kept_group_height_is, ne_eqb)
-
   pub groups_fit_before : GroupsFitBefore height a
-  groups_fit_before = search (rules, no_higher, smaller_fits)
+  groups_fit_before = search (rules, cases_eq, eq-eqb, kept_group_height_is, ne_eqb, smaller_fits)
 
 -- the groups of an area stand apart within a height, by what is kept of the area
 abbrev pub kept_fits_height : ℕ → Area → Bool
@@ -56,11 +41,8 @@ module _ (area : List Spot) (a : Area) (e : a ≡ area_sum area) (height : ℕ) 
   middle_none : a.present ≡ 2 → a.middle ≡ 0
   middle_none is = grind (arith, nat_tests, is, ap (λ (a : Area). a.middle) e, ap (λ (a : Area). a.present) e)
 
-  group_by : (just : ℕ) → a.present ≡ just → 2 ≤ just → just ≤ 5 → just ≤ 4 → GroupsFitBefore height a → nat_le (kept_height a.group) (room_for just a.top a.middle height) ≡ kept_fits_height height a
-  group_by just is low high known before = told_of (kept_height a.group) a.top a.middle height a.present just is low high known middle_none before
-
   pub group_room_fits : 2 ≤ a.present → a.present ≤ 4 → GroupsFitBefore height a → nat_le (kept_height a.group) (group_room a height) ≡ kept_fits_height height a
-  group_room_fits low high = group_by a.present refl low (omega (arith, high)) high
+  group_room_fits low high = told_of (kept_height a.group) a.top a.middle height a.present a.present refl low (omega (arith, high)) high middle_none
 
 -- ---- behind items of which none offends
 
@@ -71,31 +53,17 @@ module _ (sign : SignData) (items : List Meaning) (none : some_after (offence Of
 
 -- ---- what fits them
 
-and_true : (a b : Bool) → b ≡ true → (a && b) ≡ a
-and_true true b h = h
-and_true false b h = refl
-
-and_with : (a b : Bool) → a ≡ true → (a && b) ≡ b
-and_with true b h = refl
-and_with false b h = absurd cc
-
 -- a line into which its segments before the present one fit
 module _ (line : List Spot) (l : Line) (e : l ≡ line_sum line) (width pixels count : ℕ) where
-  later_none : (just : ℕ) → l.present ≡ just → (just ≤ 2 → l.centre ≡ 0) × (just ≤ 4 → l.right ≡ 0)
-  later_none just is = search (rules, nat_tests)
-
   full : nat_le 0 width ≡ true
   full = le-leb 0 width (omega arith)
 
   segment_by : (just : ℕ) → l.present ≡ just → 2 ≤ just → just ≤ 5 → FitsBefore width l → kept_fits width (lengthened_line pixels count l) ≡ nat_le pixels (room_for just l.left l.centre width)
-  segment_by just is' low' high' = search (rules, and_parts, each_just, full, later_none, room_end, room_middle, room_start)
-
-  pub segment_room_fits : 2 ≤ l.present → l.present ≤ 5 → FitsBefore width l → kept_fits width (lengthened_line pixels count l) ≡ nat_le pixels (segment_room l width)
-  segment_room_fits low high = segment_by l.present refl low high
+  segment_by just is' low' high' = search (rules, and_parts, each_just, full, room_end, room_middle, room_start)
 
 -- it is told by its limit
 line_told : (line : List Spot) (l : Line) (width most : ℕ) → width < 2 ^ 16 → l ≡ line_sum line → 2 ≤ l.present → FitsBefore width l → most ≡ segment_room l width → nat_le l.part.width most ≡ line_fits width line
-line_told line l width most small e low before is = ap (nat_le l.part.width) is ∙ sym (segment_room_fits line l e width l.part.width l.part.count low (present_known line l e) before) ∙ kept_fits_is line l width e small
+line_told line l width most small e low before is = ap (nat_le l.part.width) is ∙ sym (segment_by line l e width l.part.width l.part.count l.present refl low (present_known line l e) before) ∙ kept_fits_is line l width e small
 
 -- an area into which its groups before the present one fit is told by its limit
 pub area_told : (area : List Spot) (a : Area) (height most : ℕ) → height < 2 ^ 16 → a ≡ area_sum area → All IsPlacing area → 2 ≤ a.present → GroupsFitBefore height a → most ≡ group_room a height
@@ -146,9 +114,7 @@ higher_told : (before : List Spot) (s : Spot) (a : Area) (most : ℕ) → s.at.r
 higher_told before s a most small is e present without room =
     let page = page_number_known s.at.page_just in
     let placing = All-push IsPlacing (area_of s before) s (area_placing before s) is in
-    let others = λ (just : ℕ) (other : just ≡ page_number s.at.page_just → ⊥). in_group_other just (area_of s before) s (λ h. other (sym h)) in
-    area_told (area_of s before ++ s ∷ []) a s.at.rectangle.height most small e placing (omega (arith, present, page.0))
-    (groups_fit_before s.at.rectangle.height (area_of s before) (area_of s before ++ s ∷ []) (page_number s.at.page_just) others a e placing present without) room
+    search (rules, area_told, groups_fit_before, in_group_other, most, present, small)
 
 -- what stands behind one more character
 pub behind_added : (state new : State) (cell_width : ℕ) → AddsCharacter state cell_width new → IsBehindCharacter new
@@ -173,8 +139,7 @@ module _ (sign : SignData) (items : List Meaning) (state : State) (st : IsStateO
   -- the state then, and whether the item offends
   placed_judged : (p : Placed) → IsFound sign items p → conflicts (spots sign items) (spot_of sign items p) ≡ false → new.area ≡ area_sum (present_area sign items ++ spot_of sign items p ∷ [])
       → (fits : Bool) → fits ≡ not (too_big Off (spots sign items) (spot_of sign items p)) → (offence Off sign items (item_of p) ≡ cond fits None (Some 5)) × IsStateOf sign (items ++ item_of p ∷ []) new
-  placed_judged p found apart grown fits is =
-      (placed_size sign items p found apart fits is, state-limits sign (items ++ item_of p ∷ []) state new same (state-placed sign items state st p found new.area grown))
+  placed_judged p found apart grown fits is = search (rules, placed_size, state-limits, state-placed)
 
   pub character_judged : some_after (offence Off sign) items ≡ [] → IsLimited state → (number : ℕ) (c : SizedCell) → cell_in sign state.attributes.font.number number ≡ Some c → (width : ℕ) → width ≡ c.width → AddsCharacter state width new
       → (r : Bool) → ((before : List Spot) (s : Spot) → state.area ≡ area_sum (area_of s before) → is_glyph s ≡ true → s.at.page_just ≡ state.attributes.page_just → s.at.line_just ≡ state.attributes.line_just → r ≡ conflicts before s)

@@ -1,7 +1,5 @@
 -- One more item is passed: the group that it joins, and the line that it ends.
-use Rattle.multi_judge.proofs.Common.{order_of, eq-eqb, or_parts, lt-ltb, line_number_known, nat_lt, line_number, ◌||◌, ◌&&◌, LineJust, width_in, ◌≡◌, ℕ, ◌≤◌, ◌<◌, ◌==◌, Bool, true, false, cond, List, [], ◌∷◌, ◌++◌, Option, Some, None, Result, Ok, Err, refl, sym, ap, subst, ◌∙◌, arith, inl, inr, cases_lt, after_last, list_any, le-leb, false≢true, page_number, page_number_known, Off, Words, SignData, cell_in, Spot, clashes, is_break, in_group, filled, laid_items, Tag, Does, Meaning, Shows, begins_area, has_place, offence, unsized_offence, area_fits_always, begins_line, LineFill, SyntaxError, JudgesTag, offends_as_laid, laid_plain, laid_tag, unsized_if, present_area, ended_lines, Area, Attributes, Character, Group, Line, Order, Pass, Split, State, ReachesGroup, character_of, EndsLine, FillsGroup, order_sum, split_sum, IsFilledFor, IsPassOf, fill_of, IsCellPut, IsItemJudged, IsItemPassed, next_group, IsLimited, IsMost, IsStateOf, area_sum, group_sum, area_of, is_glyph, conflicts, AddsCharacter, PutsCell, not}
-use Rattle.multi_meaning.specs.Codes.{code_of}
-use Rattle.multi_judge.specs.KnownItem.{ends_line}
+use Rattle.multi_judge.proofs.Common.{order_of, eq-eqb, or_parts, lt-ltb, line_number_known, nat_lt, line_number, ◌||◌, ◌&&◌, LineJust, width_in, ◌≡◌, ℕ, ◌≤◌, ◌<◌, ◌==◌, Bool, true, false, cond, List, [], ◌∷◌, ◌++◌, Option, Some, None, Result, Ok, Err, refl, sym, ap, subst, ◌∙◌, arith, inl, inr, cases_lt, after_last, list_any, le-leb, false≢true, page_number, page_number_known, Words, SignData, cell_in, Spot, clashes, is_break, in_group, filled, laid_items, Tag, Does, Meaning, Shows, begins_area, offence, unsized_offence, area_fits_always, begins_line, LineFill, SyntaxError, JudgesTag, offends_as_laid, laid_plain, laid_tag, unsized_if, present_area, ended_lines, Area, Attributes, Character, Group, Line, Order, Pass, Split, State, ReachesGroup, character_of, EndsLine, FillsGroup, order_sum, split_sum, IsFilledFor, IsPassOf, fill_of, IsCellPut, IsItemJudged, IsItemPassed, next_group, IsLimited, IsMost, IsStateOf, area_sum, group_sum, area_of, is_glyph, conflicts, AddsCharacter, PutsCell, not, rules, common_steps, code_of, ends_line}
 use Rattle.multi_judge.proofs.Sums.{area_filled, line_clashes, nothing_yet, reached_group, reached_line}
 use Rattle.multi_judge.proofs.LimitLemmas.{character_judged}
 use Rattle.multi_judge.proofs.PlacingLemmas as steps
@@ -13,24 +11,17 @@ use Rattle.multi_judge.proofs.ReadLemmas.{filled_put, judged_unfilled}
 
 -- the state is that of the items as they are laid out
 pub state_of : (words : Bool) (sign : SignData) (kept : Pass) (items : List Meaning) → IsPassOf words sign kept items → IsStateOf sign (laid_items (fill_of words) sign items items) kept.state
-state_of true sign kept items of = of.of.state_is
-state_of false sign kept items of = subst (λ l. IsStateOf sign l kept.state) (sym (laid_plain sign items)) of.state_is
+state_of words sign kept items of = search (rules, laid_plain)
 
 -- a tag doesn't offend among the items as they are laid out
 pub tag_unsized : (words : Bool) (sign : SignData) (kept : Pass) (ms : List Meaning) → IsPassOf words sign kept ms → (tag : Tag) → offence sign.line_fill sign ms (Does tag) ≡ None
     → unsized_offence sign (laid_items (fill_of words) sign ms ms) (Does tag) ≡ None
-tag_unsized true sign kept ms of tag fine =
-    let fine' = subst (λ setting. offence setting sign ms (Does tag) ≡ None) of.words fine in
-    unsized_if Off sign (laid_items Words sign ms ms) (Does tag) (sym (offends_as_laid sign ms tag) ∙ fine') (has_place (Does tag)) refl
-tag_unsized false sign kept ms of tag fine =
-    subst (λ l. unsized_offence sign l (Does tag) ≡ None) (sym (laid_plain sign ms)) (unsized_if sign.line_fill sign ms (Does tag) fine (has_place (Does tag)) refl)
+tag_unsized words sign kept items of tag fine = search (rules, laid_plain, offends_as_laid, unsized_if)
 
 -- one that is judged behind the items as they are laid out, and begins a line
 pub tag_begun : (words : Bool) (sign : SignData) (items : List Meaning) (old : Pass) (tag : Tag) (result : Result (Unit {0}) SyntaxError) (state : State) → IsPassOf words sign old items → (IsLimited old.state → IsLimited state)
     → JudgesTag sign old.state (Does tag) result state → words ≡ true → begins_line tag ≡ true → IsTagJudged words sign items (Does tag) result (record { state = state; split = None; order = 0 })
-tag_begun true sign items old tag result state of limited judged w begins =
-    judged-begins sign items old of.of of.words tag result state begins (limited of.of.limited) (judged (laid_items Words sign items items) of.of.state_is (λ place. (of.of.limited, of.of.area_fits)))
-tag_begun false sign items old tag result state of limited judged w begins = absurd (false≢true w)
+tag_begun words sign items old tag result state of limited judged w begins = search (rules, false≢true, judged-begins)
 
 -- or that doesn't
 pub tag_kept : (words : Bool) (sign : SignData) (items : List Meaning) (old : Pass) (tag : Tag) (result : Result (Unit {0}) SyntaxError) (state : State) → IsPassOf words sign old items → (IsLimited old.state → IsLimited state)
@@ -43,10 +34,7 @@ tag_kept false sign items old tag result state of limited judged stays =
 -- or that offends
 pub tag_refused : (words : Bool) (sign : SignData) (items : List Meaning) (old : Pass) (tag : Tag) (error : SyntaxError) (state : State) → IsPassOf words sign old items → JudgesTag sign old.state (Does tag) (Err error) state
     → offence sign.line_fill sign items (Does tag) ≡ Some (code_of error)
-tag_refused true sign items old tag error state of judged =
-    ap (λ (setting : LineFill). offence setting sign items (Does tag)) of.words ∙ offends_as_laid sign items tag ∙ judged (laid_items Words sign items items) of.of.state_is (λ place. (of.of.limited, of.of.area_fits))
-tag_refused false sign items old tag error state of judged =
-    ap (λ (setting : LineFill). offence setting sign items (Does tag)) of.off ∙ judged items of.state_is (λ place. (of.limited, area_fits_always sign items of.fine))
+tag_refused words sign items old tag error state of judged = search (rules, area_fits_always, offends_as_laid)
 
 module _ (words : Bool) (sign : SignData) (items : List Meaning) (old new : Pass) (tag : Tag) (of : IsPassOf words sign old items) (fine : offence sign.line_fill sign items (Does tag) ≡ None)
     (of' : IsPassOf words sign new (items ++ Does tag ∷ [])) where
@@ -121,27 +109,10 @@ plain_put old new number width result conflicts added limited is sign own items 
 pub clash_by : (order : Order) (just : LineJust) (n : ℕ) → n ≡ line_number just → (line : List Spot) (s : Spot) → order ≡ order_sum line → s.at.line_just ≡ just → (nat_lt n order.largest || ((n == 5) && order.has_parts)) ≡ list_any (clashes s) line
 clash_by order just n is line s e j = rw (e, is, ← j) (sym (line_clashes line s))
 
--- where a character isn't full it doesn't clash with another that isn't, and where it is none of the others is
-even : (n : ℕ) (known : (2 ≤ n) × (n ≤ 5)) (others : Bool) → (n ≡ 5 → others ≡ false) → (nat_lt 0 n && nat_lt n 5) ≡ (nat_lt n 5 || others)
-even n known others full = elim (cases_lt n 5) [
-  | inl less ↦ rw (lt-ltb 0 n (omega (arith, known.0)), lt-ltb n 5 less) refl
-  | inr least ↦ let is : n ≡ 5 = omega (arith, least, known.1) in rw (full is, is) refl
-]
-
 -- the order with one more character, which doesn't clash with those before it; these are none where its group doesn't go on
 order_with : (order : ℕ) (just : LineJust) (n : ℕ) (goes_on : Bool) → n ≡ line_number just → (line : List Spot) (s : Spot) → s.at.line_just ≡ just → list_any (clashes s) line ≡ false
     → (goes_on ≡ true → order_of order ≡ order_sum line) → (goes_on ≡ false → line ≡ []) → order_of n ≡ order_sum (line ++ s ∷ [])
-order_with order just n goes_on is line s at apart goes stops =
-    let own : n ≡ line_number s.at.line_just = is ∙ ap line_number (sym at) in
-    let old : (goes_on && (order_of order).has_parts) ≡ list_any (λ (t : Spot). nat_lt (line_number t.at.line_just) 5) line = by goes_on goes stops in
-    let full : n ≡ 5 → (goes_on && (order_of order).has_parts) ≡ false = λ five.
-    old ∙ ap (λ b. b && list_any (λ (t : Spot). nat_lt (line_number t.at.line_just) 5) line) (sym (eq-eqb (line_number s.at.line_just) 5 (sym own ∙ five))) ∙ (or_parts _ _ (sym (line_clashes line s) ∙ apart)).1 in
-    (λ i. let o : Order = record { largest = n; has_parts = even n (rw is (line_number_known just)) (goes_on && (order_of order).has_parts) full i } in o)
-    ∙ order_more line s n (goes_on && (order_of order).has_parts) (sym own) apart old
-  where
-    by : (b : Bool) → (b ≡ true → order_of order ≡ order_sum line) → (b ≡ false → line ≡ []) → (b && (order_of order).has_parts) ≡ list_any (λ (t : Spot). nat_lt (line_number t.at.line_just) 5) line
-    by true goes stops = ap (λ (o : Order). o.has_parts) (goes refl)
-    by false goes stops = rw (stops refl) refl
+order_with order just n goes_on is line s at apart goes stops = grind (arith, common_steps, eq-eqb, cases_lt, lt-ltb, line_clashes, line_number_known, or_parts, order_more)
 
 -- the parts of the present line, which are none where the group behind the present one is reached
 abbrev pub IsSplitReached : Pass → Option Split → Type 0

@@ -1,7 +1,6 @@
 -- What a placing item makes of the state, from what the sums of the present area answer.
-use Rattle.multi_judge.proofs.Common.{◌≡◌, ℕ, ◌≤◌, inl, inr, Bool, true, false, cond, not, List, [], ◌∷◌, ◌++◌, Option, Some, None, refl, sym, ap, ◌∙◌, arith, append-nil, rules, subst, All, after_last, list_any, option_map, unwrap_or, false≢true, none_more, NewLine, NewPage, Back, Rect, page_number, Off, too_big, SizedCell, CellData, SignData, cell_in, cell_numbered, Break, Glyph, Spot, area_of, in_group, is_break, is_glyph, spots, standing, Cover, Meaning, Shows, Does, clashes, conflicts, never_big, offence, offence_by, unsized_offence, present_area, IsPlacing, ended_lines, area_placing, in_group_other, own_group, ended_break, ended_glyph, offence-break, offence-character, offence-undefined, present_area-placing, no_conflict, present_area-nothing, present_area-cover, Tag, unsized_if, Area, Attributes, Character, State, IsStateOf, IsLimited, IsUnfilledOf, IsBreak, IsCharacter, area_sum, line_sum, Line, EndsLine, Pass, cases_Option, Put, has_place, begins_area, laid_plain, IsItemPassed}
-use Rattle.multi_judge.proofs.Sums.{no_back, no_clash, present_behind, cell_found, state-same_page}
-use Rattle.multi_judge.specs.KnownItem.{ends_line}
+use Rattle.multi_judge.proofs.Common.{largest_push, ◌≡◌, ℕ, ◌≤◌, inl, inr, Bool, true, false, cond, not, List, [], ◌∷◌, ◌++◌, Option, Some, None, refl, sym, ap, ◌∙◌, arith, append-nil, rules, subst, All, after_last, list_any, unwrap_or, false≢true, none_more, NewLine, NewPage, Back, Rect, page_number, Off, too_big, SizedCell, CellData, SignData, cell_in, cell_numbered, Break, Glyph, Spot, area_of, in_group, is_break, is_glyph, spots, standing, Cover, Meaning, Shows, Does, clashes, conflicts, never_big, offence, offence_by, unsized_offence, present_area, IsPlacing, ended_lines, area_placing, in_group_other, own_group, ended_break, ended_glyph, offence-break, offence-character, offence-undefined, present_area-placing, no_conflict, present_area-nothing, present_area-cover, Tag, unsized_if, Area, Attributes, Character, State, IsStateOf, IsLimited, IsUnfilledOf, IsBreak, IsCharacter, area_sum, line_sum, Line, EndsLine, Pass, cases_Option, Put, has_place, begins_area, laid_plain, IsItemPassed, common_steps, ends_line}
+use Rattle.multi_judge.proofs.Sums.{no_back, no_clash, cell_found, state-same_page}
 
 -- an item with a place: a character with its cell, or the end of a line with the gap that it gives
 pub data Placed : Type 0 where
@@ -31,19 +30,16 @@ module _ (sign : SignData) (items : List Meaning) where
   -- it offends by a conflict, or else by its size
   offence_is : (big : List Spot → Spot → Bool) (p : Placed) → IsFound p
       → offence_by big sign items (item_of p) ≡ cond (conflicts (spots sign items) (spot_of p)) (Some 11) (cond (big (spots sign items) (spot_of p)) (Some 5) None)
-  offence_is big (shown number cell) found = offence-character big sign items number cell found
-  offence_is big (line_end gap) found = offence-break big sign items gap
+  offence_is big p found = search (rules, offence-break, offence-character)
 
   pub placed_conflict : (p : Placed) → IsFound p → conflicts (spots sign items) (spot_of p) ≡ true → offence Off sign items (item_of p) ≡ Some 11
   placed_conflict p found is = offence_is (too_big Off) p found ∙ rw is refl
 
   pub placed_size : (p : Placed) → IsFound p → conflicts (spots sign items) (spot_of p) ≡ false → (fits : Bool) → fits ≡ not (too_big Off (spots sign items) (spot_of p))
       → offence Off sign items (item_of p) ≡ cond fits None (Some 5)
-  placed_size p found apart fits is = offence_is (too_big Off) p found ∙ rw (apart, is) (either (too_big Off (spots sign items) (spot_of p)))
-    where
-      either : (b : Bool) → ◌≡◌ {A = Option ℕ} (cond b (Some 5) None) (cond (not b) None (Some 5))
-      either true = refl
-      either false = refl
+  placed_size p found apart fits is =
+      let either : (b : Bool) → ◌≡◌ {A = Option ℕ} (cond b (Some 5) None) (cond (not b) None (Some 5)) = λ b. search rules in
+      offence_is (too_big Off) p found ∙ rw (apart, is) (either (too_big Off (spots sign items) (spot_of p)))
 
   -- one that doesn't offend doesn't conflict
   pub placed_free : (p : Placed) → IsFound p → unsized_offence sign items (item_of p) ≡ None → conflicts (spots sign items) (spot_of p) ≡ false
@@ -51,8 +47,7 @@ module _ (sign : SignData) (items : List Meaning) where
 
   -- the present area with it
   pub placed_area : (p : Placed) → IsFound p → present_area sign (items ++ item_of p ∷ []) ≡ present_area sign items ++ spot_of p ∷ []
-  placed_area (shown number cell) found = present_area-placing sign items (Shows number) (Glyph cell) refl (ap (option_map Glyph) found) refl
-  placed_area (line_end gap) found = present_area-placing sign items (Does (NewLine gap)) (Break gap) refl refl refl
+  placed_area p found = search (rules, present_area-placing)
 
   -- an item that has a place and doesn't offend is one
   pub placed_of : (x : Meaning) → unsized_offence sign items x ≡ None → has_place x ≡ true → (p : Placed) × (item_of p ≡ x) × IsFound p
@@ -96,8 +91,7 @@ module _ (sign : SignData) (items : List Meaning) (state : State) (st : IsStateO
         width = wide ∙ width;
         font = font ∙ ap (λ (a : Attributes). a.font) st.attributes;
       } in
-      sum (present_area sign items) (spot_of sign items (shown number cell)) (present_placing sign items) st.area is page_here (placed_order (shown number cell) apart)
-      (no_clash (spots sign items) (spot_of sign items (shown number cell)) (page_number state.attributes.page_just) refl (ap page_number page_here) apart)
+      search (rules, no_clash, page_here, placed_order, present_placing)
 
   -- a character that doesn't offend
   pub character-accepted : (number : ℕ) (c : SizedCell) → cell_in sign state.attributes.font.number number ≡ Some c
@@ -139,13 +133,11 @@ module _ (sign : SignData) (items : List Meaning) (state : State) (st : IsStateO
   break-free gap r answer fine = answer (spots sign items) (spot_of sign items (line_end gap)) st.area refl page_here ∙ placed_free sign items (line_end gap) tt fine
 
 pub ends_placed : (x : Meaning) → ends_line x ≡ true → has_place x ≡ true
-ends_placed (Does (NewLine gap)) e = refl
-ends_placed x e = absurd (false≢true e)
+ends_placed x e = search (rules, false≢true)
 
 -- each tag but `nl` ends none
 pub ends_not : (tag : Tag) → ((gap : Option ℕ) → tag ≡ NewLine gap → ⊥) → ends_line (Does tag) ≡ false
-ends_not (NewLine gap) other = absurd (other gap refl)
-ends_not _ other = refl
+ends_not tag other = search rules
 
 module _ (sign : SignData) (items : List Meaning) (state : State) (st : IsStateOf sign items state) where
   -- an item with a place that doesn't offend isn't before the present group
@@ -164,17 +156,7 @@ module _ (sign : SignData) (items : List Meaning) (state : State) (st : IsStateO
       → (in_group (page_number state.attributes.page_just) (present_area sign (items ++ item_of p ∷ [])) ≡ in_group (page_number state.attributes.page_just) (present_area sign items) ++ spot_of sign items p ∷ []
       → EndsLine (in_group (page_number state.attributes.page_just) (present_area sign items)) (in_group (page_number state.attributes.page_just) (present_area sign (items ++ item_of p ∷ []))) ended)
       → Joins (item_of p) after ended
-  joins p found on after st' ended ends =
-      let area = present_area sign items in
-      let page = page_number state.attributes.page_just in
-      let spot = spot_of sign items p in
-      let grown = placed_area sign items p found in
-      let at = ap page_number (page_here sign items state st) in (
-        present_behind area spot state.area after.area st.area (st'.area ∙ ap area_sum grown) (omega (arith, at, on)) ∙ at,
-        on,
-        λ just other. ap (in_group just) grown ∙ in_group_other just area spot (λ h. other (sym h ∙ at)),
-        ends (ap (in_group page) grown ∙ own_group page area spot at),
-      )
+  joins p found on after st' ended ends = grind (arith, common_steps, in_group_other, own_group, page_here, placed_area, largest_push)
 
   -- a character ends none
   pub glyph_joins : (number : ℕ) → unsized_offence sign items (Shows number) ≡ None → (after : State) → IsStateOf sign (items ++ Shows number ∷ []) after → Joins (Shows number) after None

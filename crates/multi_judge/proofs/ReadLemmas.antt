@@ -1,21 +1,12 @@
 -- What is kept behind one more character, where lines are filled.
-use Rattle.multi_judge.proofs.Common.{order_of, ◌≡◌, ℕ, ◌+◌, ◌≤◌, Bool, true, false, ◌==◌, inl, inr, List, [], ◌∷◌, ◌++◌, length, Option, Some, None, refl, sym, ap, subst, ◌∙◌, arith, append-nil, rules, ◌<◌, drop, map, slice_get, append_assoc, Result, Ok, Err, not, after_last, list_any, All, and_parts, cases_eq, eq-eqb, eqb-true, false≢true, cases_lt, ne_eqb, length-append, length-drop, All-push, All-nil, sum_by-append, page_number, LineFill, Words, Off, SizedCell, SignData, CellData, cell_in, cell_numbered, Spot, Standing, group_of, in_group, is_break, spots, standing, filled, area_fits, line_fits, laid_items, Meaning, Shows, meaning, clashes, conflicts, first_code, offence, unsized_offence, present_area, in_group_other, own_group, are_laid, standing_push, present_area-placing, none_more, Token, IsTokenOf, cycle, ended_times, pages_of, SyntaxError, some_after, Area, Attributes, Split, Pass, Character, Order, Limits, Line, IsFilledFor, IsFilledOf, IsFilledReady, EndsLine, order_sum, split_sum, IsLimited, IsStateOf, IsUnfilledOf, attributes_of, IsJudged, IsCharacter, area_sum, State, ReadSoFar, IsCellPut, IsPassOf, drop_all, map-append, slice_get-get_or, spaces_is, Item, IsItem, spelling, spell, HasNoItem, IsReading, item_of, Accepted, IsCycle, IsVerdict, Refused, broken, of_first, item_refused, offences_push, one_verdict, IsPassReady, fill_of}
-use Rattle.multi_judge.proofs.Sums.{both_fit, group_behind, no_back, no_clash, present_push, shown_free, ready, judged-undefined}
-use Rattle.multi_judge.proofs.Common.{line_in_force, placing_group, line_sum, Order, IfSome}
-use Rattle.multi_judge.specs.FilledState.{IsOrderedBy}
+use Rattle.multi_judge.proofs.Common.{offence-undefined, order_of, ◌≡◌, ℕ, ◌+◌, ◌-◌, ◌≤◌, Bool, true, false, ◌==◌, inl, inr, List, [], ◌∷◌, ◌++◌, length, Option, Some, None, refl, sym, ap, subst, ◌∙◌, arith, append-nil, rules, ◌<◌, drop, map, slice_get, append_assoc, Result, Ok, not, after_last, list_any, All, and_parts, cases_eq, eq-eqb, eqb-true, false≢true, cases_lt, ne_eqb, length-append, length-drop, All-push, All-nil, sum_by-append, page_number, LineFill, Words, Off, SizedCell, SignData, CellData, cell_in, cell_numbered, Spot, Standing, group_of, in_group, is_break, spots, standing, filled, area_fits, line_fits, laid_items, Meaning, Shows, meaning, clashes, conflicts, first_code, offence, unsized_offence, present_area, in_group_other, own_group, are_laid, standing_push, present_area-placing, none_more, Token, IsTokenOf, cycle, ended_times, pages_of, SyntaxError, some_after, Area, Attributes, Split, Pass, Character, Limits, Line, IsFilledFor, IsFilledOf, IsFilledReady, EndsLine, order_sum, split_sum, IsLimited, IsStateOf, attributes_of, IsJudged, IsCharacter, area_sum, State, ReadSoFar, IsCellPut, IsPassOf, drop_all, map-append, slice_get-get_or, spaces_is, Item, IsItem, spelling, spell, HasNoItem, IsReading, item_of, Accepted, IsCycle, IsVerdict, Refused, item_refused, offences_push, one_verdict, IsPassReady, fill_of, line_in_force, placing_group, line_sum, in_area_placing, item_steps, items_steps, judging_steps, rest_steps, items_steps_push, steps_ended, steps_offending}
+use Rattle.multi_judge.proofs.Sums.{both_fit, group_behind, no_back, no_clash, present_push, shown_free, ready, cell_missing}
 use Rattle.std.proofs.lemmas.List.Concat.{flat_map-append}
 use Rattle.multi_token.proofs.ReadingLemmas.{none_found, spelling_some}
-use Rattle.multi_meaning.proofs.GroupLemmas.{in_area_placing}
 use Rattle.multi_meaning.specs.Times.{page_times}
 use Rattle.multi_meaning.specs.Verdict.{verdict_on}
-use Rattle.multi_meaning.specs.Codes.{code_of}
 use Rattle.multi_judge.proofs.FilledStateLemmas.{area_with, doesn't_fit, goes_behind, offends_by, offends_without, present_is, shown, filled_state, pages_at, same_times, open_ordered}
 use Rattle.multi_judge.proofs.FilledJudgedLemmas.{Fills, IsTagJudged, attributes_here, filled_grown, filled_size, found_here, shown_character, filled_of, filled_undefined, group_laid}
-
-none_of_both : (a b : Bool) → first_code ((a, 11) ∷ (b, 5) ∷ []) ≡ None → (a ≡ false) × (b ≡ false)
-none_of_both true b e = cc
-none_of_both false true e = cc
-none_of_both false false e = (refl, refl)
 
 module _ (sign : SignData) (items : List Meaning) (number : ℕ) (cell : CellData) (found : cell_numbered (standing sign items).font number ≡ Some cell) where
   abbrev s : Spot
@@ -34,9 +25,6 @@ module _ (sign : SignData) (items : List Meaning) (number : ℕ) (cell : CellDat
 
   other : (j : ℕ) → (page_number s.at.page_just ≡ j → ⊥) → in_group j (present_area sign more) ≡ in_group j (present_area sign items)
   other j apart = ap (in_group j) present_more ∙ in_group_other j (present_area sign items) s apart
-
-  width_more : (standing sign more).rectangle.width ≡ s.at.rectangle.width
-  width_more = ap (λ (t : Standing). t.rectangle.width) (standing_push sign items (Shows number))
 
   module _ (kept : Pass) (of : IsFilledOf sign items kept) (apart : conflicts (spots sign items) (shown sign items number cell found) ≡ false) where
     back : kept.state.area.present ≤ page_number s.at.page_just
@@ -72,7 +60,7 @@ module _ (sign : SignData) (items : List Meaning) (number : ℕ) (cell : CellDat
         filled_of sign items more kept (record { state = record kept.state { area = area'; limits = limits' }; split = split'; order = order' }) of
         (filled_state Words sign items number cell found kept.state area' limits' of.state_is area) limited
         (ap (λ (t : Standing). area_fits t.rectangle.height (area_with sign items number cell found)) ((are_laid Words sign more more [] (sym (append-nil more))).0 ∙ standing_push sign items (Shows number)) ∙ high)
-        width_more (page_number s.at.page_just) present other (group_of s (spots sign items) ++ s ∷ []) own split
+        (ap (λ (t : Standing). t.rectangle.width) (standing_push sign items (Shows number))) (page_number s.at.page_just) present other (group_of s (spots sign items) ++ s ∷ []) own split
         (order ∙ ap (λ l. order_sum (after_last is_break l)) own) fits
 
 -- a character that doesn't offend isn't before the present group
@@ -81,7 +69,8 @@ module _ (sign : SignData) (items : List Meaning) (kept : Pass) (of : IsFilledOf
   on_by None found = let wrong : ◌≡◌ {A = Option ℕ} (Some 7) None = sym (offends_without sign items number found) ∙ fine in absurd cc
   on_by (Some cell) found =
       let at = ap (λ (a : Attributes). page_number a.page_just) (attributes_here sign items kept of) in
-      let apart = (none_of_both (conflicts (spots sign items) (shown sign items number cell found)) (doesn't_fit sign items number cell found) (sym (offends_by sign items number cell found) ∙ fine)).0 in
+      let free : (a b : Bool) → first_code ((a, 11) ∷ (b, 5) ∷ []) ≡ None → a ≡ false = λ a b e. search rules in
+      let apart = free (conflicts (spots sign items) (shown sign items number cell found)) (doesn't_fit sign items number cell found) (sym (offends_by sign items number cell found) ∙ fine) in
       omega (arith, at, back sign items number cell found kept of apart)
 
   pub goes_on : kept.state.area.present ≤ page_number kept.state.attributes.page_just
@@ -135,13 +124,13 @@ at_end octets at within none = elim (cases_lt at (length octets)) [
   | inr past ↦ omega arith
 ]
 
-pub nothing_read : (sign : SignData) (octets : List ℕ) (IsKept : List Meaning → Type 0) → IsKept [] → ReadSoFar sign octets 0 IsKept
-nothing_read sign octets IsKept is = record { items = []; each = All-nil IsItem; front = refl; place = refl; within = omega arith; none = refl; is = is }
+pub nothing_read : (sign : SignData) (octets : List ℕ) (IsKept : List Meaning → Type 0) → IsKept [] → ReadSoFar sign octets 0 0 IsKept
+nothing_read sign octets IsKept is = record { items = []; each = All-nil IsItem; front = refl; place = refl; within = omega arith; none = refl; taken = refl; is = is }
 
 spell_push : (items : List Item) (item : Item) → spell (items ++ item ∷ []) ≡ spell items ++ spelling item
 spell_push items item = flat_map-append spelling items (item ∷ []) ∙ ap (λ l. spell items ++ l) (append-nil (spelling item))
 
-module _ (sign : SignData) (octets : List ℕ) (at : ℕ) (IsKept : List Meaning → Type 0) (r : ReadSoFar sign octets at IsKept) where
+module _ (sign : SignData) (octets : List ℕ) (at steps : ℕ) (IsKept : List Meaning → Type 0) (r : ReadSoFar sign octets at steps IsKept) where
   module _ (t : Token) (here : t.at ≡ at) (stands : IsTokenOf octets t) where
     -- the string is the items so far, this one, and what stands behind it
     spelled : octets ≡ spell r.items ++ (spelling (item_of octets t) ++ drop (t.at + t.len) octets)
@@ -153,14 +142,22 @@ module _ (sign : SignData) (octets : List ℕ) (at : ℕ) (IsKept : List Meaning
     each_more : All IsItem (r.items ++ item_of octets t ∷ [])
     each_more = All-push IsItem r.items (item_of octets t) r.each stands.begins.0
 
+    -- its steps more
+    taken_more : steps + item_steps (length octets - at) (item_of octets t) ≡ items_steps (length octets) (r.items ++ item_of octets t ∷ [])
+    taken_more = (λ i. r.taken i + item_steps (length octets - r.place i) (item_of octets t)) ∙ sym (items_steps_push (length octets) r.items (item_of octets t))
+
     pub read_more : (IsNow : List Meaning → Type 0) → offence sign.line_fill sign (map meaning r.items) (meaning (item_of octets t)) ≡ None → IsNow (map meaning r.items ++ meaning (item_of octets t) ∷ [])
-        → ReadSoFar sign octets (at + t.len) IsNow
-    read_more IsNow fine is = search (rules, each_more, length-append, map-append, offences_push, regrouped, spell_push, spelling_some)
+        → ReadSoFar sign octets (at + t.len) (steps + item_steps (length octets - at) (item_of octets t)) IsNow
+    read_more IsNow fine is = search (rules, each_more, length-append, map-append, offences_push, regrouped, spell_push, spelling_some, taken_more)
 
     -- the item offends, whatever stands behind it
     pub refused_here : (code : ℕ) → offence sign.line_fill sign (map meaning r.items) (meaning (item_of octets t)) ≡ Some code → IsVerdict sign octets (Refused code at)
     refused_here code offends =
         grind (arith, item_refused sign r.items (item_of octets t) code (drop (t.at + t.len) octets) each_more r.none offends, regrouped, one_verdict sign octets (Refused code at))
+
+    -- and these are the steps of judging
+    pub steps_here : (code : ℕ) → offence sign.line_fill sign (map meaning r.items) (meaning (item_of octets t)) ≡ Some code → judging_steps sign octets ≡ steps + item_steps (length octets - at) (item_of octets t)
+    steps_here code offends = search (rules, each_more, regrouped, steps_offending)
 
   -- the end, where all items are read
   all_read : length octets ≡ at → IsReading octets r.items []
@@ -168,32 +165,23 @@ module _ (sign : SignData) (octets : List ℕ) (at : ℕ) (IsKept : List Meaning
 
   pub accepted_at_end : length octets ≡ at → (pages : ℕ) → pages ≡ pages_of (map meaning r.items) → IsVerdict sign octets (Accepted pages)
   unfolding verdict_on
-  accepted_at_end end pages is =
-      (r.items, [], all_read end, ap Accepted is ∙ sym (ap (λ l. of_first (pages_of (map meaning r.items)) (l ++ [])) r.none))
+  accepted_at_end end pages is = search (rules, all_read)
 
   pub cycle_at_end : length octets ≡ at → (state : State) → state.cycle ≡ cycle (ended_times sign (map meaning r.items)) → state.attributes ≡ attributes_of (standing sign (map meaning r.items))
       → IsCycle sign octets (state.cycle + state.attributes.on + state.attributes.off)
   unfolding page_times
   cycle_at_end end state times attributes = search (rules, all_read, sum_by-append)
 
-  broken_cons : (items : List Item) (rest : List ℕ) → 1 ≤ length rest → broken items rest ≡ (3, length (spell items)) ∷ []
-  broken_cons items [] h = absurd (omega arith)
-  broken_cons items (c ∷ rest) h = refl
+  pub steps_at_end : length octets ≡ at → judging_steps sign octets ≡ steps + 1
+  steps_at_end end = steps_ended sign octets r.items [] (all_read end) r.none ∙ ap (λ k. k + 1) (sym r.taken)
 
   -- a broken bracket
   pub refused_at_bracket : at < length octets → HasNoItem (drop at octets) → IsVerdict sign octets (Refused 3 at)
   unfolding verdict_on
   refused_at_bracket before none = search (rules, length-drop, spelled)
 
--- where lines aren't filled
-module _ (sign : SignData) (octets : List ℕ) (at : ℕ) (state : State) (r : ReadSoFar sign octets at (IsUnfilledOf sign state)) where
-  module _ (t : Token) (here : t.at ≡ at) (stands : IsTokenOf octets t) where
-    pub unfilled_more : (new : State) → offence Off sign (map meaning r.items) (meaning (item_of octets t)) ≡ None → IsStateOf sign (map meaning r.items ++ meaning (item_of octets t) ∷ []) new → IsLimited new
-        → ReadSoFar sign octets (at + t.len) (IsUnfilledOf sign new)
-    unfilled_more new fine st limited =
-        read_more sign octets at (IsUnfilledOf sign state) r t here stands (IsUnfilledOf sign new)
-        (subst (λ setting. offence setting sign (map meaning r.items) (meaning (item_of octets t)) ≡ None) (sym r.is.off) fine)
-        (record { off = r.is.off; fine = none_more (offence Off sign) (map meaning r.items) (meaning (item_of octets t)) r.is.fine fine; state_is = st; limited = limited })
+  pub steps_at_bracket : HasNoItem (drop at octets) → judging_steps sign octets ≡ steps + rest_steps (drop at octets)
+  steps_at_bracket none = steps_ended sign octets r.items (drop at octets) (record { each = r.each; spelled = r.front; ends = none }) r.none ∙ ap (λ k. k + rest_steps (drop at octets)) (sym r.taken)
 
 module _ (sign : SignData) (items : List Meaning) (kept : Pass) (of : IsFilledOf sign items kept) where
   -- what clashes with its lines clashes with its order
@@ -203,12 +191,7 @@ module _ (sign : SignData) (items : List Meaning) (kept : Pass) (of : IsFilledOf
       let line : line_in_force kept.state ≡ line_sum (after_last is_break (filled (Some (standing sign items).rectangle.width) (in_group present (present_area sign items)))) =
       ap (λ (a : Area). a.group.line) of.state_is.area ∙ ap (λ (a : Area). line_sum (after_last is_break (in_group a.present (present_area sign (laid_items Words sign items items))))) (sym of.state_is.area) ∙ ap (λ l. line_sum (after_last is_break l)) (group_laid sign items present) in
       let (own, behind) = open_ordered (standing sign items).rectangle.width (in_group present (present_area sign items)) (placing_group present (present_area sign items) (in_area_placing (standing sign items).area (spots sign items))) in
-      let order = order_sum (after_last is_break (in_group present (present_area sign items))) in
-      record {
-        state = ready sign (laid_items Words sign items items) kept.state of.state_is;
-        line = subst (λ (o : Order). IsOrderedBy o (line_in_force kept.state)) (sym of.order_is) (subst (IsOrderedBy order) (sym line) own);
-        behind = subst (λ (o : Order). IfSome kept.split (λ s. IsOrderedBy o s.behind)) (sym of.order_is) (subst (λ o. IfSome o (λ s. IsOrderedBy order s.behind)) (sym of.split_is) behind);
-      }
+      search (rules, ready)
 
   -- it has their pages and times
   pub kept_pages : kept.state.pages ≡ pages_of items
@@ -228,31 +211,23 @@ is_false n none = ap not (eq-eqb n 0 none)
 pub judged_unfilled : (sign : SignData) (items : List Meaning) (item : Meaning) (result : Result (Unit {0}) SyntaxError) (pass : Pass) → sign.line_fill ≡ Off → some_after (offence Off sign) items ≡ [] → IsLimited pass.state
     → IsJudged sign items item result pass.state
     → IsTagJudged false sign items item result pass
-judged_unfilled sign items item (Ok done) pass off none limited (fine, st) =
-    (subst (λ (setting : LineFill). offence setting sign items item ≡ None) (sym off) fine, record { off = off; fine = none_more (offence Off sign) items item none fine; state_is = st; limited = limited })
-judged_unfilled sign items item (Err error) pass off none limited offends = subst (λ (setting : LineFill). offence setting sign items item ≡ Some (code_of error)) (sym off) offends
+judged_unfilled sign items item result pass off none limited judged = search (rules, none_more)
 
 -- before the first item
 pub pass_start : (sign : SignData) (pass : Pass) (words : Bool) → sign.line_fill ≡ fill_of words → IsStateOf sign [] pass.state → IsLimited pass.state
     → (IsStateOf sign (laid_items Words sign [] []) pass.state → present_area sign [] ≡ [] → IsFilledOf sign [] pass) → IsPassOf words sign pass []
 unfolding spots
-pass_start sign pass true is st limited filled = record { words = is; of = filled st refl }
-pass_start sign pass false is st limited filled = record { off = is; fine = refl; state_is = st; limited = limited }
+pass_start sign pass words is st limited filled = search rules
 
 -- a character without a cell
 pub pass_undefined : (sign : SignData) (items : List Meaning) (pass : Pass) (words : Bool) → IsPassOf words sign pass items → (number : ℕ) → cell_in sign pass.state.attributes.font.number number ≡ None
     → offence sign.line_fill sign items (Shows number) ≡ Some 7
-pass_undefined sign items pass true is number none =
-    subst (λ (setting : LineFill). offence setting sign items (Shows number) ≡ Some 7) (sym is.words) (filled_undefined sign items pass is.of number none)
-pass_undefined sign items pass false is number none =
-    subst (λ (setting : LineFill). offence setting sign items (Shows number) ≡ Some 7) (sym is.off) (judged-undefined sign items pass.state is.state_is number none)
+pass_undefined sign items pass words is number none = search (rules, cell_missing, filled_undefined, offence-undefined)
 
 -- a pass over lines of either kind is ready
 pub pass_ready : (words : Bool) (sign : SignData) (pass : Pass) (items : List Meaning) → IsPassOf words sign pass items → IsPassReady words pass
-pass_ready true sign pass items is = filled_ready sign items pass is.of
-pass_ready false sign pass items is = ready sign items pass.state is.state_is
+pass_ready words sign pass items is = search (rules, filled_ready, ready)
 
 -- where lines aren't filled the limits are known
 pub limited_of : (words : Bool) → words ≡ false → (sign : SignData) (pass : Pass) (items : List Meaning) → IsPassOf words sign pass items → IsLimited pass.state
-limited_of true off sign pass items is = absurd cc
-limited_of false off sign pass items is = is.limited
+limited_of words off sign pass items is = search rules

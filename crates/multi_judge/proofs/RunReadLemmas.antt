@@ -1,9 +1,9 @@
 -- One more octet of a run, in the string that is read.
-use Rattle.multi_judge.proofs.Common.{counted, order_of, ◌≡◌, ℕ, suc, ◌+◌, ◌^◌, ◌<◌, ◌≤◌, List, [], ◌∷◌, ◌++◌, length, map, drop, take, slice_get, Option, Some, None, refl, sym, ◌∙◌, arith, true, false, ◌&&◌, ◌||◌, ◌==◌, ap, ◌-◌, Bool, cond, subst, rules, nat_le, nat_lt, All, after_last, AllPass, list_any, and_from, and_right, le-leb, le-ltb, eq-eqb, false≢true, option_map, unwrap_or, length-drop, All-head, All-tail, sum_by-append, line_number, page_number, Off, IsPlain, Token, IsTokenOf, SizedCell, SignData, cell_in, IsWithin, HasWidth, width_in, Spot, area_of, is_break, is_glyph, in_group, Meaning, Shows, meaning, conflicts, offence, clashes, some_after, none_mapped, filled, is_space, Area, Line, State, ReadSoFar, IsRun, is_within, kept_height, held, lengthened, lengthened_by, line_in_force, lengthened_area, present_area, IsStateOf, IsUnfilledOf, area_sum, line_sum, IsCharacter, area_sum_in, group_sum, AddsCharacter, character_of, order_sum, split_sum, Attributes, Split, Pass, IsFilledRun, even_line, longer_line, with_run, with_run_behind, IsFilledFor, sum_by, length-take-le, take-append-drop, IsBehindOne, GoesOnBehind}
+use Rattle.multi_judge.proofs.Common.{counted, order_of, ◌≡◌, ℕ, suc, ◌+◌, ◌*◌, ◌^◌, ◌<◌, ◌≤◌, List, [], ◌∷◌, ◌++◌, length, map, drop, take, slice_get, Option, Some, None, refl, sym, ◌∙◌, arith, true, false, ◌&&◌, ◌||◌, ◌==◌, ap, ◌-◌, Bool, cond, subst, rules, nat_le, nat_lt, All, after_last, AllPass, list_any, and_from, and_right, le-leb, le-ltb, eq-eqb, ne_eqb, option_map, unwrap_or, length-drop, All-head, All-tail, sum_by-append, line_number, page_number, Off, IsPlain, Token, SizedCell, SignData, cell_in, IsWithin, HasWidth, width_in, Spot, area_of, is_break, is_glyph, in_group, Meaning, Shows, meaning, conflicts, offence, clashes, some_after, none_mapped, none_more, filled, is_space, Area, Line, State, ReadSoFar, IsRun, is_within, kept_height, held, lengthened_by, line_in_force, lengthened_area, present_area, IsStateOf, IsUnfilledOf, area_sum, line_sum, IsCharacter, area_sum_in, group_sum, AddsCharacter, character_of, order_sum, split_sum, Attributes, Split, Pass, IsFilledRun, even_line, longer_line, with_run, with_run_behind, IsFilledFor, sum_by, length-take-le, take-append-drop, IsBehindOne, GoesOnBehind, Char, item_steps}
 use Rattle.multi_judge.proofs.Sums.{conflicts_kept, own_line, area_filled, group_of_own, some_mapped, no_character}
 use Rattle.multi_token.proofs.PlaceLemmas.{drop_read, read_drop, single_token}
 use Rattle.multi_judge.proofs.LimitLemmas.{character_judged}
-use Rattle.multi_judge.proofs.ReadLemmas.{unfilled_more, filled_put, read_more}
+use Rattle.multi_judge.proofs.ReadLemmas.{filled_put, read_more}
 use Rattle.multi_judge.proofs.RunLemmas.{area_beside, behind_stays, run_stays, line_lengthened}
 use Rattle.multi_judge.proofs.FilledStateLemmas.{order_apart, order_stays}
 use Rattle.multi_judge.proofs.FillGroupLemmas.{Joins, present_glyphs, present_line, stands_there, split_none, split_space, split_word}
@@ -35,14 +35,11 @@ module _ (sign : SignData) (items : List Meaning) (state : State) (st : IsStateO
       let clash = order_apart spots s (order_sum spots) refl (sym (ap (λ (l : Line). l.present) here) ∙ run.behind.line.segment ∙ sym own)
       (sym (ap (λ (l : Line). l.has_parts) here) ∙ run.behind.line.parts ∙ ap (λ n. nat_lt n 5) (sym own)) in
       let whole = conflicts_kept before s (page_number state.attributes.page_just) state.area.present false glyph (ap page_number page) (ap (λ (a : Area). a.present) sum) (sym clash) in
-      sym (and_right (page_number state.attributes.page_just == state.area.present) false refl)
-      ∙ ap (λ b. b || ((page_number state.attributes.page_just == state.area.present) && false)) (sym (le-ltb (page_number state.attributes.page_just) state.area.present (omega (arith, run.behind.group))))
-      ∙ whole
+      search (rules, and_right, le-ltb)
 
   -- it is added
   added : AddsCharacter state cell.width longer
-  added =
-      grind (arith, area_beside state run.behind gap run.gap_is cell, behind_stays state (held ((line_in_force state).part.width + (gap + cell.width))) (counted ((line_in_force state).part.count + 1)) run.behind)
+  added = search (rules, area_beside, behind_stays)
 
   pub run_goes_on : (line_in_force state).part.width + (gap + cell.width) ≤ state.limits.width
       → (offence Off sign items (Shows number) ≡ None) × IsStateOf sign (items ++ Shows number ∷ []) longer
@@ -53,50 +50,35 @@ module _ (sign : SignData) (items : List Meaning) (state : State) (st : IsStateO
       let (fine, behind) = character_judged sign items state st longer refl none run.limited number cell found cell.width refl added false agrees refl in
       (fine ∙ rw within refl, behind)
 
-module _ (sign : SignData) (octets : List ℕ) (at : ℕ) (state : State) (r : ReadSoFar sign octets at (IsUnfilledOf sign state)) (octet : ℕ)
-    (short : length octets < 2 ^ 63) (here : slice_get octets at ≡ Some octet) (plain : IsPlain octet) where
-  abbrev token : Token
-  token = record { at = at; len = 1; kind = kinds.Char octet }
+-- an octet that stands for itself takes two steps
+pub octet_steps : (left octet : ℕ) → IsPlain octet → item_steps left (Char octet) ≡ 2
+octet_steps left octet plain = ap (λ b. cond (b || (octet == 93)) 4 2) (ne_eqb octet 91 plain.0) ∙ ap (λ b. cond b 4 2) (ne_eqb octet 93 plain.1)
 
-  stands : IsTokenOf octets token
-  stands = single_token octets at octet short here plain
-
-  module _ (gap : ℕ) (run : IsRun state gap) (wide : ℕ) (width_is : Some wide ≡ option_map (λ (c : SizedCell). c.width) (cell_in sign state.attributes.font.number octet)) where
-    pub octet_goes_on : wide ≤ 64 → (line_in_force state).part.width + (gap + wide) ≤ state.limits.width
-        → ReadSoFar sign octets (at + 1) (IsUnfilledOf sign (lengthened_by (gap + wide) 1 state))
-    octet_goes_on narrow fits =
-        let (cell, found, is) = cell_of_width (cell_in sign state.attributes.font.number octet) wide width_is in
-        let st = r.is.state_is in
-        let behind = run_goes_on sign (map meaning r.items) state st gap run octet cell found (omega (arith, narrow, is)) r.is.fine (omega (arith, fits, is)) in
-        let longer = unfilled_more sign octets at state r token refl stands (lengthened_by (gap + cell.width) 1 state) behind.0 behind.1
-        (record { width = r.is.limited.width; height = r.is.limited.height }) in
-        rw is longer
+-- so a run goes on with it, where lines aren't filled
+pub octet_goes_on : (sign : SignData) (octets : List ℕ) (at steps : ℕ) (state : State) → ReadSoFar sign octets at steps (IsUnfilledOf sign state) → (octet : ℕ) → length octets < 2 ^ 63 → slice_get octets at ≡ Some octet → IsPlain octet
+    → (gap : ℕ) → IsRun state gap → (wide : ℕ) → Some wide ≡ option_map (λ (c : SizedCell). c.width) (cell_in sign state.attributes.font.number octet) → wide ≤ 64 → (line_in_force state).part.width + (gap + wide) ≤ state.limits.width
+    → ReadSoFar sign octets (at + 1) (steps + 2) (IsUnfilledOf sign (lengthened_by (gap + wide) 1 state))
+octet_goes_on sign octets at steps state r octet short here plain gap run wide width_is narrow fits =
+    let (cell, found, is) = cell_of_width (cell_in sign state.attributes.font.number octet) wide width_is in
+    let (fine, st) = run_goes_on sign (map meaning r.items) state r.is.state_is gap run octet cell found (omega (arith, narrow, is)) r.is.fine (omega (arith, fits, is)) in
+    let token : Token = record { at = at; len = 1; kind = kinds.Char octet } in
+    let of : IsUnfilledOf sign (lengthened_by (gap + cell.width) 1 state) (map meaning r.items ++ Shows octet ∷ []) = record {
+      off = r.is.off;
+      fine = none_more (offence Off sign) (map meaning r.items) (Shows octet) r.is.fine fine;
+      state_is = st;
+      limited = record { width = r.is.limited.width; height = r.is.limited.height };
+    } in
+    let longer = read_more sign octets at steps (IsUnfilledOf sign state) r token refl (single_token octets at octet short here plain) (IsUnfilledOf sign (lengthened_by (gap + cell.width) 1 state))
+    (subst (λ setting. offence setting sign (map meaning r.items) (Shows octet) ≡ None) (sym r.is.off) fine) of in
+    subst (λ (x : ℕ × ℕ). ReadSoFar sign octets (at + 1) (steps + x.0) (IsUnfilledOf sign (lengthened_by (gap + x.1) 1 state))) (λ i. (octet_steps (length octets - at) octet plain i, sym is i)) longer
 
 -- a state that was lengthened, once more
-pub lengthened_more : (state : State) (pixels count more : ℕ) → lengthened_by more 1 (lengthened_by pixels count state) ≡ lengthened_by (pixels + more) (count + 1) state
-lengthened_more state pixels count more =
-    let part = (line_in_force state).part in
-    let wide : held (held (part.width + pixels) + more) ≡ held (part.width + (pixels + more)) = omega arith in
-    let many : counted (counted (part.count + count) + 1) ≡ counted (part.count + (count + 1)) = omega arith in
-    λ i. lengthened (wide i) (many i) state
+pub lengthened_more : (state : State) (pixels count more characters : ℕ) → lengthened_by more characters (lengthened_by pixels count state) ≡ lengthened_by (pixels + more) (count + characters) state
+lengthened_more state pixels count more characters = search rules
 
 -- by nothing
 pub lengthened_none : (spots : List Spot) (state : State) → state.area ≡ area_sum spots → lengthened_by 0 0 state ≡ state
-lengthened_none spots state e =
-    let part = (line_in_force state).part in
-    let wide : held (part.width + 0) ≡ part.width = omega (arith, ap (λ (a : Area). a.group.line.part.width) e) in
-    let many : counted (part.count + 0) ≡ part.count = omega (arith, ap (λ (a : Area). a.group.line.part.count) e) in
-    λ i. lengthened (wide i) (many i) state
-
--- the same, where the run began in a state whose segment has been lengthened since
-module _ (sign : SignData) (octets : List ℕ) (at : ℕ) (state : State) (pixels count : ℕ) (r : ReadSoFar sign octets at (IsUnfilledOf sign (lengthened_by pixels count state))) where
-  module _ (octet : ℕ) (short : length octets < 2 ^ 63) (here : slice_get octets at ≡ Some octet) (plain : IsPlain octet)
-      (gap : ℕ) (run : IsRun state gap) (wide : ℕ) (width_is : Some wide ≡ option_map (λ (c : SizedCell). c.width) (cell_in sign state.attributes.font.number octet)) where
-    pub more_goes_on : wide ≤ 64 → (line_in_force state).part.width + pixels + (gap + wide) ≤ state.limits.width → ReadSoFar sign octets (at + 1) (IsUnfilledOf sign (lengthened_by (pixels + (gap + wide)) (count + 1) state))
-    more_goes_on narrow fits =
-        let part = (line_in_force state).part in
-        subst (λ s. ReadSoFar sign octets (at + 1) (IsUnfilledOf sign s)) (lengthened_more state pixels count (gap + wide))
-        (octet_goes_on sign octets at (lengthened_by pixels count state) r octet short here plain gap (run_stays state gap (held (part.width + pixels)) (counted (part.count + count)) run) wide width_is narrow (omega (arith, fits)))
+lengthened_none spots state e = search rules
 
 pub behind_first : {x y : ℕ} {xs ys : List ℕ} → x ∷ xs ≡ y ∷ ys → xs ≡ ys
 behind_first e = cc
@@ -113,8 +95,6 @@ module _ (octets : List ℕ) (gap limit : ℕ) (width_of : ℕ → Option ℕ) (
       let wider : pixels + 0 ≡ pixels = omega arith in
       let number : count + 0 ≡ count = omega arith in
       rw (to, wider, number) p
-  text_taken [] rest (w ∷ widths) at pixels count p e ones each within fits = absurd (cc)
-  text_taken (octet ∷ text) rest [] at pixels count p e ones each within fits = absurd (cc)
   text_taken (octet ∷ text) rest (w ∷ widths) at pixels count p e ones each within fits =
       let here : slice_get octets at ≡ Some octet = read_drop octets at octet (text ++ rest) e in
       let is : Some w ≡ width_of octet = cc in
@@ -127,26 +107,28 @@ module _ (octets : List ℕ) (gap limit : ℕ) (width_of : ℕ → Option ℕ) (
       let wider : pixels + (gap + w) + sum_by (λ v. gap + v) widths ≡ pixels + sum_by (λ v. gap + v) (w ∷ widths) = omega (arith, total) in
       let number : count + 1 + length text ≡ count + suc (length text) = omega arith in
       rw (← to, ← wider, ← number) all
+  text_taken _ rest _ at pixels count p e ones each within fits = absurd (cc)
 
   -- so it does behind the front of what stands there
   pub front_taken : (at len pixels : ℕ) → P at 0 0 → at + len ≤ length octets → All IsOne (take len (drop at octets)) → HasWidth width_of gap (take len (drop at octets)) pixels → pixels ≤ limit → P (at + len) pixels len
   front_taken at len pixels p within ones has narrow =
       let size = length-take-le len (drop at octets) (rw (length-drop at octets) (omega (arith, within))) in
       let all = text_taken (take len (drop at octets)) (drop len (drop at octets)) has.widths at 0 0 p (sym (take-append-drop len (drop at octets))) ones has.each has.within (omega (arith, narrow, has.together)) in
-      let wide : 0 + sum_by (λ w. gap + w) has.widths ≡ pixels = omega (arith, has.together) in
-      let many : 0 + length (take len (drop at octets)) ≡ len = omega (arith, size) in
-      subst (λ (x : ℕ × ℕ × ℕ). P x.0 x.1 x.2) (λ i. (at + size i, wide i, many i)) all
+      search rules
 
 -- the front of what stands behind a character with the same attributes
-module _ (sign : SignData) (octets : List ℕ) (at : ℕ) (state : State) (r : ReadSoFar sign octets at (IsUnfilledOf sign state)) (short : length octets < 2 ^ 63) (gap : ℕ) (run : IsRun state gap) where
+module _ (sign : SignData) (octets : List ℕ) (at steps : ℕ) (state : State) (r : ReadSoFar sign octets at steps (IsUnfilledOf sign state)) (short : length octets < 2 ^ 63) (gap : ℕ) (run : IsRun state gap) where
   pub front_read : (len pixels : ℕ) → at + len ≤ length octets → All IsPlain (take len (drop at octets)) → HasWidth (width_in sign state.attributes.font.number) gap (take len (drop at octets)) pixels
       → (line_in_force state).part.width + pixels ≤ state.limits.width
-      → ReadSoFar sign octets (at + len) (IsUnfilledOf sign (lengthened_by pixels len state))
+      → ReadSoFar sign octets (at + len) (steps + 2 * len) (IsUnfilledOf sign (lengthened_by pixels len state))
   front_read len pixels within plain has narrow =
       let part = (line_in_force state).part in
-      let start = subst (λ s. ReadSoFar sign octets at (IsUnfilledOf sign s)) (sym (lengthened_none (present_area sign (map meaning r.items)) state r.is.state_is.area)) r in
-      front_taken octets gap (state.limits.width - part.width) (width_in sign state.attributes.font.number) IsPlain (λ at pixels count. ReadSoFar sign octets at (IsUnfilledOf sign (lengthened_by pixels count state)))
-      (λ at pixels count octet wide r here plain is within fits. more_goes_on sign octets at state pixels count r octet short here plain gap run wide is within.1 (omega (arith, fits, within.0)))
+      let none : steps ≡ steps + 2 * 0 = omega arith in
+      let start = subst (λ (x : State × ℕ). ReadSoFar sign octets at x.1 (IsUnfilledOf sign x.0)) (λ i. (sym (lengthened_none (present_area sign (map meaning r.items)) state r.is.state_is.area) i, none i)) r in
+      front_taken octets gap (state.limits.width - part.width) (width_in sign state.attributes.font.number) IsPlain (λ at pixels count. ReadSoFar sign octets at (steps + 2 * count) (IsUnfilledOf sign (lengthened_by pixels count state)))
+      (λ at pixels count octet wide r here plain is within fits. subst (λ (x : State × ℕ). ReadSoFar sign octets (at + 1) x.1 (IsUnfilledOf sign x.0))
+      (λ i. (lengthened_more state pixels count (gap + wide) 1 i, let two : steps + 2 * count + 2 ≡ steps + 2 * (count + 1) = omega arith in two i))
+      (octet_goes_on sign octets at (steps + 2 * count) (lengthened_by pixels count state) r octet short here plain gap (run_stays state gap (held (part.width + pixels)) (counted (part.count + count)) run) wide is within.1 (omega (arith, fits, within.0))))
       at len pixels start within plain has (omega (arith, narrow))
 
 -- a line of characters is lengthened
@@ -185,19 +167,6 @@ module _ (here : Attributes) (gap width : ℕ) (gap_is : gap ≡ unwrap_or here.
   split_more false None on line open' s glyphs is space apart e o = split_none open' s space o
   split_more false (Some parts) on line open' s glyphs is space apart e o =
       split_word open' s (character_of here width) glyphs is space apart parts (with_run here gap (gap + width) 1 parts.behind) o (λ l t glyphs is e apart. line_more here width gap gap_is parts.behind on l t glyphs is e)
-
-  -- a character behind it would have these attributes too
-  pub split_goes_on : (space : Bool) (line : Line) (split : Option Split) → GoesOnBehind here.line_just here.font split → GoesOnBehind here.line_just here.font (split_one here gap width space line split)
-  split_goes_on true line split on = λ some. absurd (false≢true some)
-  split_goes_on false line None on = tt
-  split_goes_on false line (Some parts) on = λ some. by_any parts.behind.any refl
-    where
-      by_any : (b : Bool) → parts.behind.any ≡ b → IsBehindOne here.line_just here.font (with_run here gap (gap + width) 1 parts.behind)
-      by_any true some =
-          let one = on some in
-          subst (IsBehindOne here.line_just here.font) (sym (run_some here gap (gap + width) 1 parts.behind some))
-          (record { segment = one.segment; parts = one.parts; any = one.any; height = one.height; spacing = one.spacing; last = one.last })
-      by_any false none = rw none (record { segment = refl; parts = refl; any = refl; height = omega arith; spacing = omega arith; last = refl })
 
 -- what is kept with one more character of this width
 abbrev pub with_one : ℕ → ℕ → Bool → Pass → Pass
@@ -244,10 +213,10 @@ module _ (kept : Pass) (run : IsFilledRun kept) (gap : ℕ) (runs : IsRun kept.s
       (area_filled old new group s (page_number here.page_just) w on area area' turned refl refl refl group_is, parts, ended, before)
 
 -- one more octet of a run
-module _ (sign : SignData) (octets : List ℕ) (at : ℕ) (kept : Pass) (r : ReadSoFar sign octets at (IsFilledFor sign kept)) (octet : ℕ) (short : length octets < 2 ^ 63) (here : slice_get octets at ≡ Some octet) (plain : IsPlain octet)
+module _ (sign : SignData) (octets : List ℕ) (at steps : ℕ) (kept : Pass) (r : ReadSoFar sign octets at steps (IsFilledFor sign kept)) (octet : ℕ) (short : length octets < 2 ^ 63) (here : slice_get octets at ≡ Some octet) (plain : IsPlain octet)
     (run : IsFilledRun kept) (gap : ℕ) (runs : IsRun kept.state gap) (wide : ℕ) (small : wide ≤ 64)
     (width_is : Some wide ≡ option_map (λ (c : SizedCell). c.width) (cell_in sign kept.state.attributes.font.number octet)) (fits : (line_in_force kept.state).part.width + (gap + wide) ≤ kept.state.limits.width) where
-  pub one_taken : ReadSoFar sign octets (at + 1) (IsFilledFor sign (with_one gap wide (octet == 32) kept))
+  pub one_taken : ReadSoFar sign octets (at + 1) (steps + 2) (IsFilledFor sign (with_one gap wide (octet == 32) kept))
   one_taken =
       let (cell, found, is) = cell_of_width (cell_in sign kept.state.attributes.font.number octet) wide width_is in
       let items = map meaning r.items in
@@ -268,5 +237,6 @@ module _ (sign : SignData) (octets : List ℕ) (at : ℕ) (kept : Pass) (r : Rea
       kept.order (λ line s just apart goes stays. order_stays line s (order_of kept.order) (goes refl) (run.order.0 ∙ ap line_number (sym just)) (run.order.1 ∙ ap (λ j. nat_lt (line_number j) 5) (sym just))) in
       let fits' = and_from (nat_le one_longer.part.width kept.state.limits.width) (nat_le (kept_height area.group) kept.state.limits.height) (still_fits kept run gap runs wide fits (octet == 32)) runs.height in
       let token : Token = record { at = at; len = 1; kind = kinds.Char octet } in
-      read_more sign octets at (IsFilledFor sign kept) r token refl (single_token octets at octet short here plain) (IsFilledFor sign (with_one gap wide (octet == 32) kept))
-      (put.0 ∙ ap {B = Option ℕ} (λ b. cond b None (Some 5)) fits') (put.1 fits').of
+      subst (λ k. ReadSoFar sign octets (at + 1) (steps + k) (IsFilledFor sign (with_one gap wide (octet == 32) kept))) (octet_steps (length octets - at) octet plain)
+      (read_more sign octets at steps (IsFilledFor sign kept) r token refl (single_token octets at octet short here plain) (IsFilledFor sign (with_one gap wide (octet == 32) kept))
+      (put.0 ∙ ap {B = Option ℕ} (λ b. cond b None (Some 5)) fits') (put.1 fits').of)

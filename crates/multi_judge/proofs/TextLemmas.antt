@@ -1,172 +1,137 @@
--- A word behind a character with the same attributes, where lines are filled: what is kept with it.
-use Rattle.multi_judge.specs.Run.{IsRunPassed}
-use Rattle.multi_judge.proofs.Common.{counted, State, held, lengthened_by, slice_range, map, meaning, Meaning, laid_items, Words, present_area, IsFilledOf, Bool, cond, list_any, Spot, is_glyph, CutAt, parts_sum, line_sum, longer_line, lengthened_line, ◌≡◌, ℕ, ◌+◌, ◌-◌, ◌^◌, ◌<◌, ◌≤◌, false, List, length, take, drop, slice_get, Option, Some, None, refl, ap, subst, ◌∙◌, arith, rules, ◌*◌, true, sym, All, option_map, cases_eq, ne_eqb, IsPlain, SignData, FontData, IsWithin, HasWidth, width_in, Counted, RisesBetween, charged, Attributes, Split, Pass, Line, IsFilledRun, even_line, with_run, with_run_behind, with_word, IsFilledFor, ReadSoFar, IsAt, IsRun, line_in_force, IsInText, IsNoSpace, TakesSpace, gap_here, and_from, le-leb, nat_le, kept_height}
-use Rattle.multi_token.proofs.StepLemmas.{rises_then}
-use Rattle.multi_judge.proofs.Sums.{counted_more, held_more}
-use Rattle.multi_judge.proofs.RunReadLemmas.{one_goes_on, one_taken, run_some, with_one, front_taken, lengthened_none}
+-- Text behind a character with the same attributes, where lines are filled: what is kept with it.
+use Rattle.multi_judge.proofs.Common.{counted, State, held, lengthened_by, map, meaning, laid_items, Words, present_area, Spot, CutAt, parts_sum, ◌≡◌, ◌==◌, ℕ, ◌+◌, ◌-◌, ◌*◌, ◌^◌, ◌<◌, ◌≤◌, true, List, length, take, drop, slice_get, Option, Some, None, refl, sym, ap, subst, ◌∙◌, arith, rules, All, option_map, cases_eq, ne_eqb, IsPlain, SignData, IsWithin, HasWidth, width_in, Attributes, Split, Pass, Line, IsFilledRun, with_run_behind, with_word, with_text, IsFilledFor, ReadSoFar, IsRun, line_in_force, length-take-le, length-drop, IsLastSpaceOf, take-take, drop-drop, drop-take, All-take, All-drop, IsNoSpace, Space, slice_get_within, get_behind, get_front}
+use Rattle.std.proofs.Common.{length-take}
+use Rattle.multi_judge.proofs.RunReadLemmas.{one_goes_on, one_taken, run_some, split_one, with_one, front_taken, lengthened_more, lengthened_none}
 use Rattle.multi_judge.proofs.RunLemmas.{run_stays}
 
 module _ (here : Attributes) (gap : ℕ) where
-  -- no character more
-  run_none : (line : List Spot) → with_run here gap 0 0 (line_sum line) ≡ line_sum line
-  run_none line = by (list_any is_glyph line)
-    where
-      same : longer_line 0 0 (line_sum line) ≡ line_sum line
-      same =
-          let part = (line_sum line).part in
-          let wide : held (part.width + 0) ≡ part.width = omega arith in
-          let many : counted (part.count + 0) ≡ part.count = omega arith in
-          λ i. lengthened_line (wide i) (many i) (line_sum line)
-
-      by : (b : Bool) → cond b (longer_line 0 0 (line_sum line)) (line_sum line) ≡ line_sum line
-      by true = same
-      by false = refl
-
-  -- a line of no character begins with some
-  run_begun : (pixels count : ℕ) (line : Line) → line.any ≡ false → 1 ≤ count → with_run here gap pixels count line ≡ even_line here (pixels - gap) count line
-  run_begun pixels count line none some = first_of (search (rules, ne_eqb), grind (arith, ne_eqb))
-
-  -- some, and one more
-  run_more : (pixels count width : ℕ) (line : Line) → (count ≡ 0 → pixels ≡ 0) → (1 ≤ count → gap ≤ pixels)
-      → with_run here gap (gap + width) 1 (with_run here gap pixels count line) ≡ with_run here gap (pixels + (gap + width)) (count + 1) line
-  run_more pixels count width line empty wide_enough = search (rules, cases_eq, counted_more, held_more, run_begun, run_some)
-
   split_none : (cut : Option (CutAt Spot)) → option_map (with_run_behind here gap 0 0) (option_map parts_sum cut) ≡ option_map parts_sum cut
-  split_none None = refl
-  split_none (Some cut) = ap (λ l. let p : Split = record (parts_sum cut) { behind = l } in Some p) (run_none cut.behind)
+  split_none cut = search (rules)
 
   split_more : (pixels count width : ℕ) (split : Option Split) → (count ≡ 0 → pixels ≡ 0) → (1 ≤ count → gap ≤ pixels)
       → option_map (with_run_behind here gap (gap + width) 1) (option_map (with_run_behind here gap pixels count) split) ≡ option_map (with_run_behind here gap (pixels + (gap + width)) (count + 1)) split
-  split_more pixels count width None empty wide = refl
-  split_more pixels count width (Some parts) empty wide = ap (λ l. let p : Split = record parts { behind = l } in Some p) (run_more pixels count width parts.behind empty wide)
+  split_more pixels count width split empty wide = search (rules, cases_eq, ne_eqb, run_some)
 
-with_none : (sign : SignData) (items : List Meaning) (gap : ℕ) (kept : Pass) → IsFilledOf sign items kept → with_word gap 0 0 kept ≡ kept
-with_none sign items gap kept of =
-    let parts : option_map (with_run_behind kept.state.attributes gap 0 0) kept.split ≡ kept.split =
-    ap (option_map (with_run_behind kept.state.attributes gap 0 0)) of.split_is ∙ split_none kept.state.attributes gap _ ∙ sym of.split_is in
-    λ i. record kept { state = lengthened_none (present_area sign (laid_items Words sign items items)) kept.state of.state_is.area i; split = parts i }
-
-with_more : (gap pixels count width : ℕ) (kept : Pass) → (count ≡ 0 → pixels ≡ 0) → (1 ≤ count → gap ≤ pixels) → with_one gap width false (with_word gap pixels count kept) ≡ with_word gap (pixels + (gap + width)) (count + 1) kept
-with_more gap pixels count width kept empty enough = search (rules)
-
--- a text without a space
-module _ (sign : SignData) (octets : List ℕ) (at : ℕ) (kept : Pass) (r : ReadSoFar sign octets at (IsFilledFor sign kept)) (short : length octets < 2 ^ 63) (run : IsFilledRun kept) (gap : ℕ) (runs : IsRun kept.state gap) where
+module _ (sign : SignData) (octets : List ℕ) (at steps : ℕ) (kept : Pass) (r : ReadSoFar sign octets at steps (IsFilledFor sign kept)) (short : length octets < 2 ^ 63) (run : IsFilledRun kept) (gap : ℕ) (runs : IsRun kept.state gap) where
   abbrev width_of : ℕ → Option ℕ
   width_of = width_in sign kept.state.attributes.font.number
 
   abbrev line : Line
   line = line_in_force kept.state
 
-  -- so many of its characters are taken
-  record Taken (to pixels count : ℕ) : Type 0 where
-    pub read : ReadSoFar sign octets to (IsFilledFor sign (with_word gap pixels count kept))
-    pub goes_on : IsFilledRun (with_word gap pixels count kept)
-    pub empty : count ≡ 0 → pixels ≡ 0
-    pub wide : 1 ≤ count → gap ≤ pixels
+  -- what is kept with so many of its characters, and these parts around the last space
+  abbrev with_parts : ℕ → ℕ → Option Split → Pass
+  with_parts pixels count split = record { state = lengthened_by pixels count kept.state; split = split; order = kept.order }
 
-  one_more : (to pixels count octet wide : ℕ) → Taken to pixels count → slice_get octets to ≡ Some octet → IsPlain octet × IsNoSpace octet → Some wide ≡ width_of octet → IsWithin 1 64 wide
-      → pixels + (gap + wide) ≤ kept.state.limits.width - line.part.width → Taken (to + 1) (pixels + (gap + wide)) (count + 1)
-  one_more to pixels count octet wide taken here one is within fits =
-      let word = with_word gap pixels count kept in
-      let here_runs = run_stays kept.state gap (held (line.part.width + pixels)) (counted (line.part.count + count)) runs in
-      let narrow : held (line.part.width + pixels) + (gap + wide) ≤ kept.state.limits.width = omega (arith, fits, within.0) in
-      let read = one_taken sign octets to word taken.read octet short here one.0 taken.goes_on gap here_runs wide within.1 is narrow in
-      let goes_on = one_goes_on word taken.goes_on gap here_runs wide narrow false in
-      grind (arith, ne_eqb octet 32 one.1, with_more gap pixels count wide kept taken.empty taken.wide, read, goes_on)
+  -- characters of a kind, and what is known of the parts around the last space behind so many of them
+  module _ (IsOne : ℕ → Type 0) (IsSplit : ℕ → ℕ → Option Split → Type 0) (is_plain : (octet : ℕ) → IsOne octet → IsPlain octet) (first : IsSplit 0 0 kept.split)
+      (next : (pixels count octet wide : ℕ) (split : Option Split) → IsOne octet → IsSplit pixels count split
+      → IsSplit (pixels + (gap + wide)) (count + 1) (split_one kept.state.attributes gap wide (octet == 32) (line_in_force (lengthened_by pixels count kept.state)) split)) where
+    -- so many are taken
+    record Taken (to pixels count : ℕ) : Type 0 where
+      pub split : Option Split
+      pub is : IsSplit pixels count split
+      pub read : ReadSoFar sign octets to (steps + 2 * count) (IsFilledFor sign (with_parts pixels count split))
+      pub goes_on : IsFilledRun (with_parts pixels count split)
 
-  -- the front of what stands there
+    one_more : (to pixels count octet wide : ℕ) → Taken to pixels count → slice_get octets to ≡ Some octet → IsOne octet → Some wide ≡ width_of octet → IsWithin 1 64 wide
+        → pixels + (gap + wide) ≤ kept.state.limits.width - line.part.width → Taken (to + 1) (pixels + (gap + wide)) (count + 1)
+    one_more to pixels count octet wide taken here one is within fits =
+        let word = with_parts pixels count taken.split in
+        let here_runs = run_stays kept.state gap (held (line.part.width + pixels)) (counted (line.part.count + count)) runs in
+        let narrow : held (line.part.width + pixels) + (gap + wide) ≤ kept.state.limits.width = omega (arith, fits, within.0) in
+        let split = split_one word.state.attributes gap wide (octet == 32) (line_in_force word.state) word.split in
+        let two : steps + 2 * count + 2 ≡ steps + 2 * (count + 1) = omega arith in
+        let longer = lengthened_more kept.state pixels count (gap + wide) 1 in
+        let read = one_taken sign octets to (steps + 2 * count) word taken.read octet short here (is_plain octet one) taken.goes_on gap here_runs wide within.1 is narrow in
+        record {
+          split = split;
+          is = next pixels count octet wide taken.split one taken.is;
+          read = subst (λ (x : State × ℕ). ReadSoFar sign octets (to + 1) x.1 (IsFilledFor sign (record { state = x.0; split = split; order = kept.order }))) (λ i. (longer i, two i)) read;
+          goes_on = subst (λ state. IsFilledRun (record { state = state; split = split; order = kept.order })) longer (one_goes_on word taken.goes_on gap here_runs wide narrow (octet == 32));
+        }
+
+    -- the front of what stands there
+    front_of : (len pixels : ℕ) → at + len ≤ length octets → All IsOne (take len (drop at octets)) → HasWidth width_of gap (take len (drop at octets)) pixels
+        → line.part.width + pixels ≤ kept.state.limits.width → Taken (at + len) pixels len
+    front_of len pixels within ones has narrow =
+        let none = lengthened_none (present_area sign (laid_items Words sign (map meaning r.items) (map meaning r.items))) kept.state r.is.of.state_is.area in
+        let nothing : steps ≡ steps + 2 * 0 = omega arith in
+        let start : Taken at 0 0 = record {
+          split = kept.split;
+          is = first;
+          read = subst (λ (x : State × ℕ). ReadSoFar sign octets at x.1 (IsFilledFor sign (record { state = x.0; split = kept.split; order = kept.order }))) (λ i. (sym none i, nothing i)) r;
+          goes_on = subst (λ (state : State). IsFilledRun (record { state = state; split = kept.split; order = kept.order })) (sym none) run;
+        } in
+        front_taken octets gap (kept.state.limits.width - line.part.width) width_of IsOne Taken one_more at len pixels start within ones has (omega (arith, narrow))
+
+  -- the front of what stands there, where it has no space
   pub word_taken : (len pixels : ℕ) → at + len ≤ length octets → All IsPlain (take len (drop at octets)) → All IsNoSpace (take len (drop at octets)) → HasWidth width_of gap (take len (drop at octets)) pixels
       → line.part.width + pixels ≤ kept.state.limits.width
-      → ReadSoFar sign octets (at + len) (IsFilledFor sign (with_word gap pixels len kept)) × IsFilledRun (with_word gap pixels len kept)
+      → ReadSoFar sign octets (at + len) (steps + 2 * len) (IsFilledFor sign (with_word gap pixels len kept)) × IsFilledRun (with_word gap pixels len kept)
   word_taken len pixels within plain word has narrow =
-      let none = with_none sign (map meaning r.items) gap kept r.is.of in
-      let start : Taken at 0 0 = record { read = rw none r; goes_on = rw none run; empty = λ none. refl; wide = λ some. absurd (omega (arith, some)) } in
-      let all = front_taken octets gap (kept.state.limits.width - line.part.width) width_of (λ octet. IsPlain octet × IsNoSpace octet) Taken one_more at len pixels start within
-      (λ k d h. (plain k d h, word k d h)) has (omega (arith, narrow)) in
-      (all.read, all.goes_on)
+      let behind = λ (pixels count : ℕ). option_map (with_run_behind kept.state.attributes gap pixels count) in
+      let whole = r.is.of.split_is in
+      let all = front_of (λ octet. IsPlain octet × IsNoSpace octet) (λ pixels count split. (split ≡ behind pixels count kept.split) × (count ≡ 0 → pixels ≡ 0) × (1 ≤ count → gap ≤ pixels))
+      (λ octet one. one.0) (whole ∙ sym (split_none kept.state.attributes gap _) ∙ ap (behind 0 0) (sym whole), λ none. refl, λ some. absurd (omega (arith, some)))
+      (λ pixels count octet wide split one is. (
+        rw (ne_eqb octet 32 one.1) (ap (behind (gap + wide) 1) is.0 ∙ split_more kept.state.attributes gap pixels count wide kept.split is.1 is.2),
+        λ none. absurd (omega (arith, none)),
+        λ some. omega arith,
+      )) len pixels within (λ k d h. (plain k d h, word k d h)) has narrow in
+      subst (λ split. ReadSoFar sign octets (at + len) (steps + 2 * len) (IsFilledFor sign (with_parts pixels len split)) × IsFilledRun (with_parts pixels len split)) all.is.0 (all.read, all.goes_on)
 
--- a word was read behind a character: octets that stand for themselves, none of them a space, of so many pixels, which go into what is left
-pub record ReadsWord (sign : SignData) (cells : FontData) (octets : List ℕ) (at : ℕ) (pass : Pass) (source : Counted) (len pixels : ℕ) : Type 0 where
-  pub text : IsInText sign cells octets at (gap_here pass.state) pass source
-  pub small : length octets < 2 ^ 32
-  pub within : at + len ≤ length octets
-  pub plain : All IsPlain (take len (drop at octets))
-  pub word : All IsNoSpace (take len (drop at octets))
-  pub has : HasWidth (width_in sign pass.state.attributes.font.number) (gap_here pass.state) (take len (drop at octets)) pixels
-  pub run : IsRun pass.state (gap_here pass.state) × ((line_in_force pass.state).part.width + pixels ≤ pass.state.limits.width)
+-- a text, of which this is the last space
+module _ (sign : SignData) (octets : List ℕ) (at steps : ℕ) (kept : Pass) (r : ReadSoFar sign octets at steps (IsFilledFor sign kept)) (short : length octets < 2 ^ 63) (run : IsFilledRun kept) (gap : ℕ) (runs : IsRun kept.state gap) where
+  pub text_taken : (len pixels : ℕ) (space : Option Space) → at + len ≤ length octets → All IsPlain (take len (drop at octets)) → HasWidth (width_in sign kept.state.attributes.font.number) gap (take len (drop at octets)) pixels
+      → (line_in_force kept.state).part.width + pixels ≤ kept.state.limits.width → IsLastSpaceOf (width_in sign kept.state.attributes.font.number) gap (take len (drop at octets)) pixels space
+      → ReadSoFar sign octets (at + len) (steps + 2 * len) (IsFilledFor sign (with_text gap pixels len space kept)) × IsFilledRun (with_text gap pixels len space kept)
+  text_taken len pixels None within plain has narrow none = word_taken sign octets at steps kept r short run gap runs len pixels within plain none has narrow
+  text_taken len pixels (Some space) within plain has narrow last =
+      let text = take len (drop at octets) in
+      let size : length text ≡ len = length-take-le len (drop at octets) (rw (length-drop at octets) (omega (arith, within))) in
+      let inside = last.inside in
+      let first : take space.at text ≡ take space.at (drop at octets) = take-take space.at len (drop at octets) (omega (arith, inside, size)) in
+      let line = line_in_force kept.state in
+      let to = at + space.at in
+      let front = front_of sign octets at steps kept r short run gap runs IsPlain (λ pixels count split. Unit {0}) (λ octet plain. plain) tt (λ pixels count octet wide split plain is. tt) space.at space.before (omega (arith, inside, size, within))
+      (subst (All IsPlain) first (All-take IsPlain space.at text plain)) (subst (λ t. HasWidth (width_in sign kept.state.attributes.font.number) gap t space.before) first last.before) (omega (arith, narrow, last.fits, last.through)) in
+      let word : Pass = record { state = lengthened_by space.before space.at kept.state; split = front.split; order = kept.order } in
+      let word_runs = run_stays kept.state gap (held (line.part.width + space.before)) (counted (line.part.count + space.at)) runs in
+      let room : held (line.part.width + space.before) + (gap + last.width) ≤ kept.state.limits.width = omega (arith, narrow, last.fits, last.through) in
+      let here : slice_get octets to ≡ Some 32 = there len at space.at last.here in
+      let spaced = one_taken sign octets to (steps + 2 * space.at) word front.read 32 short here (λ e. omega (arith, e), λ e. omega (arith, e)) front.goes_on gap word_runs last.width last.narrow.1 last.cell room in
+      let behind = with_one gap last.width true word in
+      let goes_on = one_goes_on word front.goes_on gap word_runs last.width room true in
+      let behind_runs = run_stays word.state gap (held ((line_in_force word.state).part.width + (gap + last.width))) (counted ((line_in_force word.state).part.count + 1)) word_runs in
+      let count = len - (space.at + 1) in
+      let rest : take count (drop (to + 1) octets) ≡ drop (space.at + 1) text = rest_of len at space.at (omega (arith, inside, size)) in
+      let more = word_taken sign octets (to + 1) (steps + 2 * space.at + 2) behind spaced short goes_on gap behind_runs count (pixels - space.through) (omega (arith, inside, size, within))
+      (subst (All IsPlain) (sym rest) (All-drop IsPlain (space.at + 1) text plain)) (subst (All IsNoSpace) (sym rest) last.none)
+      (subst (λ t. HasWidth (width_in sign kept.state.attributes.font.number) gap t (pixels - space.through)) (sym rest) last.behind) (omega (arith, narrow, last.fits, last.through)) in
+      let wide : space.before + (gap + last.width) + (pixels - space.through) ≡ pixels = omega (arith, last.fits, last.through) in
+      let many : space.at + 1 + count ≡ len = omega (arith, inside, size) in
+      let state : lengthened_by (pixels - space.through) count behind.state ≡ lengthened_by pixels len kept.state =
+      ap (lengthened_by (pixels - space.through) count) (lengthened_more kept.state space.before space.at (gap + last.width) 1)
+      ∙ lengthened_more kept.state (space.before + (gap + last.width)) (space.at + 1) (pixels - space.through) count
+      ∙ (λ i. lengthened_by (wide i) (many i) kept.state) in
+      let kept_is : with_word gap (pixels - space.through) count behind ≡ with_text gap pixels len (Some space) kept = λ i. record (with_text gap pixels len (Some space) kept) { state = state i } in
+      let place : to + 1 + count ≡ at + len = omega (arith, inside, size) in
+      let taken : steps + 2 * space.at + 2 + 2 * count ≡ steps + 2 * len = omega (arith, inside, size) in (
+        subst (λ (x : ℕ × ℕ × Pass). ReadSoFar sign octets x.0 x.1 (IsFilledFor sign x.2)) (λ i. (place i, taken i, kept_is i)) more.0,
+        subst IsFilledRun kept_is more.1,
+      )
+    where
+      there : (len at i : ℕ) → slice_get (take len (drop at octets)) i ≡ Some 32 → slice_get octets (at + i) ≡ Some 32
+      there len at i e =
+          let inside = slice_get_within (take len (drop at octets)) i 32 e in
+          sym (get_behind octets at i) ∙ sym (get_front (drop at octets) len i (omega (arith, inside, length-take len (drop at octets)))) ∙ e
 
--- a run was gone along
-module _ {sign : SignData} {octets : List ℕ} {at : ℕ} (pass : Pass) {new : State} (len pixels : ℕ) (p : IsRunPassed sign octets at pixels pass.state (at + len) new) where
-  long : at + len - at ≡ len
-  long = omega arith
-
-  front : slice_range octets at (at + len) ≡ take len (drop at octets)
-  front = λ i. take (long i) (drop at octets)
-
-  pub gone_along : new ≡ lengthened_by pixels len pass.state
-  gone_along = p.is ∙ (λ i. lengthened_by pixels (long i) pass.state)
-
-  pub words : {cells : FontData} {whole : List ℕ} {source : Counted} {gap : ℕ} → IsInText sign cells octets at gap pass source → octets ≡ whole → length whole < 2 ^ 32
-      → All IsNoSpace (take len (drop at octets)) → ReadsWord sign cells octets at pass source len pixels
-  words text same short word = record {
-    text = record { behind = text.behind; fits = text.fits; within = text.within; gap_is = refl; widths = text.widths };
-    small = omega (arith, ap length same, short);
-    within = p.within;
-    plain = subst (All IsPlain) front p.plain;
-    word = word;
-    has = subst (λ (x : ℕ × List ℕ). HasWidth (width_in sign pass.state.attributes.font.number) x.0 x.1 pixels) (λ i. (p.gap_is i, front i)) p.width;
-    run = subst (λ gap. IsRun pass.state gap × ((line_in_force pass.state).part.width + pixels ≤ pass.state.limits.width)) p.gap_is (p.run text.within);
-  }
-
-module _ {sign : SignData} {cells : FontData} {octets : List ℕ} {at : ℕ} {pass : Pass} {source : Counted} {len pixels : ℕ} (w : ReadsWord sign cells octets at pass source len pixels) where
-  abbrev gap : ℕ
-  gap = gap_here pass.state
-
-  abbrev kept : Pass
-  kept = with_word gap pixels len pass
-
-  taken : ReadSoFar sign octets (at + len) (IsFilledFor sign kept) × IsFilledRun kept
-  taken = word_taken sign octets at pass w.text.behind.so_far (omega (arith, w.small)) w.text.fits gap w.run.0 len pixels w.within w.plain w.word w.has w.run.1
-
-  word_room : IsRun kept.state gap
-  word_room = run_stays pass.state gap (held ((line_in_force pass.state).part.width + pixels)) (counted ((line_in_force pass.state).part.count + len)) w.run.0
-
-  -- the steps of the word, and one more for the octet behind it
-  module _ (behind : Counted) (rises : RisesBetween source behind (2 * len + 1) (2 * len + 3)) where
-    steps : behind.steps ≡ (charged source rises.0).steps
-    steps = ap (λ (s : Counted). s.steps) rises.3
-
-    -- the word, where it ends
-    pub word_ended : (next : Option ℕ) → next ≡ slice_get octets (at + len) → (pass' : Pass) → pass' ≡ kept → IsAt sign octets (at + len) next (IsFilledFor sign pass') behind
-    word_ended next octet pass' is = rw is (search (rules, steps, taken))
-
-    -- the word and the space behind it
-    pub word_spaced : slice_get octets (at + len) ≡ Some 32 → (width : ℕ) (pass' : Pass) → TakesSpace cells gap kept width pass' → IsInText sign cells octets (at + len + 1) gap pass' behind
-    word_spaced here width pass' space =
-        let line = line_in_force kept.state in
-        let text = w.text in
-        subst (λ p. IsInText sign cells octets (at + len + 1) gap p behind) (sym space.kept) (record {
-          behind = record {
-            so_far = one_taken sign octets (at + len) kept taken.0 32 (omega (arith, w.small)) here (λ e. omega (arith, e), λ e. omega (arith, e)) taken.1 gap word_room width space.within.1 (space.cell ∙ sym (text.widths 32)) space.fits;
-            same = ap (λ (s : Counted). s.octets) rises.3 ∙ text.behind.same;
-            least = omega (arith, steps, rises.1, text.behind.least, w.within, w.small);
-            most = omega (arith, steps, rises.2, text.behind.most, w.within, w.small);
-          };
-          fits = one_goes_on kept taken.1 gap word_room width space.fits true;
-          within = and_from (nat_le (held (line.part.width + (gap + width))) pass.state.limits.width) (nat_le (kept_height pass.state.area.group) pass.state.limits.height) (le-leb (held (line.part.width + (gap + width))) pass.state.limits.width (omega (arith, space.fits))) word_room.height;
-          gap_is = refl;
-          widths = text.widths;
-        })
-
--- the steps of a word, and one more where the cell of a space was looked for
-pub with_look : (old read looked : Counted) (len : ℕ) → RisesBetween old read (2 * len + 1) (2 * len + 2) → looked ≡ charged read 1 → RisesBetween old looked (2 * len + 1) (2 * len + 3)
-with_look old read looked len rises step =
-    grind (arith, rises_then old read looked (2 * len + 1) (2 * len + 2) 0 1 rises (1, omega arith, omega arith, step))
-
-pub without_look : (old read same : Counted) (len : ℕ) → RisesBetween old read (2 * len + 1) (2 * len + 2) → same ≡ read → RisesBetween old same (2 * len + 1) (2 * len + 3)
-without_look old read same len rises is = (rises.0, rises.1, omega (arith, rises.2), is ∙ rises.3)
-
--- what is kept, once a word was gone along and taken
-pub taken_word : (pass : Pass) (len : ℕ) {new : Pass} {state : State} {gap gap' pixels pixels' : ℕ} → state ≡ lengthened_by pixels len pass.state
-    → new ≡ record pass { state = state; split = option_map (with_run_behind state.attributes gap pixels' len) pass.split } → gap ≡ gap' → pixels' ≡ pixels → new ≡ with_word gap' pixels len pass
-taken_word pass len along put gaps wide = put ∙ (λ i. record pass { state = along i; split = option_map (with_run_behind (along i).attributes (gaps i) (wide i) len) pass.split })
+      rest_of : (len at i : ℕ) → i < len → take (len - (i + 1)) (drop (at + i + 1) octets) ≡ drop (i + 1) (take len (drop at octets))
+      rest_of len at i h =
+          let parts : len ≡ i + 1 + (len - (i + 1)) = omega (arith, h) in
+          let whole : at + i + 1 ≡ at + (i + 1) = omega arith in
+          ap (λ k. take (len - (i + 1)) (drop k octets)) whole
+          ∙ ap (take (len - (i + 1))) (sym (drop-drop (i + 1) at octets))
+          ∙ sym (drop-take (i + 1) (len - (i + 1)) (drop at octets))
+          ∙ ap (λ k. drop (i + 1) (take k (drop at octets))) (sym parts)

@@ -1,5 +1,6 @@
 -- A run where lines are filled: characters behind one with the same attributes, as long as they stay on its line (own).
-use Rattle.std.specs.Prelude.{◌≡◌, ℕ, ◌+◌, ◌-◌, true, ◌==◌, nat_lt, [], Option, Some, if◌then◌else◌}
+use Rattle.std.specs.Prelude.{◌≡◌, ℕ, ◌+◌, ◌-◌, true, ◌==◌, nat_lt, [], Option, Some, None, if◌then◌else◌}
+use Rattle.multi_token.specs.declared.source.Space.{Space}
 use Rattle.std.specs.Option.{IfSome, option_map}
 use Rattle.multi_tag.specs.Just.{line_number}
 use Rattle.multi_tag.specs.declared.just.LineJust.{LineJust}
@@ -63,10 +64,20 @@ with_word gap pixels count kept = record {
   order = kept.order;
 }
 
--- what is kept with a space behind a run, of so many pixels with the gap before it: the line may be broken there (own)
-abbrev pub with_space : ℕ → Pass → Pass
-with_space pixels kept = record {
-  state = lengthened_by pixels 1 kept.state;
-  split = Some (record { before = line_in_force kept.state; font = kept.state.attributes.font; behind = line_sum [] });
+-- the parts of a line around its last space, with a run behind it of so many pixels and characters with this gap before each, of which this
+-- is the last space (own)
+abbrev pub split_by : Attributes → ℕ → ℕ → ℕ → Option Space → Line → Option Split → Option Split
+split_by here gap pixels count None line split = option_map (with_run_behind here gap pixels count) split
+split_by here gap pixels count (Some space) line split = Some (record {
+  before = longer_line space.before space.at line;
+  font = here.font;
+  behind = with_run here gap (pixels - space.through) (count - (space.at + 1)) (line_sum []);
+})
+
+-- what is kept with such a run (own)
+abbrev pub with_text : ℕ → ℕ → ℕ → Option Space → Pass → Pass
+with_text gap pixels count space kept = record {
+  state = lengthened_by pixels count kept.state;
+  split = split_by kept.state.attributes gap pixels count space (line_in_force kept.state) kept.split;
   order = kept.order;
 }

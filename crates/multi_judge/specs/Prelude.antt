@@ -1,13 +1,14 @@
 -- The words of this crate's contracts that aren't std's, each from where it is defined.
 pub use Rattle.std.specs.List.{All, AllPass, list_any}
 pub use Rattle.std.specs.Option.{unwrap_or}
-pub use Rattle.multi_token.specs.Counted.{charged, RisesBetween}
-pub use Rattle.multi_token.specs.Spelling.{IsPlain}
+pub use Rattle.multi_token.specs.Counted.{charged}
+pub use Rattle.multi_token.specs.Run.{look_steps}
+pub use Rattle.multi_token.specs.Spelling.{IsPlain, is_bracket}
 pub use Rattle.multi_tag.specs.Just.{page_number, line_number}
 pub use Rattle.sign_font.specs.Defaults.{default_fault, under}
 pub use Rattle.sign_font.specs.Sign.{SignData, font_numbered, info_of}
 pub use Rattle.sign_font.specs.Sound.{IsSound, IsWithin}
-pub use Rattle.sign_font.specs.Text.{AreWidthsOf, HasWidth, IsNoSpace, width_in}
+pub use Rattle.sign_font.specs.Text.{AreWidthsOf, HasWidth, width_in}
 pub use Rattle.sign_font.specs.declared.parts.LineFill.TheVariants.{Words}
 pub use Rattle.multi_meaning.specs.Address.{Spot, in_group, lines_of, Standing, is_glyph, area_of}
 pub use Rattle.multi_meaning.specs.Attributes.{whole_sign, default_line_just, default_page_just, is_inside, rectangle}
@@ -18,12 +19,13 @@ pub use Rattle.multi_meaning.specs.Meaning.{Does, begins_area, is_new_page, Mean
 pub use Rattle.multi_meaning.specs.kept.Bounds.{has_place}
 pub use Rattle.multi_meaning.specs.Offence.{clashes, conflicts}
 pub use Rattle.multi_meaning.specs.Place.{start, spread}
+pub use Rattle.multi_meaning.specs.Steps.{looks}
 pub use Rattle.multi_meaning.specs.kept.Present.{IsPlacing, standing_behind, present_area, IsNarrow}
 pub use Rattle.multi_judge.specs.Adding.{ReachesGroup, character_of, IsSameBefore, PutsCharacter, AddsBreak, AddsCharacter}
 pub use Rattle.multi_judge.specs.FillSums.{FillsGroup}
-pub use Rattle.multi_judge.specs.FilledRun.{GoesOnBehind, IsFilledRun, IsOpenAround, with_run_behind}
+pub use Rattle.multi_judge.specs.FilledRun.{GoesOnBehind, IsFilledRun, IsOpenAround, longer_line, split_by, with_run}
 pub use Rattle.multi_judge.specs.FilledState.{IsFilledReady, IsFilledOf}
-pub use Rattle.multi_judge.specs.Judging.{IsAt, IsBehind}
+pub use Rattle.multi_judge.specs.Judging.{IsAt, IsBehind, entry_in}
 pub use Rattle.multi_judge.specs.KnownItem.{IsOctet, is_setting, meant_by}
 pub use Rattle.multi_judge.specs.PassState.{IsPassBehind, IsPassReady, IsPassOf}
 pub use Rattle.multi_judge.specs.Passed.{JudgesCell, JudgesItem, PutsCell}
@@ -32,5 +34,5 @@ pub use Rattle.multi_judge.specs.Run.{kept_height, IsBehindOne, IsOpen, kept_wid
 pub use Rattle.multi_judge.specs.State.{IsSimple, attributes_of, IsLimited, IsMost, IsSmall, JudgesTag, IsReady, Judges, IsStateOf, whole_times}
 pub use Rattle.multi_judge.specs.Sums.{group_sum, area_sum, held, IsBreak, IsCharacter, line_sum}
 pub use Rattle.multi_judge.specs.Table.{group_lines, line_count, line_entry, TableLines, IsOrdered, split_lines}
-pub use Rattle.multi_judge.specs.Text.{TakesSpace}
+pub use Rattle.multi_judge.specs.Text.{IsLastSpaceOf}
 pub use Rattle.multi_judge.specs.declared.table.CountedLine.{CountedLine}

@@ -1,27 +1,25 @@
--- Text where lines are filled: words and spaces that stay on the line of the character before them (own).
-use Rattle.std.specs.Prelude.{◌≡◌, ℕ, ◌+◌, ◌≤◌, true, List, Some}
-use Rattle.multi_token.specs.Counted.{Counted}
-use Rattle.sign_font.specs.Sign.{FontData, SignData}
+-- Text where lines are filled: characters that stay on the line of the one before them (own).
+use Rattle.std.specs.Prelude.{◌≡◌, ℕ, ◌+◌, ◌-◌, ◌<◌, ◌≤◌, List, length, take, drop, slice_get, Option, Some, None}
+use Rattle.std.specs.List.{All}
+use Rattle.multi_token.specs.Run.{IsNoSpace}
+use Rattle.multi_token.specs.declared.source.Space.{Space}
 use Rattle.sign_font.specs.Sound.{IsWithin}
-use Rattle.sign_font.specs.Text.{AreWidthsOf, width_numbered}
-use Rattle.multi_judge.specs.declared.pass.Pass.{Pass}
-use Rattle.multi_judge.specs.FilledRun.{IsFilledRun, with_space}
-use Rattle.multi_judge.specs.FilledState.{IsFilledFor}
-use Rattle.multi_judge.specs.Judging.{IsBehind}
-use Rattle.multi_judge.specs.Run.{gap_here, is_within, line_in_force}
+use Rattle.sign_font.specs.Text.{HasWidth}
 
--- the items before an offset are judged, what is there is within its limits, and the last item is a character whose attributes are in
--- force: their font has these cells, and this is the gap before one more (own)
-pub record IsInText (sign : SignData) (cells : FontData) (octets : List ℕ) (at gap : ℕ) (pass : Pass) (source : Counted) : Type 0 where
-  pub behind : IsBehind sign octets at (IsFilledFor sign pass) source
-  pub fits : IsFilledRun pass
-  pub within : is_within pass.state ≡ true
-  pub gap_is : gap ≡ gap_here pass.state
-  pub widths : AreWidthsOf sign pass.state.attributes.font.number cells
+-- the last space of a text of so many pixels by these widths with this gap before each, with what stands before it and behind it (own)
+pub record HasLastSpace (width_of : ℕ → Option ℕ) (gap : ℕ) (text : List ℕ) (pixels : ℕ) (space : Space) : Type 0 where
+  pub inside : space.at < length text
+  pub here : slice_get text space.at ≡ Some 32
+  pub none : All IsNoSpace (drop (space.at + 1) text)
+  pub width : ℕ
+  pub cell : Some width ≡ width_of 32
+  pub narrow : IsWithin 1 64 width
+  pub before : HasWidth width_of gap (take space.at text) space.before
+  pub through : space.through ≡ space.before + (gap + width)
+  pub behind : HasWidth width_of gap (drop (space.at + 1) text) (pixels - space.through)
+  pub fits : space.through ≤ pixels
 
--- a space whose cell among these has this width in pixels is taken with this gap before it: it fits the line (own)
-pub record TakesSpace (cells : FontData) (gap : ℕ) (pass : Pass) (width : ℕ) (pass' : Pass) : Type 0 where
-  pub cell : Some width ≡ width_numbered cells 32
-  pub within : IsWithin 1 64 width
-  pub fits : (line_in_force pass.state).part.width + (gap + width) ≤ pass.state.limits.width
-  pub kept : pass' ≡ with_space (gap + width) pass
+-- the last space of a text, or none where it has none (own)
+abbrev pub IsLastSpaceOf : (ℕ → Option ℕ) → ℕ → List ℕ → ℕ → Option Space → Type 0
+IsLastSpaceOf width_of gap text pixels None = All IsNoSpace text
+IsLastSpaceOf width_of gap text pixels (Some space) = HasLastSpace width_of gap text pixels space

@@ -53,6 +53,7 @@ impl Attributes {
         ensures set { (at : Standing) → self.old ≡ attributes_of at → IsSimple tag
             → self.new ≡ attributes_of (standing_behind sign.now at (Does tag)) }
         ensures rectangle { self.new.rectangle ≡ self.old.rectangle }
+        ensures font { self.new.font ≡ self.old.font }
     {
         let defaults = sign.defaults;
         match tag {

@@ -1,7 +1,7 @@
 //! The verdict on a string, in one reading from the left with running sums.
 
-ghost use Rattle.std.specs.Prelude.{◌≡◌, ◌+◌, ◌-◌, ◌≤◌, ◌==◌, if◌then◌else◌, length, IfSome, IfNone, Some, None, [], ◌∷◌, ◌++◌, ◌^◌};
-ghost use Rattle.multi_judge.specs.Prelude.{RisesBetween, Does, JudgesTag, IsLimited, IsReady, IsSmall, Judges, is_inside, rectangle};
+ghost use Rattle.std.specs.Prelude.{◌≡◌, ◌+◌, ◌-◌, ◌≤◌, ◌==◌, if◌then◌else◌, length, IfSome, IfNone, OnOk, Some, None, [], ◌∷◌, ◌++◌, ◌^◌};
+ghost use Rattle.multi_judge.specs.Prelude.{charged, AreWidthsOf, Does, looks, JudgesTag, IsLimited, IsReady, IsSmall, Judges, is_inside, rectangle};
 
 use crate::area::Area;
 use crate::attributes::whole_sign;
@@ -10,19 +10,23 @@ use crate::terms::Terms;
 use multi_meaning::{Rectangle, SyntaxError};
 use multi_tag::{FontPick, Tag};
 use multi_token::Source;
+use sign_font::FontCells;
 
-/// Judges what a tag says.
+/// Judges what a tag says, and goes on with the cells of the font in force.
 #[inline(always)]
-pub fn judge_tag(
-    sign: &Terms<'_>,
+pub fn judge_tag<'a>(
+    sign: &Terms<'a>,
     state: &mut State,
+    cells: &mut FontCells<'a>,
     source: &mut Source<'_>,
     tag: Tag,
 ) -> Result<(), SyntaxError>
     requires ready { IsReady state.old }
     ensures judged { JudgesTag sign.now state.old (Does tag) result state.new }
     ensures limited { IsLimited state.old → IsLimited state.new }
-    ensures steps { RisesBetween source.old source.new 0 1 }
+    ensures cells { AreWidthsOf sign.now state.old.attributes.font.number cells.old
+        → OnOk result (AreWidthsOf sign.now state.new.attributes.font.number cells.new) }
+    ensures steps { source.new ≡ charged source.old (looks (Does tag)) }
 {
     match tag {
         Tag::NewPage => {
@@ -46,7 +50,7 @@ pub fn judge_tag(
                 Err(SyntaxError::TextTooBig)
             }
         }
-        Tag::Font(pick) => judge_font(sign, state, source, pick),
+        Tag::Font(pick) => judge_font(sign, state, cells, source, pick),
         Tag::Rect { x, y, w, h } => {
             let Some(inside) = rectangle(sign, x, y, w, h) else {
                 return Err(SyntaxError::UnsupportedTagValue);
@@ -63,27 +67,33 @@ pub fn judge_tag(
 }
 
 /// Judges a font that a tag asks for, and the version that it must have; without a number it is the default.
-fn judge_font(
-    sign: &Terms<'_>,
+fn judge_font<'a>(
+    sign: &Terms<'a>,
     state: &mut State,
+    cells: &mut FontCells<'a>,
     source: &mut Source<'_>,
     pick: Option<FontPick>,
 ) -> Result<(), SyntaxError>
     ensures judged { Judges sign.now state.old (Does (Tag.Font pick)) result state.new }
     ensures limited { IsLimited state.old → IsLimited state.new }
-    ensures steps { RisesBetween source.old source.new 0 1 }
+    ensures cells { AreWidthsOf sign.now state.old.attributes.font.number cells.old
+        → OnOk result (AreWidthsOf sign.now state.new.attributes.font.number cells.new) }
+    ensures steps { source.new ≡ charged source.old (looks (Does (Tag.Font pick))) }
 {
     let Some(pick) = pick else {
         state.attributes.font = sign.font;
+        *cells = sign.cells.same();
         return Ok(());
     };
-    let Some(font) = sign.bare.font(source, pick.number) else {
+    let Some(found) = sign.bare.cells(source, pick.number) else {
         return Err(SyntaxError::FontNotDefined);
     };
+    let font = found.info();
     if pick.version.unwrap_or(font.version) != font.version {
         return Err(SyntaxError::FontVersionId);
     }
     state.attributes.font = font;
+    *cells = found;
     Ok(())
 }
 

@@ -1,7 +1,7 @@
 //! One pass over a string from the left: what is kept of its items, and how each of them is judged.
 
-ghost use Rattle.std.specs.Prelude.{◌≡◌, ◌+◌, ◌^◌, true, List, [], OnOk};
-ghost use Rattle.multi_judge.specs.Prelude.{RisesBetween, charged, Words, SignData, AreWidthsOf, laid_items, Meaning, Shows, present_area, IsFilledOf, IsFilledReady, IsFilledRun, line_in_force, IsOctet, meant_by, IsPassBehind, IsPassReady, JudgesCell, JudgesItem, PutsCell, IsStateOf};
+ghost use Rattle.std.specs.Prelude.{◌≡◌, ◌+◌, ◌^◌, false, true, List, [], OnOk};
+ghost use Rattle.multi_judge.specs.Prelude.{charged, entry_in, looks, is_bracket, Words, SignData, AreWidthsOf, laid_items, Meaning, Shows, present_area, IsFilledOf, IsFilledReady, IsFilledRun, line_in_force, IsOctet, meant_by, IsPassBehind, IsPassReady, JudgesCell, JudgesItem, PutsCell, IsStateOf};
 
 use crate::fill::Split;
 use crate::item::KnownItem;
@@ -11,7 +11,7 @@ use crate::state::State;
 use crate::terms::Terms;
 use multi_meaning::SyntaxError;
 use multi_tag::Tag;
-use multi_token::Source;
+use multi_token::{Entry, Source};
 use sign_font::FontCells;
 
 /// What is kept behind some items of a string.
@@ -43,17 +43,19 @@ impl Pass {
 
     /// Judges an item, and tells the line that it ended, if it did: before a soft break, or by an `nl`.
     #[inline(always)]
-    pub fn judge_item<const WORDS: bool>(
+    pub fn judge_item<'a, const WORDS: bool>(
         &mut self,
-        sign: &Terms<'_>,
+        sign: &Terms<'a>,
+        cells: &mut FontCells<'a>,
         source: &mut Source<'_>,
         item: KnownItem,
     ) -> Result<Option<Line>, SyntaxError>
         requires ready { IsPassReady WORDS self.old }
         ensures judged { JudgesItem WORDS sign.now self.old (meant_by item) result self.new }
         ensures behind { IsOctet item → OnOk result (IsPassBehind WORDS self.new) }
-        ensures octet { IsOctet item → source.new ≡ charged source.old 1 }
-        ensures steps { RisesBetween source.old source.new 0 8 }
+        ensures cells { AreWidthsOf sign.now self.old.state.attributes.font.number cells.old
+            → OnOk result (AreWidthsOf sign.now self.new.state.attributes.font.number cells.new) }
+        ensures steps { source.new ≡ charged source.old (looks (meant_by item)) }
     {
         match item {
             KnownItem::Char(number) => {
@@ -69,7 +71,7 @@ impl Pass {
                     Tag::NewLine(_) => Some(self.state.area.group_for(here).line),
                     _ => None,
                 };
-                judge_tag(sign, &mut self.state, source, tag)?;
+                judge_tag(sign, &mut self.state, cells, source, tag)?;
                 if WORDS && matches!(tag, Tag::NewPage | Tag::NewLine(_) | Tag::Rect { .. }) {
                     self.split = None;
                     self.order = 0;
@@ -79,23 +81,23 @@ impl Pass {
         }
     }
 
-    /// Judges an octet as a character of the font in force, which has these cells.
+    /// Judges an octet that is no bracket as a character of the font in force, by what its table has for the octet.
     #[inline(always)]
     pub fn judge_octet<const WORDS: bool>(
         &mut self,
         cells: &FontCells<'_>,
-        source: &mut Source<'_>,
-        octet: u8,
+        entry: Entry,
     ) -> Result<Option<Line>, SyntaxError>
         requires ready { IsPassReady WORDS self.old }
+        requires known { entry ≡ entry_in cells.now entry.octet }
+        requires plain { is_bracket entry.octet ≡ false }
         ensures judged { (sign : SignData) → AreWidthsOf sign self.old.state.attributes.font.number cells.now
-            → JudgesItem WORDS sign self.old (Shows octet) result self.new }
+            → JudgesItem WORDS sign self.old (Shows entry.octet) result self.new }
         ensures behind { OnOk result (IsPassBehind WORDS self.new) }
         ensures same { OnOk result (self.new.state.attributes ≡ self.old.state.attributes) }
-        ensures step { source.new ≡ charged source.old 1 }
     {
-        match cells.width(source, octet) {
-            Some(width) => self.judge_cell::<WORDS>(u16::from(octet), width),
+        match cells.width_of(entry) {
+            Some(width) => self.judge_cell::<WORDS>(u16::from(entry.octet), width),
             None => Err(SyntaxError::CharacterNotDefined),
         }
     }

@@ -32,6 +32,7 @@ impl State {
     pub fn new(sign: &Terms<'_>) -> State
         ensures start { IsStateOf sign.now [] result }
         ensures limited { IsLimited result }
+        ensures font { result.attributes.font.number ≡ sign.now.defaults.font }
         ensures sound { IsSound sign.now }
     {
         let defaults = sign.defaults;

@@ -1,10 +1,10 @@
 //! The sign that a string is for, with the defaults in force for that string.
 
 ghost use Rattle.std.specs.Prelude.{◌≡◌, None, Some, option_map};
-ghost use Rattle.multi_judge.specs.Prelude.{default_fault, under, SignData, font_numbered, info_of, IsSound, IsWithin, default_line_just, default_page_just};
+ghost use Rattle.multi_judge.specs.Prelude.{default_fault, under, SignData, font_numbered, info_of, AreWidthsOf, IsSound, IsWithin, default_line_just, default_page_just};
 
 use multi_tag::{LineJust, PageJust};
-use sign_font::{Defaults, FontInfo, Sign};
+use sign_font::{Defaults, FontCells, FontInfo, Sign};
 use std::marker::Model;
 
 /// A sign, seen with these defaults in place of its own. It doesn't refuse them.
@@ -17,6 +17,8 @@ pub struct Terms<'a> {
     pub(crate) line_just: LineJust,
     pub(crate) page_just: PageJust,
     pub font: FontInfo,
+    /// The same font, in which the cells of octets are looked up.
+    pub cells: FontCells<'a>,
 }
 
 impl<'a> Model for Terms<'a> {
@@ -26,7 +28,8 @@ impl<'a> Model for Terms<'a> {
 
     ghost invariant = { λ t. IsSound (under t.bare.now t.defaults)
         × (option_map info_of (font_numbered t.bare.now t.defaults.font) ≡ Some t.font) × IsWithin 1 64 t.font.height
-        × (t.line_just ≡ default_line_just t.defaults) × (t.page_just ≡ default_page_just t.defaults) };
+        × (t.line_just ≡ default_line_just t.defaults) × (t.page_just ≡ default_page_just t.defaults)
+        × (t.font.number ≡ t.defaults.font) × AreWidthsOf t.bare.now t.defaults.font t.cells };
 }
 
 impl<'a> Terms<'a> {
@@ -35,12 +38,14 @@ impl<'a> Terms<'a> {
         requires { default_fault sign.now defaults ≡ None }
         ensures { result ≡ under sign.now defaults }
     {
+        let cells = sign.cells_of(&defaults);
         Terms {
             bare: sign,
             defaults,
             line_just: LineJust::of(defaults.line),
             page_just: PageJust::of(defaults.page),
             font: sign.font_of(&defaults),
+            cells,
         }
     }
 }

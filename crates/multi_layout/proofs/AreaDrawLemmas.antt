@@ -1,6 +1,5 @@
 -- The items of a page, drawn one after the other.
-use Rattle.multi_layout.proofs.Common.{IsItemAt, Place, IfSome, IsBeside, IsRunDrawn, ◌≡◌, ℕ, ◌+◌, ◌^◌, ◌<◌, ◌≤◌, false, cond, slice_get, List, [], ◌∷◌, ◌++◌, length, map, Option, None, refl, sym, ap, subst, ◌∙◌, arith, append_assoc, rules, true, mul-add, mul-le-mul_left, false≢true, length-append, map-append, All-head, All-tail, spelling, spelling_some, BitPlane, SignData, tallest, Standing, put_at, EndsArea, Meaning, begins_area, is_new_page, has_place, pages_of, NextItem, LineTable, pages_of-push, at_end, Defaults, is_setting, meant_by, Cursor, Layer, AreaLines, plane_octets, BeginsNoArea, HasCounted, IsAreaDrawn, IsDrawnTo, IsDrawnUpTo, IsFilledBy, IsInArea, whole_area, IsNextDrawn, IsBetween, IsFirst, IsItemRead, IsRead, items_of, meant, LaidItem, spell_of}
-use Rattle.multi_meaning.proofs.StandingLemmas.{same_area}
+use Rattle.multi_layout.proofs.Common.{IsItemAt, Place, IfSome, IsBeside, IsRunDrawn, ◌≡◌, ℕ, ◌+◌, ◌<◌, ◌≤◌, false, slice_get, List, [], ◌∷◌, ◌++◌, length, map, Option, None, refl, sym, ap, subst, ◌∙◌, arith, append_assoc, rules, true, mul-add, mul-le-mul_left, false≢true, length-append, map-append, All-head, All-tail, spelling, spelling_some, BitPlane, SignData, tallest, Standing, put_at, EndsArea, Meaning, begins_area, is_new_page, has_place, NextItem, LineTable, pages_of-push, at_end, Defaults, is_setting, meant_by, Cursor, Layer, AreaLines, plane_octets, BeginsNoArea, HasCounted, IsAreaDrawn, IsDrawnTo, IsDrawnUpTo, IsFilledBy, IsInArea, whole_area, IsNextDrawn, IsBetween, IsFirst, IsItemRead, IsRead, items_of, meant, LaidItem, spell_of, same_area}
 use Rattle.multi_layout.proofs.PieceLemmas.{first_begins, first_piece}
 use Rattle.multi_layout.proofs.WalkLemmas.{item_is, map_split, spell_of-append, total, within_between}
 
@@ -16,18 +15,7 @@ pub drawn_more : {sign : SignData} {octets : List ℕ} {layer : Layer} {page : �
     → (IsDrawnTo sign layer (map meant before ++ m ∷ map meant rest) (map meant before) plane
     → IsDrawnTo sign layer (map meant before ++ m ∷ map meant rest) (map meant before ++ m ∷ []) plane')
     → IsDrawnUpTo sign octets layer page (before ++ item ∷ []) rest cursor' plane'
-drawn_more {sign} {octets} {layer} {page} {before} {rest} {item} {cursor} {plane} u m is none cursor' plane' between draws =
-    let all = map_split before rest item m is in
-    let one = map_split before [] item m is in
-    record {
-      between = between;
-      page_is =
-          omega (arith, u.page_is, u.between.state_is.pages, between.state_is.pages, ap pages_of one, pages_of-push (map meant before) m, ap {B = ℕ} (λ b. cond b 1 0) none);
-      drawn = subst (λ l. IsDrawnTo sign layer (map meant l) (map meant (before ++ item ∷ [])) plane') (sym (append_assoc before (item ∷ []) rest))
-          (subst (λ ms. IsDrawnTo sign layer ms (map meant (before ++ item ∷ [])) plane') (sym all)
-          (subst (λ ms. IsDrawnTo sign layer (map meant before ++ m ∷ map meant rest) ms plane') (sym one)
-          (draws (subst (λ ms. IsDrawnTo sign layer ms (map meant before) plane) all u.drawn))));
-    }
+drawn_more {sign} {octets} {layer} {page} {before} {rest} {item} {cursor} {plane} u m is none cursor' plane' between draws = first_of (search (rules, map_split, pages_of-push, append_assoc), grind (arith, map_split, pages_of-push, append_assoc))
 
 -- one more item of an area
 pub left_more : {sign : SignData} {read : AreaLines} {before rest : List LaidItem} {item : LaidItem} {cursor : Cursor} → IsInArea sign read before (item ∷ rest) cursor
@@ -62,17 +50,9 @@ area_more {cursor = cursor} n m is none cursor' plane' between to draws = record
   left = left_more n.left n.plain cursor' (to ∙ ap (λ k. cursor.at + k) n.read_is.len);
 }
 
--- the same in the same octets, and in the same state
-pub area_in : {sign : SignData} {octets octets' : List ℕ} {layer : Layer} {page : ℕ} {read : AreaLines} {cursor : Cursor} {plane : BitPlane} → octets' ≡ octets
-    → IsAreaDrawn sign octets layer page read cursor plane → IsAreaDrawn sign octets' layer page read cursor plane
-area_in {sign} {octets} {octets'} {layer} {page} {read} {cursor} {plane} same d = subst (λ o. IsAreaDrawn sign o layer page read cursor plane) (sym same) d
-
 module _ {sign : SignData} {octets : List ℕ} {layer : Layer} {page : ℕ} {read : AreaLines} {cursor : Cursor} {plane : BitPlane} (d : IsAreaDrawn sign octets layer page read cursor plane) where
   pub area_within : read.end ≤ length octets
   area_within = grind (arith, total sign octets (items_of d.before) (items_of d.behind) cursor.at d.up_to.between.placed, spell_of-append d.left.area d.left.rest, length-append (spell_of d.left.area) (spell_of d.left.rest))
-
-  pub area_short : cursor.at < 2 ^ 32
-  area_short = let b = d.up_to.between in omega (arith, within_between sign octets d.before d.behind cursor b, b.placed.accepted.short)
 
   -- before the end of the area an octet stands
   pub octet_stands : cursor.at < read.end → slice_get octets cursor.at ≡ None → ⊥
@@ -90,21 +70,15 @@ module _ {sign : SignData} {octets : List ℕ} {layer : Layer} {page : ℕ} {rea
 pub run_ends : {sign : SignData} {octets : List ℕ} {layer : Layer} {page : ℕ} {read : AreaLines} {cursor : Cursor} {plane : BitPlane} → IsAreaDrawn sign octets layer page read cursor plane → IsRunDrawn sign octets layer page read None cursor plane
 run_ends d = record { so = d; stands = tt }
 
--- the same in the same octets
-pub run_in : {sign : SignData} {octets octets' : List ℕ} {layer : Layer} {page : ℕ} {read : AreaLines} {beside : Option Place} {cursor : Cursor} {plane : BitPlane} → octets' ≡ octets
-    → IsRunDrawn sign octets layer page read beside cursor plane → IsRunDrawn sign octets' layer page read beside cursor plane
-run_in {sign} {octets} {octets'} {layer} {page} {read} {beside} {cursor} {plane} same r = subst (λ o. IsRunDrawn sign o layer page read beside cursor plane) (sym same) r
-
 -- an item was read at the cursor, which is laid out as this
-pub next_read : {sign : SignData} {octets octets' octets'' : List ℕ} {layer : Layer} {page : ℕ} {read : AreaLines} {beside : Option Place} {cursor : Cursor} {plane : BitPlane} → octets' ≡ octets → octets'' ≡ octets'
+pub next_read : {sign : SignData} {octets octets' : List ℕ} {layer : Layer} {page : ℕ} {read : AreaLines} {beside : Option Place} {cursor : Cursor} {plane : BitPlane} → octets' ≡ octets
     → IsRunDrawn sign octets layer page read beside cursor plane → cursor.at < read.end → (raw next : NextItem) → IsItemAt octets' cursor.at raw.len (meant_by raw.item)
     → ((octets : List ℕ) (before rest : List LaidItem) (item : LaidItem) → IsBetween sign octets before (item ∷ rest) cursor → HasCounted (whole_area sign before (item ∷ rest)) read.lines → IsItemRead item.item raw → IsRead item next)
-    → IsNextDrawn sign octets'' layer page read next beside cursor plane
-next_read {sign} {octets} {octets'} {octets''} {layer} {page} {read} {beside} {cursor} {plane} same same' r' before_end raw next is lays =
-    let r = run_in (same' ∙ same) r' in
+    → IsNextDrawn sign octets layer page read next beside cursor plane
+next_read {sign} {octets} {octets'} {layer} {page} {read} {beside} {cursor} {plane} same r before_end raw next is lays =
     let d = r.so in
-    let (item, rest, split, read_is) = first_piece d.behind raw (item_is sign octets'' (items_of d.before) (items_of d.behind) cursor.at d.up_to.between.placed raw (subst (λ o. IsItemAt o cursor.at raw.len (meant_by raw.item)) (sym same') is)) in
-    let up_to = subst (λ l. IsDrawnUpTo sign octets'' layer page d.before l cursor plane) split d.up_to in
+    let (item, rest, split, read_is) = first_piece d.behind raw (item_is sign octets (items_of d.before) (items_of d.behind) cursor.at d.up_to.between.placed same raw is) in
+    let up_to = subst (λ l. IsDrawnUpTo sign octets layer page d.before l cursor plane) split d.up_to in
     let left = subst (λ l. IsInArea sign read d.before l cursor) split d.left in
     record {
       before = d.before;
@@ -112,7 +86,7 @@ next_read {sign} {octets} {octets'} {octets''} {layer} {page} {read} {beside} {c
       item = item;
       up_to = up_to;
       left = left;
-      read_is = lays octets'' d.before rest item up_to.between left.counted read_is;
+      read_is = lays octets d.before rest item up_to.between left.counted read_is;
       plain = of item rest left.rest left.area left.split left.plain left.end;
       stands = subst (λ l. IfSome beside (IsBeside sign d.before l cursor)) split r.stands;
     }

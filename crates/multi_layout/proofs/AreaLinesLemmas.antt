@@ -1,19 +1,12 @@
 -- The first reading of an area from a cursor on, which goes behind the settings before the first other item; and its runs.
-use Rattle.multi_layout.proofs.Common.{IsDrawnUpTo, is_setting, IsItemAt, ◌≡◌, ℕ, Bool, true, ◌+◌, ◌-◌, ◌<◌, ◌≤◌, false, ◌⊎◌, inl, inr, slice_get, None, length, map, List, [], ◌∷◌, ◌++◌, Some, Option, refl, sym, ap, subst, ◌∙◌, arith, append-nil, ◌^◌, map-append, unwrap_or, IsPlain, spelling_some, SignData, cell_in, IsSound, standing, laid_items, EndsArea, begins_area, meaning, Shows, present_area, NextItem, Pass, State, LineTable, meant_by, fill_of, IsPassReady, IsStateOf, IsReady, width_in, unsized_if, IsBehindCharacter, lengthened_by, behind_stays, state_beside, cell_of_width, Cursor, AreaLines, IsReadOf, IsFirst, IsPlaced, items_of, laid_meanings, meant, LaidItem, spell_of, Layer, BitPlane, IsPageDrawn, IsAreaDrawn, spelling}
-use Rattle.std.proofs.Common.{length-append}
-use Rattle.std.proofs.lemmas.List.Elements.{All-nil}
-use Rattle.multi_meaning.proofs.StandingLemmas.{present_area-nothing, same_area}
-use Rattle.multi_judge.specs.Run.{IsRunPassed}
-use Rattle.multi_judge.proofs.RunReadLemmas.{front_taken, lengthened_more, lengthened_none}
-use Rattle.multi_judge.proofs.PlacingLemmas.{plain_passed}
-use Rattle.multi_layout.specs.kept.AreaReading.{EndsGroup, ReadsOn}
+use Rattle.multi_layout.proofs.Common.{IsDrawnUpTo, is_setting, IsItemAt, ◌≡◌, ℕ, Bool, true, ◌+◌, ◌-◌, ◌<◌, ◌≤◌, false, ◌⊎◌, inl, inr, slice_get, None, length, map, List, [], ◌∷◌, ◌++◌, Some, Option, refl, sym, ap, subst, ◌∙◌, arith, append-nil, ◌^◌, map-append, unwrap_or, IsPlain, spelling_some, SignData, cell_in, IsSound, standing, laid_items, EndsArea, begins_area, meaning, Shows, present_area, NextItem, Pass, State, LineTable, meant_by, fill_of, IsStateOf, width_in, unsized_if, IsBehindCharacter, lengthened_by, behind_stays, state_beside, cell_of_width, Cursor, AreaLines, IsReadOf, IsFirst, IsPlaced, items_of, laid_meanings, meant, LaidItem, spell_of, Layer, BitPlane, IsPageDrawn, IsAreaDrawn, spelling, length-append, All-nil, present_area-nothing, same_area, IsRunPassed, front_taken, lengthened_more, lengthened_none, plain_passed, EndsGroup, ReadsOn}
 use Rattle.multi_layout.proofs.AreaReadLemmas.{next_fine, read_state, step_stays}
 use Rattle.multi_layout.proofs.PieceLemmas.{read_unplaced, first_piece}
 use Rattle.multi_layout.proofs.DrawLemmas.{same_drawn}
 use Rattle.multi_layout.proofs.AreaDrawLemmas.{drawn_more, setting_is}
 use Rattle.multi_layout.proofs.WalkLemmas.{between_more, item_is, map_split, spell_of-append, within, octet_item}
 use Rattle.multi_judge.specs.declared.item.KnownItem.TheVariants as known
-use Rattle.multi_layout.proofs.AreaItemsLemmas.{SoFar, all_counted, area_ended, area_read, no_more, none_ends, placed_in, read_on, so_next, so_read, state_laid}
+use Rattle.multi_layout.proofs.AreaItemsLemmas.{SoFar, all_counted, area_ended, area_read, no_more, none_ends, read_on, so_next, so_read, state_laid}
 
 -- pieces that are spelled as the first of them are that one
 one_piece : (pieces left rest : List LaidItem) (item : LaidItem) → pieces ++ left ≡ item ∷ rest → length (spell_of pieces) ≡ length (spelling item.item) → (pieces ≡ item ∷ []) × (left ≡ rest)
@@ -42,10 +35,7 @@ module _ {words : Bool} {sign : SignData} {octets : List ℕ} {layer : Layer} {p
     {octets' : List ℕ} (same : octets' ≡ octets) (next : NextItem) (is : IsItemAt octets' at next.len (meant_by next.item)) (plain : begins_area (meant_by next.item) ≡ false) (kept' : Pass) (lines' : LineTable)
     (reads : ReadsOn words sign kept.state.area.present next.item kept lines kept' lines') where
   pub so_then : SoFar words sign octets r.drawn.before r.drawn.behind (at + next.len) kept' lines'
-  so_then = let n = so_read r.so same next is in read_on r.so n (at + next.len) refl plain kept' lines' (reads (items_of (r.drawn.before ++ r.so.pieces)) n.piece.item r.so.read (so_next r.so n))
-
-  abbrev pub item_read : IsReadFrom words sign octets layer page plane cursor (at + next.len) kept' lines'
-  item_read = record { drawn = r.drawn; so = so_then }
+  so_then = let n = so_read r.so same next is in read_on r.so next n (at + next.len) refl plain kept' lines' (reads (items_of (r.drawn.before ++ r.so.pieces)) n.0.item r.so.read (so_next r.so next n))
 
   -- with a setting, where nothing else was read, the cursor goes behind it
   pub set_before : IsSound sign → sign.line_fill ≡ fill_of words → cursor.at ≡ at → is_setting (meant_by next.item) ≡ true
@@ -53,7 +43,7 @@ module _ {words : Bool} {sign : SignData} {octets : List ℕ} {layer : Layer} {p
   set_before sound kind here setting =
       let new : Cursor = record { at = cursor.at + next.len; state = kept'.state } in
       let u = r.drawn.up_to in
-      let (item, rest, split, raw) = first_piece r.drawn.behind next (item_is sign octets (items_of r.drawn.before) (items_of r.drawn.behind) cursor.at u.between.placed next (subst (λ (x : List ℕ × ℕ). IsItemAt x.0 x.1 next.len (meant_by next.item)) (λ i. (same i, sym here i)) is)) in
+      let (item, rest, split, raw) = first_piece r.drawn.behind next (item_is sign octets (items_of r.drawn.before) (items_of r.drawn.behind) cursor.at u.between.placed same next (subst (λ at. IsItemAt octets' at next.len (meant_by next.item)) (sym here) is)) in
       let here' = subst (λ l. IsDrawnUpTo sign octets layer page r.drawn.before l cursor plane) split u in
       let (placed, turns, puts) = setting_is (meant_by next.item) setting in
       let read = read_unplaced here'.between placed raw in
@@ -65,9 +55,9 @@ module _ {words : Bool} {sign : SignData} {octets : List ℕ} {layer : Layer} {p
       let all : r.drawn.before ++ so.pieces ≡ front ++ [] = ap (λ l. r.drawn.before ++ l) one ∙ sym (append-nil front) in
       let with = map_split r.drawn.before [] item (meant_by next.item) read.meant in
       let begins = ap (present_area sign) with ∙ present_area-nothing sign (map meant r.drawn.before) (meant_by next.item) plain (puts sign.defaults (standing sign (map meant r.drawn.before))) ∙ r.drawn.begins in
-      let laid = subst (λ (x : List LaidItem × List LaidItem). map meant (x.0 ++ x.1) ≡ laid_meanings sign (items_of (x.0 ++ x.1))) (λ i. (all i, left i)) so.laid in
-      let now : IsReadOf words sign (items_of (front ++ [])) kept'.state.area.present kept' lines' = subst (λ l. IsReadOf words sign (items_of l) kept'.state.area.present kept' lines') all so.read in
-      let st : IsStateOf sign (map meant front) kept'.state = state_laid words kind front rest (subst (λ l. map meant (l ++ rest) ≡ laid_meanings sign (items_of (l ++ rest))) (append-nil front) laid) begins kept'.state
+      let (laid, placed', now) = subst (λ (x : List LaidItem × List LaidItem). (map meant (x.0 ++ x.1) ≡ laid_meanings sign (items_of (x.0 ++ x.1))) × IsPlaced sign octets (items_of x.0) (items_of x.1) (at + next.len) × IsReadOf words sign (items_of x.0) kept'.state.area.present kept' lines')
+      (λ i. (all i, left i)) (so.laid, so.placed, so.read) in
+      let st : IsStateOf sign (map meant front) kept'.state = state_laid words sign kind front rest (subst (λ l. map meant (l ++ rest) ≡ laid_meanings sign (items_of (l ++ rest))) (append-nil front) laid) begins kept'.state
       (subst (λ l. IsStateOf sign (laid_items (fill_of words) sign (map meaning (items_of l)) (map meaning (items_of l))) kept'.state) (append-nil front) (read_state sound now)) in
       let between = between_more sign octets r.drawn.before rest item cursor here'.between new to (subst (λ l. IsStateOf sign l kept'.state) (map-append meant r.drawn.before (item ∷ [])) st) in
       record {
@@ -85,14 +75,14 @@ module _ {words : Bool} {sign : SignData} {octets : List ℕ} {layer : Layer} {p
           same_area = ap (λ l. (standing sign (map meaning (items_of l))).area) (sym all) ∙ so.same_area
               ∙ sym (ap (λ l. (standing sign l).area) (map-append meant r.drawn.before (item ∷ [])) ∙ same_area sign (map meant r.drawn.before) (meant item) (ap begins_area read.meant ∙ plain));
           laid = laid;
-          placed = subst (λ (x : List LaidItem × List LaidItem). IsPlaced sign octets (items_of x.0) (items_of x.1) (at + next.len)) (λ i. (all i, left i)) so.placed;
+          placed = placed';
           read = now;
         };
       }
 
   pub passed : IsSound sign → sign.line_fill ≡ fill_of words → (cursor' : Cursor) → GoesOn cursor at next kept'.state cursor' → IsReadFrom words sign octets layer page plane cursor' (at + next.len) kept' lines'
   passed sound kind cursor' (inl (here, setting, is)) = subst (λ c. IsReadFrom words sign octets layer page plane c (at + next.len) kept' lines') (sym is) (set_before sound kind here setting)
-  passed sound kind cursor' (inr is) = subst (λ c. IsReadFrom words sign octets layer page plane c (at + next.len) kept' lines') (sym is) item_read
+  passed sound kind cursor' (inr is) = subst (λ c. IsReadFrom words sign octets layer page plane c (at + next.len) kept' lines') (sym is) (record { drawn = r.drawn; so = so_then })
 
 -- what was read is not past the end
 pub read_within : {words : Bool} {sign : SignData} {octets : List ℕ} {layer : Layer} {page : ℕ} {plane : BitPlane} {cursor : Cursor} {at : ℕ} {kept : Pass} {lines : LineTable} → IsReadFrom words sign octets layer page plane cursor at kept lines
@@ -112,7 +102,7 @@ module _ {words : Bool} {sign : SignData} {octets : List ℕ} {layer : Layer} {p
   pub ends_at : {octets' : List ℕ} → octets' ≡ octets → (next : NextItem) → IsItemAt octets' at next.len (meant_by next.item) → begins_area (meant_by next.item) ≡ true
       → IsReadTo words sign octets layer page plane cursor at kept lines (Some next)
   ends_at {octets'} same next is begins =
-      let first = item_is sign octets' (items_of (r.drawn.before ++ r.so.pieces)) (items_of r.so.left) at (placed_in r.so same) next is in
+      let first = item_is sign octets (items_of (r.drawn.before ++ r.so.pieces)) (items_of r.so.left) at r.so.placed same next is in
       record { from = r; first = first; ends = area_ended r.so next first begins }
 
 -- and its items are drawn on from there
@@ -142,21 +132,22 @@ module _ {sign : SignData} (sound : IsSound sign) {octets : List ℕ} (short : l
   octet_passed : (at pixels count octet w : ℕ) → SoFar false sign octets before behind at (longer kept pixels count) lines → slice_get octets at ≡ Some octet → IsPlain octet
       → Some w ≡ width_in sign kept.state.attributes.font.number octet → SoFar false sign octets before behind (at + 1) (longer kept (pixels + (gap + w)) (count + 1)) lines
   octet_passed at pixels count octet w so here plain w_is =
-      let n = so_read so refl (record { item = known.Char octet; len = 1 }) (octet_item octets at octet short here plain) in
-      let it = so_next so n in
+      let next : NextItem = record { item = known.Char octet; len = 1 } in
+      let n = so_read so refl next (octet_item octets at octet short here plain) in
+      let it = so_next so next n in
       let items = map meaning (items_of (before ++ so.pieces)) in
       let of = so.read.of in
       let (cell, found, is) = cell_of_width (cell_in sign kept.state.attributes.font.number octet) w w_is in
       let fine = next_fine it in
       let state = lengthened_by pixels count kept.state in
-      let st = subst (IsStateOf sign (items ++ Shows octet ∷ [])) (lengthened_more kept.state pixels count (gap + cell.width))
+      let st = subst (IsStateOf sign (items ++ Shows octet ∷ [])) (lengthened_more kept.state pixels count (gap + cell.width) 1)
       (state_beside state (behind_stays kept.state _ _ b) gap gap_is cell sign items of.state_is octet found (unsized_if sign.line_fill sign items (Shows octet) fine _ refl)) in
       let wide = ap (λ n. lengthened_by (pixels + (gap + n)) (count + 1) kept.state) (sym is) in
       let new = longer kept (pixels + (gap + cell.width)) (count + 1) in
       let passed = plain_passed sign items (longer kept pixels count) new of octet fine st (record { width = of.limited.width; height = of.limited.height }) in
       let r = subst (λ p. IsReadOf false sign (items_of (before ++ so.pieces)) p (longer kept pixels count) lines) b.group so.read in
       let read = step_stays sound r it passed refl in
-      subst (λ s. SoFar false sign octets before behind (at + 1) (in_state kept s) lines) wide (read_on so n (at + 1) refl refl new lines read)
+      subst (λ s. SoFar false sign octets before behind (at + 1) (in_state kept s) lines) wide (read_on so next n (at + 1) refl refl new lines read)
 
 -- the characters of a run are read
 pub run_read : {sign : SignData} → IsSound sign → {octets : List ℕ} → length octets < 2 ^ 63 → {before behind : List LaidItem} (at at' pixels : ℕ) (kept : Pass) (state' : State) (lines : LineTable) → IsBehindCharacter kept.state
@@ -174,7 +165,3 @@ pub run_gone : {words : Bool} {sign : SignData} → words ≡ false → IsSound 
     → IsBehindCharacter kept.state → SoFar words sign octets before behind at kept lines → IsRunPassed sign octets at pixels kept.state at' state' → SoFar words sign octets before behind at' (in_state kept state') lines
 run_gone {words} {sign} off sound {octets} short {before} {behind} at at' pixels kept state' lines b so run =
     subst (λ w. SoFar w sign octets before behind at' (in_state kept state') lines) (sym off) (run_read sound short at at' pixels kept state' lines b (subst (λ w. SoFar w sign octets before behind at kept lines) off so) run)
-
--- what is ready for either kind of lines has a state that is
-pub ready_state : (words : Bool) (kept : Pass) → IsPassReady words kept → IsReady kept.state
-ready_state words kept r = grind (arith)

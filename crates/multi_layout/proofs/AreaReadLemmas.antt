@@ -1,28 +1,14 @@
 -- The first reading of an area, at one more item.
-use Rattle.multi_layout.proofs.Common.{nat_tests, ◌&&◌, ◌⊎◌, inl, inr, nat_lt, ◌≡◌, ℕ, Bool, ◌^◌, ◌≤◌, true, false, List, [], ◌∷◌, ◌++◌, map, None, refl, sym, ap, subst, ◌∙◌, arith, ◌<◌, cond, Option, Some, rules, All, map-append, Item, page_number, SignData, IsSound, Break, Spot, in_group, spots, standing, laid_items, Does, Meaning, Shows, has_place, meaning, offence, present_area, IsPlacing, IsNarrowArea, ended_lines, offences, placing_group, laid_plain, unsized_if, last_fine, Area, Group, Pass, KnownItem, Char, LineTable, laid_area, IsNextRead, IsReadOf, meant_by, HasKnown, HasRoom, next_group, IsPassOf, IsPassReady, fill_of, IsStateOf, area_sum, group_of_own, height_of, page_number_known, CountedLine, group_lines, line_count, line_entry}
-use Rattle.multi_meaning.specs.kept.Present.{IsNarrow}
-use Rattle.multi_meaning.proofs.GroupLemmas.{area_placing}
-use Rattle.multi_meaning.proofs.RoomLemmas.{narrow_area, narrow_front, room}
+use Rattle.multi_layout.proofs.Common.{IsItemJudged, Ok, begins_area, nat_tests, ◌&&◌, ◌⊎◌, inl, inr, nat_lt, ◌≡◌, ℕ, Bool, ◌≤◌, true, false, List, [], ◌∷◌, ◌++◌, map, None, refl, sym, ap, subst, ◌∙◌, arith, ◌<◌, Option, Some, rules, All, map-append, Item, page_number, SignData, IsSound, Break, Spot, in_group, spots, standing, laid_items, Does, Meaning, Shows, has_place, meaning, offence, present_area, IsPlacing, IsNarrowArea, ended_lines, offences, placing_group, laid_plain, unsized_if, last_fine, Area, Group, Pass, KnownItem, Char, LineTable, laid_area, IsNextRead, IsReadOf, meant_by, HasKnown, HasRoom, next_group, IsPassOf, IsPassReady, fill_of, IsStateOf, area_sum, group_of_own, height_of, page_number_known, CountedLine, group_lines, line_count, line_entry, IsNarrow, area_placing, narrow_area, narrow_front, room, IsItemPassed, State, EndsGroup, KnowsArea, KnowsOn, line_sum, goes_on, pass_ready, kept_height_is}
 use Rattle.multi_judge.specs.declared.item.KnownItem.TheVariants as known
-use Rattle.multi_judge.specs.Passed.{IsItemPassed}
 use Rattle.multi_judge.proofs.PassedLemmas.{state_of, tag_unsized}
-use Rattle.multi_judge.specs.declared.state.State.{State}
-use Rattle.multi_layout.specs.kept.AreaReading.{EndsGroup, KnowsArea, KnowsOn}
-use Rattle.multi_judge.specs.Run.{kept_height}
-use Rattle.multi_judge.specs.Sums.{line_sum}
-use Rattle.multi_judge.proofs.ReadLemmas.{goes_on, pass_ready}
 use Rattle.multi_layout.proofs.FilledLemmas.{laid_narrow, laid_room}
 use Rattle.multi_judge.proofs.PlacingLemmas as steps
-use Rattle.multi_judge.proofs.RunLemmas.{kept_height_is}
 use Rattle.multi_judge.specs.declared.line.Line.{Line}
 use Rattle.multi_judge.specs.FillSums.{EndsLine}
 use Rattle.multi_layout.proofs.KnownLinesLemmas.{entry_ended, known_pushed, known_unchanged, pushed_room, Pushed, behind_empty}
 
 -- WHAT IS KEPT
-
--- a group is at least as high as its ended lines
-closed_most : (group : Group) → group.closed < 2 ^ 64 → group.closed ≤ kept_height group
-closed_most group small = first_of (search (rules), grind (arith))
 
 -- what the present area has is placing items
 pub present_placing : (sign : SignData) (items : List Meaning) → All IsPlacing (present_area sign items)
@@ -30,11 +16,7 @@ present_placing sign items = area_placing (spots sign items) (record { at = stan
 
 -- so the ended lines of the present group aren't high
 pub closed_below : (spots : List Spot) (area : Area) → area ≡ area_sum spots → All IsPlacing spots → IsNarrowArea spots → (just : ℕ) → 2 ≤ just → just ≤ 4 → area.present ≡ just → area.group.closed ≤ 1024
-closed_below spots area is placing narrow just low high own =
-    let sum = group_of_own spots area is just (sym own) in
-    let tall = (narrow just low high).1 in
-    let most : area.group.closed ≤ kept_height area.group = closed_most area.group (omega (arith, ap (λ (g : Group). g.closed) sum)) in
-    omega (arith, most, kept_height_is (in_group just spots) area.group (placing_group just spots placing) sum, tall)
+closed_below spots area is placing narrow just low high own = grind (arith, kept_height_is (in_group just spots) area.group (placing_group just spots placing) (group_of_own spots area is just (sym own)), group_of_own spots area is just (sym own))
 
 module _ (sign : SignData) (sound : IsSound sign) (items : List Item) (none : offences sign items ≡ []) where
   -- the lines are few and narrow
@@ -63,27 +45,13 @@ module _ {words : Bool} {sign : SignData} (sound : IsSound sign) {items : List I
 
   -- the lines are few and narrow
   pub read_lines : KnowsArea present kept.state.area lines
-  read_lines = record {
-    spots = present_area sign laid;
-    placing = present_placing sign laid;
-    sum = read_state.area;
-    known = r.known;
-    room = room_of sign sound items r.none words kept r.of;
-    narrow = narrow_of sign sound items r.none words kept r.of;
-  }
+  read_lines = grind (arith, present_placing sign laid, room_of sign sound items r.none words kept r.of, narrow_of sign sound items r.none words kept r.of, read_state)
 
 -- the group before the item is left, if the item belongs to a later one
 group_left : {words : Bool} {sign : SignData} → IsSound sign → {items : List Item} {kept : Pass} {lines : LineTable} → IsReadOf words sign items kept.state.area.present kept lines → (x : Meaning) (lines' : LineTable)
     → KnowsOn kept.state.area (next_group kept.state x) lines lines'
     → IsReadOf words sign items (next_group kept.state x) kept lines'
-group_left {words} {sign} sound {items} {kept} {lines} r x lines' known =
-    let ms = map meaning items in
-    let laid = laid_items (fill_of words) sign ms ms in
-    record {
-      none = r.none;
-      of = r.of;
-      known = known (present_area sign laid) (present_placing sign laid) (narrow_of sign sound items r.none words kept r.of) (state_of words sign kept ms r.of).area r.known;
-    }
+group_left {words} {sign} sound {items} {kept} {lines} r x lines' known = grind (arith, present_placing sign (laid_items (fill_of words) sign (map meaning items) (map meaning items)), narrow_of sign sound items r.none words kept r.of, state_of words sign kept (map meaning items) r.of)
 
 -- ONE MORE ITEM
 
@@ -108,36 +76,37 @@ next_order words sign items kept of item (known.Tag tag) next place =
     let ms = map meaning items in
     steps.order sign (laid_items (fill_of words) sign ms ms) kept.state (state_of words sign kept ms of) (Does tag) (tag_unsized words sign kept ms of tag (next_fine next)) place
 
+-- an item belongs to a later group, or to the present one
+module _ (state : State) (x : Meaning) (place : Bool) (place_is : place ≡ has_place x) (number : ℕ) (number_is : number ≡ page_number state.attributes.page_just) where
+  later_group : (place && nat_lt state.area.present number) ≡ true → state.area.present < next_group state x
+  later_group later = grind (arith, nat_tests)
+
+  same_group : (has_place x ≡ true → state.area.present ≤ page_number state.attributes.page_just) → (place && nat_lt state.area.present number) ≡ false → next_group state x ≡ state.area.present
+  same_group order not = grind (arith, nat_tests)
+
 -- the group before the item is left, if the item belongs to a later one
 pub left_if : {words : Bool} {sign : SignData} → IsSound sign → {items : List Item} {kept : Pass} {lines : LineTable} → IsReadOf words sign items kept.state.area.present kept lines → {item : Item} {read : KnownItem} → IsNextRead sign items item read → (lines' : LineTable)
     → (place : Bool) → place ≡ has_place (meant_by read) → (number : ℕ) → number ≡ page_number kept.state.attributes.page_just
     → (((place && nat_lt kept.state.area.present number) ≡ true) × EndsGroup kept.state.area lines lines') ⊎ (((place && nat_lt kept.state.area.present number) ≡ false) × (lines' ≡ lines))
     → IsReadOf words sign items (next_group kept.state (meant_by read)) kept lines'
-left_if {words} {sign} sound {items} {kept} {lines} r {item} {read} next lines' place place_is number number_is how = of place place_is how
-  where
-    here : (p : Bool) → p ≡ has_place (meant_by read) → next_group kept.state (meant_by read) ≡ cond p (page_number kept.state.attributes.page_just) kept.state.area.present
-    here p is = ap (λ b. cond b (page_number kept.state.attributes.page_just) kept.state.area.present) (sym is)
-
-    stays : next_group kept.state (meant_by read) ≡ kept.state.area.present → lines' ≡ lines → IsReadOf words sign items (next_group kept.state (meant_by read)) kept lines'
-    stays group same = subst (λ (x : ℕ × LineTable). IsReadOf words sign items x.0 kept x.1) (λ i. (sym group i, sym same i)) r
-
-    less : nat_lt kept.state.area.present number ≡ true → kept.state.area.present < page_number kept.state.attributes.page_just
-    less later = grind (arith, nat_tests)
-
-    least : nat_lt kept.state.area.present number ≡ false → next_group kept.state (meant_by read) ≡ page_number kept.state.attributes.page_just → kept.state.area.present ≤ page_number kept.state.attributes.page_just
-        → next_group kept.state (meant_by read) ≡ kept.state.area.present
-    least not group order = grind (arith, nat_tests)
-
-    of : (p : Bool) → p ≡ has_place (meant_by read) → (((p && nat_lt kept.state.area.present number) ≡ true) × EndsGroup kept.state.area lines lines') ⊎ (((p && nat_lt kept.state.area.present number) ≡ false) × (lines' ≡ lines))
-        → IsReadOf words sign items (next_group kept.state (meant_by read)) kept lines'
-    of true is (inl (later, ends)) = group_left sound r (meant_by read) lines' (subst (λ p. KnowsOn kept.state.area p lines lines') (sym (here true is)) (ends (page_number kept.state.attributes.page_just) (less later)))
-    of true is (inr (not, same)) = stays (least not (here true is) (next_order words sign items kept r.of item read next (sym is))) same
-    of false is (inl (later, ends)) = absurd (cc)
-    of false is (inr (not, same)) = stays (here false is) same
+left_if sound {kept = kept} r {read = read} next lines' place place_is number number_is (inl (later, ends)) =
+    group_left sound r (meant_by read) lines' (ends (next_group kept.state (meant_by read)) (later_group kept.state (meant_by read) place place_is number number_is later))
+left_if {words} {sign} sound {items} {kept} r {item} {read} next lines' place place_is number number_is (inr (not, same)) =
+    rw (same_group kept.state (meant_by read) place place_is number number_is (next_order words sign items kept r.of item read next) not, same) r
 
 -- only what has a place ends a line
-pub own_group : (x : Meaning) (state : State) {ended : Option Line} {line : Line} → (has_place x ≡ false → ended ≡ None) → ended ≡ Some line → next_group state x ≡ page_number state.attributes.page_just
+own_group : (x : Meaning) (state : State) {ended : Option Line} {line : Line} → (has_place x ≡ false → ended ≡ None) → ended ≡ Some line → next_group state x ≡ page_number state.attributes.page_just
 own_group x state apart is = grind (arith)
+
+-- an item ended this line of the present group, behind which none has a line: there is room for it, and with it the table is that of these items
+pub record IsLineEnded (words : Bool) (sign : SignData) (items : List Item) (lines : LineTable) (new : Pass) (line : Line) : Type 0 where
+  pub just : (2 ≤ new.state.area.present) × (new.state.area.present ≤ 4)
+  pub last : (just : ℕ) → new.state.area.present < just → just ≤ 4 → group_lines just lines ≡ []
+  pub room : line_count lines < 128
+  pub narrow : (spots : List Spot) × (line ≡ line_sum spots) × IsNarrow spots
+  pub closed : new.state.area.group.closed ≤ 1024
+  pub ended : (entry : CountedLine) (lines' : LineTable) → ((spots : List Spot) → line ≡ line_sum spots → IsNarrow spots → entry ≡ line_entry spots new.state.area.group.closed)
+      → Pushed new.state.area.present entry lines lines' → IsReadOf words sign items new.state.area.present new lines'
 
 -- BEHIND ONE MORE ITEM
 
@@ -186,35 +155,33 @@ module _ {words : Bool} {sign : SignData} (sound : IsSound sign) {items : List I
     narrow_more : IsNarrowArea area_more
     narrow_more = subst (λ l. IsNarrowArea (laid_area words sign l)) (items_with next) (narrow_of sign sound (items ++ item ∷ []) next.none words new of_more)
 
-    -- its group is the present one, and the groups behind have no line
-    pub step_just : (2 ≤ new.state.area.present) × (new.state.area.present ≤ 4)
-    step_just = (omega (arith, b.present, low_page), omega (arith, b.present, high_page))
-
-    pub step_last : (just : ℕ) → new.state.area.present < just → just ≤ 4 → group_lines just lines ≡ []
-    step_last just later high = behind_empty area lines page (omega (arith, ap (λ (a : Area). a.present) (state_of words sign old here r.of).area, b.order)) low_page r.known just (omega (arith, b.present, later)) high
-
-    -- there is room for its line
-    pub step_room : line_count lines < 128
-    step_room =
-        pushed_room page area area_more b.others (characters ++ own_line.1 ∷ []) lines low_page high_page own_line.5 r.known
-        (subst (λ l. HasRoom (laid_area words sign l)) (items_with next) (room_of sign sound (items ++ item ∷ []) next.none words new of_more))
-
     line_narrow : IsNarrow characters
     line_narrow = narrow_front characters own_line.3.0 (subst IsNarrow own_line.3.1 (narrow_of sign sound items r.none words old r.of page low_page high_page).0)
 
-    pub step_narrow : (spots : List Spot) × (line ≡ line_sum spots) × IsNarrow spots
-    step_narrow = (characters, own_line.2, line_narrow)
-
-    pub step_closed : new.state.area.group.closed ≤ 1024
-    step_closed = closed_below area_more new.state.area new_state.area (present_placing sign (laid_items (fill_of words) sign more more)) narrow_more new.state.area.present step_just.0 step_just.1 refl
-
-    -- it is put into the table
-    pub step_ended : (entry : CountedLine) (lines' : LineTable) → ((spots : List Spot) → line ≡ line_sum spots → IsNarrow spots → entry ≡ line_entry spots new.state.area.group.closed)
-        → Pushed new.state.area.present entry lines lines' → IsReadOf words sign (items ++ item ∷ []) new.state.area.present new lines'
-    step_ended entry lines' made pushed =
+    step_line : IsLineEnded words sign (items ++ item ∷ []) lines new line
+    step_line =
+        let just : (2 ≤ new.state.area.present) × (new.state.area.present ≤ 4) = (omega (arith, b.present, low_page), omega (arith, b.present, high_page)) in
+        let closed = closed_below area_more new.state.area new_state.area (present_placing sign (laid_items (fill_of words) sign more more)) narrow_more new.state.area.present just.0 just.1 refl in
         let group = group_of_own area_more new.state.area new_state.area page (sym b.present) in
-        let height : new.state.area.group.closed ≡ height_of (ended_lines (in_group page area_more)) = omega (arith, ap (λ (g : Group). g.closed) group, step_closed) in
-        known_more lines'
-        (known_pushed page area area_more b.others (characters ++ own_line.1 ∷ []) lines low_page high_page own_line.5 r.known entry lines'
-        (made characters own_line.2 line_narrow ∙ ap (line_entry characters) height ∙ sym (entry_ended characters own_line.1 (height_of (ended_lines (in_group page area_more))) own_line.4))
-        (subst (λ n. Pushed n entry lines lines') b.present pushed))
+        let height : new.state.area.group.closed ≡ height_of (ended_lines (in_group page area_more)) = omega (arith, ap (λ (g : Group). g.closed) group, closed) in
+        record {
+          just = just;
+          last = λ just later high. behind_empty area lines page (omega (arith, ap (λ (a : Area). a.present) (state_of words sign old here r.of).area, b.order)) low_page r.known just (omega (arith, b.present, later)) high;
+          room = pushed_room page area area_more b.others (characters ++ own_line.1 ∷ []) lines low_page high_page own_line.5 r.known
+              (subst (λ l. HasRoom (laid_area words sign l)) (items_with next) (room_of sign sound (items ++ item ∷ []) next.none words new of_more));
+          narrow = (characters, own_line.2, line_narrow);
+          closed = closed;
+          ended = λ entry lines' made pushed. known_more lines'
+              (known_pushed page area area_more b.others (characters ++ own_line.1 ∷ []) lines low_page high_page own_line.5 r.known entry lines'
+              (made characters own_line.2 line_narrow ∙ ap (line_entry characters) height ∙ sym (entry_ended characters own_line.1 (height_of (ended_lines (in_group page area_more))) own_line.4))
+              (subst (λ n. Pushed n entry lines lines') b.present pushed));
+        }
+
+-- so an item is judged
+module _ {words : Bool} {sign : SignData} (sound : IsSound sign) {items : List Item} {old new : Pass} {lines : LineTable} {item : Item} {read : KnownItem} (r : IsReadOf words sign items (next_group old.state (meant_by read)) old lines)
+    (next : IsNextRead sign items item read) {ended : Option Line} (judged : IsItemJudged words sign (map meaning items) (meant_by read) old (Ok ended) new) (plain : begins_area (meant_by read) ≡ false) where
+  pub no_line_ended : ended ≡ None → IsReadOf words sign (items ++ item ∷ []) new.state.area.present new lines
+  no_line_ended = step_stays sound r next (judged.3 plain)
+
+  pub line_ended : (line : Line) → ended ≡ Some line → IsLineEnded words sign (items ++ item ∷ []) lines new line
+  line_ended line is = step_line sound r next (judged.3 plain) (own_group (meant_by read) old.state judged.2 is) line is

@@ -1,30 +1,14 @@
 -- A character stands beside the one before it, where both have the same attributes.
-use Rattle.multi_layout.proofs.Common.{not-false, ◌*◌, ◌⊎◌, inl, inr, state-limits, area_of, state-limits, IfSome, not, spelling_some, IsBeside, CountedLine, meant_by, Option, ◌≡◌, ℕ, ◌+◌, ◌-◌, ◌^◌, ◌<◌, ◌≤◌, Bool, true, false, cond, ◌==◌, List, [], ◌∷◌, ◌++◌, length, take, map, Some, None, refl, sym, ap, subst, ◌∙◌, arith, append_assoc, rules, if◌then◌else◌, count_by, option_map, unwrap_or, eq-eqb, line_number, page_number, BitPlane, SignData, CellData, cell_in, cell_numbered, Place, Glyph, Put, Spot, Standing, group_of, in_area, in_group, is_break, is_glyph, lines_of, segment, spots, standing, glyph_width, height_of, width_of, Meaning, Shows, unsized_offence, place_of, standing_push, Attributes, Cursor, NextItem, Layer, State, AreaLines, HasCounted, IsAreaDrawn, IsNextDrawn, IsRunDrawn, StandsAt, IsBetween, meant, IsBehindCharacter, lengthened_by, IsStateOf, PlacesCharacter, attributes_of, area_sum, group_lines, unsized-undefined, state_beside}
-use Rattle.multi_meaning.specs.Offence.{conflicts}
+use Rattle.multi_layout.proofs.Common.{Full, not-false, ◌*◌, ◌⊎◌, inl, inr, state-limits, area_of, IfSome, not, spelling_some, IsBeside, CountedLine, meant_by, Option, ◌≡◌, ℕ, ◌+◌, ◌-◌, ◌^◌, ◌<◌, ◌≤◌, Bool, true, false, cond, ◌==◌, List, [], ◌∷◌, ◌++◌, length, take, map, Some, None, refl, sym, ap, subst, ◌∙◌, arith, append_assoc, rules, if◌then◌else◌, count_by, option_map, unwrap_or, eq-eqb, line_number, page_number, BitPlane, SignData, CellData, cell_in, cell_numbered, Place, Glyph, Put, Spot, Standing, group_of, in_area, in_group, is_break, is_glyph, lines_of, segment, spots, standing, glyph_width, height_of, width_of, Meaning, Shows, unsized_offence, place_of, standing_push, Attributes, Cursor, NextItem, Layer, State, AreaLines, HasCounted, IsAreaDrawn, IsNextDrawn, IsRunDrawn, StandsAt, IsBetween, meant, IsBehindCharacter, lengthened_by, IsStateOf, PlacesCharacter, attributes_of, area_sum, group_lines, unsized-undefined, state_beside, conflicts, behind_added, character-accepted, character-free, slice_index_or, sum_by_push, line_before, glyph_put, own_group, filter_yes, width_push, spots_more, last_or_push, DrawsCharacter, NextStandsAt, behind_stays, average_same}
 use Rattle.multi_judge.specs.Adding.{AddsCharacter, character_of}
-use Rattle.multi_judge.proofs.LimitLemmas.{behind_added}
-use Rattle.multi_judge.proofs.PlacingLemmas.{character-accepted, character-free}
-use Rattle.std.specs.Prelude.{slice_index_or}
-use Rattle.std.proofs.lemmas.List.Sums.{sum_by_push}
 use Rattle.multi_tag.specs.declared.just.LineJust.{LineJust}
-use Rattle.multi_tag.specs.declared.just.LineJust.TheVariants.{Full}
 use Rattle.sign_font.specs.Cell.{SizedCell}
-use Rattle.multi_meaning.specs.Address.{area_of, line_before}
 use Rattle.multi_meaning.specs.Place.{spread, start}
-use Rattle.multi_meaning.proofs.GroupLemmas.{glyph_put, own_group, filter_yes}
-use Rattle.multi_meaning.proofs.StandingLemmas.{width_push, spots_more}
-use Rattle.multi_meaning.proofs.WordLemmas.{last_or_push}
 use Rattle.multi_judge.specs.declared.item.KnownItem.TheVariants as known
-use Rattle.multi_layout.specs.kept.RunDrawing.{DrawsCharacter, NextStandsAt}
 use Rattle.multi_layout.proofs.AreaDrawLemmas.{area_more}
 use Rattle.multi_layout.proofs.DrawLemmas.{glyph_found, stands_at}
 use Rattle.multi_judge.proofs.LineSumLemmas.{present_push}
-use Rattle.multi_judge.proofs.RunLemmas.{behind_stays, average_same}
 use Rattle.multi_layout.proofs.WalkLemmas.{between_more, map_split, never_offends}
-
--- a value that is only there on a full line
-not_full : (b : Bool) (n : ℕ) → b ≡ false → cond b n 0 ≡ 0
-not_full b n e = ap (λ b. cond b n 0) e
 
 not_five : (just : LineJust) → (just ≡ Full → ⊥) → (line_number just == 5) ≡ false
 not_five just other = grind (arith)
@@ -88,8 +72,8 @@ module _ (at : Standing) (before all : List Spot) (p q : Put) (first : is_glyph 
       let own = segment (line_number at.line_just) (slice_index_or lines k []) in
       let x = place_behind k part s in
       let y = place_behind k (part ++ s ∷ []) t in
-      let one = not_full (line_number at.line_just == 5) (spread (length part) (length own) (at.rectangle.width - width_of own)) apart in
-      let two = not_full (line_number at.line_just == 5) (spread (length (part ++ s ∷ [])) (length own) (at.rectangle.width - width_of own)) apart in
+      let one = ap (λ b. cond b (spread (length part) (length own) (at.rectangle.width - width_of own)) 0) apart in
+      let two = ap (λ b. cond b (spread (length (part ++ s ∷ [])) (length own) (at.rectangle.width - width_of own)) 0) apart in
       let column : y.column ≡ x.column + (glyph_width s + unwrap_or at.spacing at.font.char_spacing) = omega (arith, width_is, width_push part s, one, two) in
       place_second
       ∙ (λ i. let p : Place = record { column = column i; row = x.row } in p)
@@ -146,9 +130,7 @@ module _ {sign : SignData} {octets : List ℕ} {layer : Layer} {page : ℕ} {rea
 
   -- it has a cell
   pub has_cell : cell_in sign cursor.state.attributes.font.number number ≡ None → ⊥
-  has_cell none =
-      let wrong : ◌≡◌ {A = Option ℕ} (Some 7) None = sym (unsized-undefined sign items cursor.state n.up_to.between.state_is number none) ∙ fine in
-      cc
+  has_cell none = first_of (search (rules, unsized-undefined, fine), grind (arith, unsized-undefined, fine))
 
   -- where this is its cell, and how far the next one stands from it
   module _ {cell : SizedCell} (found : cell_in sign cursor.state.attributes.font.number number ≡ Some cell) (small : cell.width ≤ 64) {gap : ℕ} (gap_is : gap ≡ unwrap_or cursor.state.attributes.spacing cursor.state.attributes.font.char_spacing) (narrow : gap ≤ 255)
@@ -174,9 +156,8 @@ module _ {sign : SignData} {octets : List ℕ} {layer : Layer} {page : ℕ} {rea
 
       state_added : IsStateOf sign (items ++ Shows number ∷ []) new
       state_added =
-          let st = n.up_to.between.state_is in
-          state-limits sign (items ++ Shows number ∷ []) cursor.state new adds.same
-          (character-accepted sign items cursor.state st number cell found (character_of cursor.state.attributes a.width) refl refl a.wide refl new.area adds.sum fine)
+          let accepted = character-accepted sign items cursor.state n.up_to.between.state_is number cell found (character_of cursor.state.attributes a.width) refl refl a.wide refl new.area adds.sum fine in
+          state-limits sign (items ++ Shows number ∷ []) cursor.state new adds.same accepted
 
       added_put : {lines : List CountedLine} → lines ≡ group_lines (page_number new.attributes.page_just) read.lines → {place : Place} → PlacesCharacter new.attributes new.area lines a.width place → place.column < 2 ^ 33 → IsPut place new
       added_put {lines} lines_is {place} placed low =
@@ -224,17 +205,17 @@ module _ {sign : SignData} {octets : List ℕ} {layer : Layer} {page : ℕ} {rea
       same = is.state_is.attributes ∙ ap attributes_of (same_standing sign items number) ∙ sym n.up_to.between.state_is.attributes
 
       module _ {plane' : BitPlane} (put : DrawsCharacter sign layer new.attributes cell place plane plane') where
-        abbrev pub character_drawn : IsAreaDrawn sign octets layer page read cursor' plane'
+        abbrev character_drawn : IsAreaDrawn sign octets layer page read cursor' plane'
         character_drawn = area_more n (Shows number) shows refl cursor' plane' between refl
             (subst (λ a. DrawsCharacter sign layer a cell place plane plane') same put items (map meant n.rest) cursor.state number n.up_to.between.state_is refl found is.stands)
 
         -- and the next stands beside it where the line isn't full
-        pub drawn_beside : (new.attributes.line_just ≡ Full → ⊥) → IsRunDrawn sign octets layer page read (Some (record { column = place.column + advance; row = place.row })) cursor' plane'
-        drawn_beside apart =
-            let place' : Place = record { column = place.column + advance; row = place.row } in
+        pub run_drawn : (beside' : Option Place) → (beside' ≡ None) ⊎ ((beside' ≡ Some (record { column = place.column + advance; row = place.row })) × (new.attributes.line_just ≡ Full → ⊥)) → IsRunDrawn sign octets layer page read beside' cursor' plane'
+        run_drawn beside' (inl none) = rw none (record { so = character_drawn; stands = tt })
+        run_drawn beside' (inr (beside_is, apart)) =
             let all : map meant ((n.before ++ n.item ∷ []) ++ n.rest) ≡ items ++ Shows number ∷ map meant n.rest = ap (map meant) (append_assoc n.before (n.item ∷ []) n.rest) ∙ map_split n.before n.rest n.item (Shows number) shows in
             let there = beside_stands sign items cursor.state n.up_to.between.state_is number cell found (items ++ Shows number ∷ map meant n.rest) place gap (λ full. apart (ap (λ (a : Attributes). a.line_just) same ∙ full)) gap_is is.stands in
-            record {
+            rw beside_is (record {
               so = character_drawn;
               stands = record {
                 stands = subst (λ (x : List Meaning × List Meaning × ℕ). NextStandsAt sign x.0 x.1 (record { column = place.column + x.2; row = place.row })) (λ i. (sym with i, sym all i, sym advance_is i)) there;
@@ -242,4 +223,4 @@ module _ {sign : SignData} {octets : List ℕ} {layer : Layer} {page : ℕ} {rea
                 apart = apart;
                 low = omega (arith, is.low, narrow, small, advance_is, n.read_is.len, spelling_some n.item.item);
               };
-            }
+            })

@@ -1,24 +1,12 @@
 -- The lines that the table has while an area is read.
-use Rattle.multi_layout.proofs.Common.{◌≡◌, ℕ, ◌+◌, ◌<◌, ◌≤◌, Bool, true, false, cond, ◌==◌, length, List, [], ◌∷◌, ◌++◌, refl, sym, ap, ◌∙◌, arith, append-nil, rules, nat_lt, if◌then◌else◌, All, after_last, cases_eq, eq-eqb, ne_eqb, page_number, Spot, in_group, is_break, is_glyph, lines_of, height_of, IsPlacing, ended_lines, placing_group, Area, Group, CountedLine, LineTable, HasCounted, HasKnown, HasRoom, area_sum, group_sum, group_lines, line_count, table_of, line_entry, group_of_own, open_entry, filter-append}
-use Rattle.std.specs.List.{list_any}
-use Rattle.std.proofs.lemmas.Bool.{cases_lt, le-ltb, lt-ltb}
-use Rattle.std.proofs.lemmas.List.{length_push}
+use Rattle.multi_layout.proofs.Common.{◌≡◌, ℕ, ◌+◌, ◌<◌, ◌≤◌, Bool, true, false, cond, ◌==◌, length, List, [], ◌∷◌, ◌++◌, refl, sym, ap, ◌∙◌, arith, append-nil, rules, nat_lt, if◌then◌else◌, All, after_last, cases_eq, eq-eqb, ne_eqb, page_number, Spot, in_group, is_break, is_glyph, lines_of, height_of, IsPlacing, ended_lines, placing_group, Area, Group, CountedLine, LineTable, HasCounted, HasKnown, HasRoom, area_sum, group_sum, group_lines, line_count, table_of, line_entry, group_of_own, open_entry, filter-append, list_any, cases_lt, le-ltb, lt-ltb, length_push, break_put, known_lines, group_behind, ended_most, lines_closed, lines_open, table_length, table_push}
 use Rattle.multi_meaning.specs.Words.{largest}
-use Rattle.multi_meaning.proofs.GroupLemmas.{break_put}
-use Rattle.multi_layout.specs.kept.AreaDrawing.{known_lines}
-use Rattle.multi_judge.proofs.AreaSumLemmas.{group_behind}
-use Rattle.multi_judge.proofs.PlaceLemmas.{ended_most, lines_closed, lines_open, table_length, table_push}
-use Rattle.multi_judge.proofs.RunLemmas.{each_group}
 
 -- ONE MORE LINE
 
 -- a line is put behind those of the group with a page justification
 abbrev pub Pushed : ℕ → CountedLine → LineTable → LineTable → Type 0
 Pushed page_just line old new = (just : ℕ) → (2 ≤ just) × (just ≤ 4) → group_lines just new ≡ (if just == page_just then group_lines just old ++ line ∷ [] else group_lines just old)
-
--- a sum over the groups is less where one group's is
-less_total : (f g : ℕ → ℕ) (p : ℕ) → 2 ≤ p → p ≤ 4 → f 2 ≤ g 2 → f 3 ≤ g 3 → f 4 ≤ g 4 → f p < g p → f 2 + f 3 + f 4 < g 2 + g 3 + g 4
-less_total f g p low high two three four = each_group (λ p. f p < g p → f 2 + f 3 + f 4 < g 2 + g 3 + g 4) (λ h. omega arith) (λ h. omega arith) (λ h. omega arith) p low high
 
 -- one more line of one group is known
 module _ (old new : ℕ → List (List Spot)) (own : ℕ) (others : (just : ℕ) → (just ≡ own → ⊥) → new just ≡ old just) (line : List Spot) (more : new own ≡ old own ++ line ∷ []) (low : 2 ≤ own) (high : own ≤ 4)
@@ -29,7 +17,7 @@ module _ (old new : ℕ → List (List Spot)) (own : ℕ) (others : (just : ℕ)
 
   -- and there is room for it
   lines_room : (area : List Spot) → ((just : ℕ) → length (new just) ≤ length (lines_of (in_group just area))) → HasRoom area → line_count table < 128
-  lines_room area all room = first_of (search (rules, cases_eq, length_push, less_total, table_length), grind (arith, cases_eq, length_push, less_total, table_length))
+  lines_room area all room = first_of (search (rules, cases_eq, length_push, table_length), grind (arith, cases_eq, length_push, table_length))
 
 -- KNOWN LINES
 
@@ -64,9 +52,6 @@ module _ (area : List Spot) (table : LineTable) where
 -- THE LAST LINE OF THE PRESENT GROUP
 
 module _ (area : List Spot) (a : Area) (e : a ≡ area_sum area) where
-  present_is : a.present ≡ largest (λ (t : Spot). page_number t.at.page_just) area
-  present_is = ap (λ (a : Area). a.present) e
-
   group_is : a.group ≡ group_sum (in_group a.present area)
   group_is = group_of_own area a e a.present refl
 
@@ -75,7 +60,7 @@ module _ (area : List Spot) (a : Area) (e : a ≡ area_sum area) where
 
   -- those of the other groups are known as before
   known_next : (just : ℕ) → (just ≡ a.present → ⊥) → known_lines (a.present + 1) just area ≡ known_lines a.present just area
-  known_next just other = first_of (search (rules, cases_lt, group_behind, known_before, known_none, present_is), grind (arith, cases_lt, group_behind, known_before, known_none, present_is))
+  known_next just other = first_of (search (rules, cases_lt, group_behind, known_before, known_none), grind (arith, cases_lt, group_behind, known_before, known_none))
 
   -- where it has none, its lines are known
   pub nothing_left : All IsPlacing area → (old : LineTable) → a.group.line.any ≡ false → HasKnown a.present area old → HasKnown (a.present + 1) area old
@@ -110,24 +95,21 @@ pub entry_ended : (line : List Spot) (s : Spot) (bottom : ℕ) → is_break s �
 entry_ended line s bottom breaks = first_of (search (rules, append-nil, break_put, filter-append), grind (arith, append-nil, break_put, filter-append))
 
 module _ (just : ℕ) (old new : List Spot) (others : (j : ℕ) → (j ≡ just → ⊥) → in_group j new ≡ in_group j old) where
-  own_known : (area : List Spot) → known_lines just just area ≡ ended_lines (in_group just area)
-  own_known area = ap (λ b. cond b (lines_of (in_group just area)) (ended_lines (in_group just area))) (le-ltb just just (omega arith))
-
   other_known : (j : ℕ) → (j ≡ just → ⊥) → known_lines just j new ≡ known_lines just j old
   other_known j differ = ap (λ g. cond (nat_lt j just) (lines_of g) (ended_lines g)) (others j differ)
 
   -- no line is ended
   pub known_unchanged : ended_lines (in_group just new) ≡ ended_lines (in_group just old) → (table : LineTable) → HasKnown just old table → HasKnown just new table
-  known_unchanged same table has = first_of (search (rules, cases_eq, other_known, own_known), grind (arith, cases_eq, other_known, own_known))
+  known_unchanged same table has = first_of (search (rules, cases_eq, other_known, known_from), grind (arith, cases_eq, other_known, known_from))
 
   -- one is, and it is put into the table
   module _ (line : List Spot) (table : LineTable) (low : 2 ≤ just) (high : just ≤ 4) (more : ended_lines (in_group just new) ≡ ended_lines (in_group just old) ++ line ∷ []) (has : HasKnown just old table) where
     with_line : known_lines just just new ≡ known_lines just just old ++ line ∷ []
-    with_line = own_known new ∙ more ∙ ap (λ l. l ++ line ∷ []) (sym (own_known old))
+    with_line = known_from just just new (omega arith) ∙ more ∙ ap (λ l. l ++ line ∷ []) (sym (known_from just just old (omega arith)))
 
     pub known_pushed : (entry : CountedLine) (table' : LineTable) → entry ≡ line_entry line (height_of (ended_lines (in_group just new))) → Pushed just entry table table' → HasKnown just new table'
     known_pushed entry table' is =
-        lines_pushed (λ j. known_lines just j old) (λ j. known_lines just j new) just other_known line with_line low high table has entry table' (is ∙ ap (λ l. line_entry line (height_of l)) (sym (own_known new)))
+        lines_pushed (λ j. known_lines just j old) (λ j. known_lines just j new) just other_known line with_line low high table has entry table' (is ∙ ap (λ l. line_entry line (height_of l)) (sym (known_from just just new (omega arith))))
 
     -- and there is room for it
     pub pushed_room : HasRoom new → line_count table < 128

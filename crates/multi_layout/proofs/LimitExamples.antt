@@ -1,7 +1,6 @@
 -- The limits on steps, computed on the sample sign.
-use Rattle.multi_layout.proofs.Common.{◌≡◌, [], ◌∷◌, map, refl}
+use Rattle.multi_layout.proofs.Common.{◌≡◌, [], ◌∷◌, map, refl, frame_limit}
 use Rattle.sign_font.specs.Sample.{sample}
-use Rattle.multi_layout.specs.Limits.{frame_limit}
 
 limits_on_the_sample_sign : map (frame_limit sample) (0 ∷ 1 ∷ 4 ∷ 64 ∷ []) ≡ 18 ∷ 59 ∷ 196 ∷ 2866 ∷ []
 limits_on_the_sample_sign = refl

@@ -1,15 +1,10 @@
 -- The areas of a page, drawn one after the other.
-use Rattle.multi_layout.proofs.Common.{◌≡◌, ℕ, ◌+◌, ◌-◌, ◌*◌, ◌<◌, Counted, RisesBetween, item_steps, ◌≤◌, Bool, true, false, cond, ◌==◌, inl, inr, List, [], ◌∷◌, ◌++◌, map, None, Some, refl, sym, ap, subst, ◌∙◌, arith, append-nil, rules, count_by, mul-add, mul-le-mul_left, eq-eqb, map-append, sum_by-append, reading, Item, spell, NewPage, BitPlane, is_lit, Defaults, SignData, tallest, Standing, put_at, spots, standing, has_colour, laid_out, BeginsPage, Does, EndsArea, Meaning, begins_area, is_new_page, meaning, meanings, picture, shown_colour, IsAccepted, present_area, pages_of, covered_same, same_page_behind, present_area-new, Attributes, NextItem, pages_of-push, Cursor, Layer, AreaLines, plane_octets, IsFilledFew, IsPagePassed, IsPageStart, IsAreaDrawn, IsDrawnUpTo, IsFilledBy, IsPageDrawn, IsBetween, IsFirst, IsRead, items_of, meant, LaidItem}
-use Rattle.multi_token.specs.Spelling.{IsReading}
-use Rattle.multi_token.proofs.ReadingLemmas.{each_string_has_a_reading, none_found}
-use Rattle.multi_token.proofs.SpellingLemmas.{one_reading}
+use Rattle.multi_layout.proofs.Common.{IsSized, octet_count, ◌≡◌, ℕ, ◌+◌, ◌-◌, ◌*◌, ◌<◌, Counted, RisesBetween, next_steps, ◌≤◌, Bool, true, false, cond, ◌==◌, inl, inr, List, [], ◌∷◌, ◌++◌, map, None, Some, refl, sym, ap, subst, ◌∙◌, arith, append-nil, rules, count_by, mul-add, mul-le-mul_left, eq-eqb, map-append, sum_by-append, reading, Item, spell, NewPage, BitPlane, is_lit, Defaults, SignData, tallest, Standing, put_at, spots, standing, has_colour, laid_out, BeginsPage, Does, Meaning, begins_area, is_new_page, meaning, meanings, picture, shown_colour, IsAccepted, present_area, pages_of, covered_same, same_page_behind, present_area-new, NextItem, pages_of-push, Cursor, Layer, AreaLines, plane_octets, IsFilledFew, IsPagePassed, IsPageStart, IsAreaDrawn, IsDrawnUpTo, IsFilledBy, IsPageDrawn, IsBetween, IsFirst, IsRead, items_of, meant, LaidItem, IsReading, each_string_has_a_reading, none_found, one_reading, EndsPage, covered_begins, covered_ends}
+use Rattle.step_count.specs.Count.{raised}
 use Rattle.multi_meaning.specs.Picture as drawn
-use Rattle.multi_meaning.specs.kept.Bounds.{EndsPage}
-use Rattle.multi_meaning.specs.Picture.{in_plane}
-use Rattle.multi_meaning.proofs.DrawnLemmas.{covered_begins, covered_ends}
-use Rattle.multi_layout.proofs.AreaDrawLemmas.{area_in, area_over, drawn_more}
+use Rattle.multi_layout.proofs.AreaDrawLemmas.{area_over, drawn_more, filled_then}
 use Rattle.multi_layout.proofs.PieceLemmas.{first_begins, first_ended, laid_pages, no_piece}
-use Rattle.multi_layout.proofs.WalkLemmas.{map_split, same_octets, within_between}
+use Rattle.multi_layout.proofs.WalkLemmas.{map_split, same_octets, steps_then, steps_within, within_between}
 
 -- THE ITEMS OF A STRING
 
@@ -44,47 +39,33 @@ module _ {sign : SignData} {octets : List ℕ} {before behind : List LaidItem} {
 -- where a page begins, no area has an item yet
 nothing_placed : (sign : SignData) (before : List Meaning) → BeginsPage before → present_area sign before ≡ []
 unfolding spots
-nothing_placed sign before (inl none) = ap (present_area sign) none
-nothing_placed sign before (inr (earlier, is)) = ap (present_area sign) is ∙ present_area-new sign earlier (Does NewPage) refl
+nothing_placed sign before begins = first_of (search (rules, present_area-new), grind (arith, present_area-new))
 
 -- the first of them begins with the page, which shows its background
 pub page_begins : (sign : SignData) (octets : List ℕ) (layer : Layer) (cursor : Cursor) (plane : BitPlane) (on : Bool) → IsPageStart sign octets cursor → on ≡ (shown_colour sign cursor.state.attributes.back == layer.colour)
     → ((x y : ℕ) → x < plane.width → y < plane.height → is_lit plane x y ≡ on) → IsPageDrawn sign octets layer cursor.state.pages cursor plane
-page_begins sign octets layer cursor plane on (before, behind, b, begins) colour pixels = record {
-  before = before;
-  behind = behind;
-  up_to = record {
-    between = b;
-    page_is = refl;
-    drawn = λ x y across down. pixels x y across down ∙ colour ∙ ap (λ (a : Attributes). shown_colour sign a.back == layer.colour) b.state_is.attributes
-        ∙ sym (covered_begins sign layer.phase layer.colour (spots sign (map meant (before ++ behind))) x y (map meant before) begins);
-  };
-  begins = nothing_placed sign (map meant before) begins;
-}
+page_begins sign octets layer cursor plane on begins colour pixels = first_of (search (rules, covered_begins, nothing_placed), grind (arith, covered_begins, nothing_placed))
 
-pub page_in : {sign : SignData} {octets octets' : List ℕ} {layer : Layer} {page : ℕ} {cursor : Cursor} {plane : BitPlane} → octets' ≡ octets
-    → IsPageDrawn sign octets layer page cursor plane → IsPageDrawn sign octets' layer page cursor plane
-page_in {sign} {octets} {octets'} {layer} {page} {cursor} {plane} same d = subst (λ o. IsPageDrawn sign o layer page cursor plane) (sym same) d
-
--- an area of a page is passed, read and drawn, from these steps over the string and this plane on
-pub record IsAreaPassed (sign : SignData) (octets : List ℕ) (layer : Layer) (page : ℕ) (read : AreaLines) (old new : Cursor) (source source' : Counted) (plane plane' : BitPlane) : Type 0 where
-  pub drawn : IsAreaDrawn sign octets layer page read new plane'
-  pub on : old.at ≤ new.at
+-- from the start of a page on its areas are passed, the last one read and drawn, with these steps over the string and from this plane on
+pub record IsAreaPassed (sign : SignData) (layer : Layer) (page : ℕ) (read : AreaLines) (start new : Cursor) (source source' : Counted) (plane plane' : BitPlane) : Type 0 where
+  pub drawn : IsAreaDrawn sign source.octets layer page read new plane'
+  pub on : start.at ≤ new.at
   pub reached : read.end ≤ new.at
   pub same : source'.octets ≡ source.octets
-  pub steps : RisesBetween source source' 0 (18 * (new.at - old.at) + 1 + item_steps read.next)
-  pub fills : IsFilledBy sign plane plane' (new.at - old.at)
+  pub steps : RisesBetween source source' 0 (18 * (new.at - start.at) + 1 + next_steps read.next)
+  pub fills : IsFilledBy sign plane plane' (new.at - start.at)
 
-pub area_passed : {sign : SignData} {octets : List ℕ} {layer : Layer} {page : ℕ} {read : AreaLines} {old new : Cursor} {source source' : Counted} {plane plane' : BitPlane} → source.octets ≡ octets → IsPageDrawn sign octets layer page old plane
-    → (IsPageDrawn sign source.octets layer page old plane → IsAreaDrawn sign source.octets layer page read new plane') → (new.at ≡ read.end) × (old.at ≤ new.at)
-    → RisesBetween source source' 0 (18 * (new.at - old.at) + 1 + item_steps read.next) → IsFilledBy sign plane plane' (new.at - old.at) → IsAreaPassed sign octets layer page read old new source source' plane plane'
-area_passed here d draws at steps fills = record {
-  drawn = area_in (sym here) (draws (page_in here d));
-  on = at.1;
-  reached = omega (arith, at.0);
-  same = same_octets steps.3;
-  steps = steps;
-  fills = fills;
+pub area_passed : {sign : SignData} {layer : Layer} {page : ℕ} {read : AreaLines} {start old new : Cursor} {source there source' : Counted} {filled plane plane' : BitPlane} → IsPageDrawn sign source.octets layer page old plane
+    → start.at ≤ old.at → RisesBetween source there 0 (18 * (old.at - start.at)) → IsFilledBy sign filled plane (old.at - start.at) → (IsPageDrawn sign there.octets layer page old plane → IsAreaDrawn sign there.octets layer page read new plane')
+    → (new.at ≡ read.end) × (old.at ≤ new.at) → RisesBetween there source' 0 (18 * (new.at - old.at) + 1 + next_steps read.next) → IsFilledBy sign plane plane' (new.at - old.at)
+    → IsAreaPassed sign layer page read start new source source' filled plane'
+area_passed {sign} {source = source} {filled = filled} {plane} {plane'} d on steps fills draws at steps' fills' = record {
+  drawn = rw (← same_octets steps.3) (draws (rw (same_octets steps.3) d));
+  on = omega (arith, at);
+  reached = omega (arith, at);
+  same = same_octets steps'.3 ∙ same_octets steps.3;
+  steps = steps_within source (steps_then source steps steps') (omega arith) (omega (arith, at));
+  fills = subst (IsFilledBy sign filled plane') (omega (arith, at)) (filled_then sign filled plane plane' _ _ fills fills');
 }
 
 -- an area is passed, and begins with this item: the one behind it
@@ -96,20 +77,13 @@ pub record IsNextArea (sign : SignData) (octets : List ℕ) (layer : Layer) (pag
   pub read_is : IsRead item next
   pub begins : begins_area (meant item) ≡ true
 
-pub next_area : {sign : SignData} {octets octets' : List ℕ} {layer : Layer} {page : ℕ} {read : AreaLines} {next : NextItem} {cursor : Cursor} {plane : BitPlane} → octets' ≡ octets
-    → IsAreaDrawn sign octets layer page read cursor plane → read.end ≤ cursor.at → read.next ≡ Some next → IsNextArea sign octets' layer page next cursor plane
-next_area {sign} {octets} {octets'} {layer} {page} {read} {next} {cursor} {plane} same was reached found =
-    let d = area_in same was in
-    let (ends, first) = area_over d reached in
+pub next_area : {sign : SignData} {layer : Layer} {page : ℕ} {read : AreaLines} {next : NextItem} {start cursor : Cursor} {source source' : Counted} {plane plane' : BitPlane}
+    → IsAreaPassed sign layer page read start cursor source source' plane plane' → read.next ≡ Some next → IsNextArea sign source.octets layer page next cursor plane'
+next_area {sign} {layer} {page} {next = next} {cursor = cursor} {source} {plane' = plane'} e found =
+    let d = e.drawn in
+    let (ends, first) = area_over d e.reached in
     let (item, rest, split, read_is) = first_ended d.up_to.between ends next (subst (IsFirst (items_of d.behind)) found first) in
-    record {
-      before = d.before;
-      rest = rest;
-      item = item;
-      up_to = subst (λ l. IsDrawnUpTo sign octets' layer page d.before l cursor plane) split d.up_to;
-      read_is = read_is;
-      begins = first_begins item rest (subst (λ l. EndsArea (map meant l)) split ends);
-    }
+    grind (arith, d, ends, item, rest, split, read_is, first_begins)
 
 -- the rest of the string covers nothing of the page where the page ends
 page_shown : {sign : SignData} {octets : List ℕ} {layer : Layer} {page : ℕ} {before behind : List LaidItem} {cursor : Cursor} {plane : BitPlane} → IsDrawnUpTo sign octets layer page before behind cursor plane
@@ -118,11 +92,7 @@ page_shown {sign} {octets} {layer} {page} {before} {behind} {cursor} {plane} u e
     let done = map meant before in
     let all : map meant (before ++ behind) ≡ done ++ map meant behind = map-append meant before behind in
     let here : (standing sign done).page ≡ page - 1 = omega (arith, u.page_is, u.between.state_is.pages, page_of sign done) in
-    u.drawn column row across down
-    ∙ ap (λ ms. has_colour sign (standing sign done).page layer.phase layer.colour (spots sign ms) (spots sign done) column row) all
-    ∙ sym (covered_ends sign done (map meant behind) layer.phase layer.colour column row ends)
-    ∙ ap (λ n. in_plane sign (done ++ map meant behind) n layer.phase layer.colour column row) here
-    ∙ ap (λ ms. in_plane sign ms (page - 1) layer.phase layer.colour column row) (sym all ∙ all_laid u.between)
+    grind (arith, covered_ends sign done (map meant behind) layer.phase layer.colour column row ends, all_laid u.between)
 
 -- the end of the string
 module _ {sign : SignData} {octets : List ℕ} {layer : Layer} {page : ℕ} {read : AreaLines} {cursor : Cursor} {plane : BitPlane} (d : IsAreaDrawn sign octets layer page read cursor plane) (reached : read.end ≤ cursor.at)
@@ -177,12 +147,11 @@ module _ {sign : SignData} {octets : List ℕ} {layer : Layer} {page : ℕ} {nex
 pub if_same : (a b k : ℕ) → a ≡ b → cond (a == b) k 0 ≡ k
 if_same a b k is = ap (λ t. cond t k 0) (eq-eqb a b is)
 
+-- a fill takes one for each octet of the plane
+pub fill_steps : (sign : SignData) (old new : BitPlane) → IsSized old sign → new.steps ≡ raised old.steps (octet_count old) → (old.steps ≤ new.steps) × (new.steps ≤ old.steps + plane_octets sign)
+fill_steps sign old new size steps = let count : octet_count old ≡ plane_octets sign = cc in (omega arith, omega arith)
+
 -- those of a page: the fill where it begins, and those of its areas
-pub page_filled : (sign : SignData) (a b c : BitPlane) (old new : Cursor) (octets k : ℕ) → a.steps ≤ b.steps → b.steps ≤ a.steps + k → k ≡ plane_octets sign → IsFilledBy sign b c octets → octets ≤ new.at - old.at
+pub page_filled : (sign : SignData) (a b : BitPlane) {c : BitPlane} (old new : Cursor) {octets : ℕ} → IsSized a sign → b.steps ≡ raised a.steps (octet_count a) → IsFilledBy sign b c octets → octets ≤ new.at - old.at
     → octets + 4 ≤ (new.at - old.at) + cond (new.state.pages == old.state.pages) 4 0 → IsFilledFew sign a c old new
-page_filled sign a b c old new octets k least most is x within four = record {
-  fills = x.fills + 1;
-  few = omega (arith, x.few, four);
-  least = omega (arith, least, x.least);
-  most = omega (arith, most, is, x.most, mul-le-mul_left (tallest sign) within, mul-add (plane_octets sign) x.fills 1);
-}
+page_filled sign a b old new size steps x within four = grind (arith, fill_steps sign a b size steps, mul-le-mul_left (tallest sign) within, mul-add (plane_octets sign) x.fills 1)

@@ -1,27 +1,13 @@
 -- What is shown at a time of the cycle, from page to page.
-use Rattle.multi_layout.proofs.Common.{◌≡◌, ℕ, has_place, unsized_offence, ◌+◌, ◌-◌, ◌<◌, ◌≤◌, true, false, cond, List, [], ◌∷◌, ◌++◌, length, map, slice_get, Some, None, refl, sym, ap, subst, ◌∙◌, inl, arith, append-nil, rules, ◌*◌, ◌/◌, ◌^◌, Bool, map-append, All, ne_eqb, cases_eq, eq-eqb, All-head, All-tail, nat_tests, mul-add, Item, spelling_some, NewPage, SignData, FontData, largest, tallest, standing, laid_out, Meaning, Does, is_new_page, meaning, meanings, cycle, ended_times, pages_of, IsAccepted, IsOrderly, accepted_is, reading, standing_push, Attributes, NextItem, State, meant_by, attributes_of, pages_of-push, at_end, Counted, RisesBetween, charged, BitPlane, IsSound, Cursor, IsFirst, IsPageStart, IsFilledFew, IsPagePassed, IsAtPage, IsPageSkipped, IsPassing, unplaced, IsItemAt, plane_octets, reading_limit, IsSized, page_count}
-use Rattle.std.specs.Prelude.{◌==◌}
+use Rattle.multi_layout.proofs.Common.{◌≡◌, ℕ, has_place, unsized_offence, ◌+◌, ◌-◌, ◌<◌, ◌≤◌, true, false, cond, List, [], ◌∷◌, ◌++◌, length, map, slice_get, Some, None, refl, sym, ap, subst, ◌∙◌, inl, arith, append-nil, rules, ◌*◌, ◌/◌, ◌^◌, Bool, map-append, All, ne_eqb, cases_eq, eq-eqb, All-head, All-tail, mul-add, Item, spelling_some, NewPage, SignData, FontData, largest, tallest, standing, laid_out, Meaning, Does, is_new_page, meaning, meanings, cycle, ended_times, pages_of, IsAccepted, IsOrderly, accepted_is, reading, standing_push, NextItem, State, meant_by, attributes_of, pages_of-push, at_end, Counted, RisesBetween, charged, BitPlane, IsSound, Cursor, IsFirst, IsPageStart, IsFilledFew, IsPagePassed, IsAtPage, IsPageSkipped, IsPassing, unplaced, IsItemAt, plane_octets, reading_limit, IsSized, page_count, ◌==◌, Page, page_times, shown_within, accepted_orderly, cycle_push, ended_count, shown_off, shown_on, times_are, times_are_all, cycle-grows, cycle-stays, rises_more, IsSoundFont, Told, IsToldOf, IsReadTwice, PassesTag, IsAtStart, drawing_limit, plane_limit, IsDrawnFew, IsReadFew, IsUnderWay, PagesState, TurnsPage}
 use Rattle.std.proofs.lemmas.Nat.{mul-le}
-use Rattle.multi_meaning.specs.declared.times.Shown.TheVariants.{Page, Off}
-use Rattle.multi_meaning.specs.Times.{Times, page_times, shown_within}
-use Rattle.multi_meaning.proofs.VerdictLemmas.{accepted_orderly}
-use Rattle.multi_meaning.proofs.TimesLemmas.{cycle_push, ended_count, shown_off, shown_on, times_are, times_are_all}
-use Rattle.multi_judge.proofs.JudgedLemmas.{cycle-grows, cycle-stays}
-use Rattle.multi_token.proofs.StepLemmas.{rises_more}
-use Rattle.sign_font.specs.Sound.{IsSoundFont}
-use Rattle.multi_layout.specs.declared.checked.Told.{Told}
-use Rattle.multi_layout.specs.kept.Told.{IsToldOf}
-use Rattle.multi_layout.specs.kept.PageDrawing.{IsReadTwice}
-use Rattle.multi_layout.specs.kept.Cursors.{PassesTag}
-use Rattle.multi_layout.specs.kept.Passing.{IsAtStart}
+use Rattle.multi_meaning.specs.declared.times.Shown.TheVariants.{Off}
 use Rattle.multi_layout.proofs.PageDrawLemmas.{new_page_is, same_meanings}
-use Rattle.multi_layout.proofs.PieceLemmas.{begins_page, pieces_before, pieces_behind, starts_between}
-use Rattle.multi_layout.proofs.WalkLemmas.{item_is, fine_passing, passing_placed, passing_tag, placed_behind, room, same_unplaced, none_at_end, within, steps_then, steps_within, within_between}
-use Rattle.multi_layout.specs.Limits.{drawing_limit, plane_limit}
+use Rattle.multi_layout.proofs.PieceLemmas.{page_between}
+use Rattle.multi_layout.proofs.WalkLemmas.{item_is, fine_passing, passing_placed, passing_tag, placed_behind, same_unplaced, none_at_end, within, steps_then, steps_within, within_between}
 use Rattle.multi_layout.specs.declared.checked.NextPage.{NextPage}
 use Rattle.multi_layout.specs.NextPage.{IsNextPage, IsReadOn}
 use Rattle.multi_layout.specs.CheckedData.{CheckedData}
-use Rattle.multi_layout.specs.Pages.{IsDrawnFew, IsReadFew, IsUnderWay, PagesState, TurnsPage}
 
 -- ---- what is kept where the cursor stands
 
@@ -34,10 +20,6 @@ pub record IsClockOf (sign : SignData) (items : List Meaning) (state : State) : 
 clock_of : {sign : SignData} {octets : List ℕ} {before behind : List Item} {cursor : Cursor} → IsPassing sign octets before behind cursor → IsClockOf sign (map meaning before) cursor.state
 clock_of {sign} {before = before} p = grind (arith, same_unplaced sign (map meaning before))
 
--- the times that are in force
-abbrev times_of : Attributes → Times
-times_of attributes = record { on = attributes.on; off = attributes.off }
-
 -- the items of the string, as they are meant
 all_meant : {sign : SignData} {octets : List ℕ} {before behind : List Item} {cursor : Cursor} → IsPassing sign octets before behind cursor → map meaning before ++ map meaning behind ≡ meanings octets
 all_meant {sign} {octets} {before} {behind} p = sym (map-append meaning before behind) ∙ same_meanings sign octets (before ++ behind) p.placed.accepted
@@ -45,12 +27,7 @@ all_meant {sign} {octets} {before} {behind} p = sym (map-append meaning before b
 -- where a page begins the cursor stands between pieces
 pub page_starts : {sign : SignData} {octets : List ℕ} {cursor : Cursor} → IsAtPage sign octets cursor → IsOrderly sign (laid_out sign (meanings octets)) → IsPageStart sign octets cursor
 page_starts {sign} {octets} {cursor} p all =
-    let orderly = subst (λ ms. IsOrderly sign (laid_out sign ms)) (sym (same_meanings sign octets (p.before ++ p.behind) p.between.placed.accepted)) all in (
-      pieces_before sign octets p.before p.behind cursor p.between p.begins orderly,
-      pieces_behind sign octets p.before p.behind cursor p.between p.begins orderly,
-      starts_between sign octets p.before p.behind cursor p.between p.begins orderly,
-      begins_page sign octets p.before p.behind cursor p.between p.begins orderly,
-    )
+    page_between sign octets p.before p.behind cursor p.between p.begins (rw (same_meanings sign octets (p.before ++ p.behind) p.between.placed.accepted) all)
 
 -- ---- what is told of a string
 
@@ -83,9 +60,6 @@ pub record IsInPage (sign : SignData) (octets : List ℕ) (old cursor : Cursor) 
   pub same : cursor.state.pages ≡ old.state.pages
   pub began : cursor.state.cycle ≡ old.state.cycle
 
-pub in_page_in : {sign : SignData} {octets octets' : List ℕ} {old cursor : Cursor} → octets' ≡ octets → IsInPage sign octets old cursor → IsInPage sign octets' old cursor
-in_page_in {sign} {octets} {octets'} {old} {cursor} same s = subst (λ o. IsInPage sign o old cursor) (sym same) s
-
 module _ {sign : SignData} {octets : List ℕ} {old cursor : Cursor} (s : IsInPage sign octets old cursor) where
   abbrev passed : List Meaning
   passed = map meaning s.before
@@ -117,10 +91,7 @@ module _ {sign : SignData} {octets : List ℕ} {old cursor : Cursor} (s : IsInPa
   -- an item is passed that was read
   module _ (next : NextItem) {octets' : List ℕ} (same : octets' ≡ octets) (is : IsItemAt octets' cursor.at next.len (meant_by next.item)) where
     first : IsFirst s.behind (Some next)
-    first = item_is sign octets s.before s.behind cursor.at s.between.placed next (subst (λ o. IsItemAt o cursor.at next.len (meant_by next.item)) same is)
-
-    pub item_within : cursor.at + next.len ≤ length octets
-    item_within = omega (arith, room sign octets s.before first.1 first.0 cursor.at (stands first).placed, first.3.len)
+    first = item_is sign octets s.before s.behind cursor.at s.between.placed same next is
 
     -- one that has a place
     pub placed_passed : has_place (meant_by next.item) ≡ true → IsInPage sign octets old (record { at = cursor.at + next.len; state = cursor.state })
@@ -145,28 +116,22 @@ module _ {sign : SignData} {octets : List ℕ} {old cursor : Cursor} (s : IsInPa
 -- ---- a page that is looked at
 
 module _ {sign : SignData} {octets : List ℕ} {start behind : Cursor} (p : IsPageSkipped sign octets start behind) (time : ℕ) where
-  abbrev on_time : ℕ
-  on_time = behind.state.attributes.on
-
-  abbrev off_time : ℕ
-  off_time = behind.state.attributes.off
-
   -- in its on time the string shows it
-  pub shown_here : start.state.cycle ≤ time → time - start.state.cycle < on_time → Page (start.state.pages - 1) (time - start.state.cycle) ≡ shown_within (page_times sign (meanings octets)) time
-  shown_here began on = grind (arith, shown_on (page_times sign (meanings octets)) p.earlier p.later (times_of behind.state.attributes) p.times time)
+  pub shown_here : start.state.cycle ≤ time → time - start.state.cycle < behind.state.attributes.on → Page (start.state.pages - 1) (time - start.state.cycle) ≡ shown_within (page_times sign (meanings octets)) time
+  shown_here began on = grind (arith, shown_on (page_times sign (meanings octets)) p.earlier p.later (record { on = behind.state.attributes.on; off = behind.state.attributes.off }) p.times time)
 
   -- in its off time the string shows nothing
-  pub off_here : start.state.cycle ≤ time → on_time ≤ time - start.state.cycle → time - start.state.cycle < on_time + off_time → Off ≡ shown_within (page_times sign (meanings octets)) time
+  pub off_here : start.state.cycle ≤ time → behind.state.attributes.on ≤ time - start.state.cycle → time - start.state.cycle < behind.state.attributes.on + behind.state.attributes.off → Off ≡ shown_within (page_times sign (meanings octets)) time
   off_here began over off = grind (arith, shown_off)
 
   -- where it is over another page begins behind it, at the time or before
-  pub page_behind : start.state.cycle ≤ time → on_time + off_time ≤ time - start.state.cycle → time < cycle (page_times sign (meanings octets))
-      → (behind.state.pages ≡ start.state.pages + 1) × (start.at < behind.at) × (behind.state.cycle ≤ time) × IsAtPage sign octets behind
+  pub page_behind : start.state.cycle ≤ time → behind.state.attributes.on + behind.state.attributes.off ≤ time - start.state.cycle → time < cycle (page_times sign (meanings octets))
+      → (behind.state.pages ≡ start.state.pages + 1) × (start.at < behind.at) × (behind.at ≤ length octets) × (behind.state.cycle ≤ time) × IsAtPage sign octets behind
   page_behind began over below = first_of (search (rules, cycle_push), grind (arith, cycle_push))
 
 -- before the last page another begins behind it
 pub page_follows : {sign : SignData} {octets : List ℕ} {start behind : Cursor} → IsPageSkipped sign octets start behind → start.state.pages < pages_of (meanings octets)
-    → (behind.state.pages ≡ start.state.pages + 1) × (start.at < behind.at) × IsAtPage sign octets behind
+    → (behind.state.pages ≡ start.state.pages + 1) × (start.at < behind.at) × (behind.at ≤ length octets) × IsAtPage sign octets behind
 page_follows p more = first_of (search (rules), grind (arith))
 
 -- ---- a page that is passed
@@ -220,26 +185,15 @@ pub under_way_first : (pages : PagesState) (cursor : Cursor) → IsSound pages.s
     → IsPageStart pages.string.sign pages.string.source.octets cursor → cursor.state.pages ≡ 1 → IsUnderWay pages cursor
 under_way_first pages cursor sound short size first read drawn begins one = grind (arith, within_between pages.string.sign pages.string.source.octets begins.0 begins.1 cursor begins.2)
 
-not_all : (next count : ℕ) → next < count → (next == count) ≡ false
-not_all next count more = grind (arith, nat_tests)
-
 module _ (old : PagesState) (start next : NextPage) (u : IsUnderWay old start.cursor) (more : old.next < page_count old.string) where
   none_yet : (n : ℕ) → cond (old.next == page_count old.string) n 0 ≡ 0
-  none_yet n = ap (λ b. cond b n 0) (not_all old.next (page_count old.string) more)
+  none_yet n = ap (λ b. cond b n 0) (ne_eqb old.next (page_count old.string) (λ e. omega (arith, e, more)))
 
   -- behind one more page
   module _ (string : CheckedData) (plane : BitPlane) (sign_kept : string.sign ≡ old.string.sign) (size_kept : (plane.width ≡ old.plane.width) × (plane.height ≡ old.plane.height))
       (on : IsReadOn old.string.source string.source start next) (f : IsFilledFew old.string.sign old.plane plane start.cursor next.cursor) (begins : IsNextPage string next (old.next + 1)) where
     abbrev pub moved : ℕ → PagesState
-    moved k = record {
-      string = record { sign = old.string.sign; source = charged old.string.source k };
-      plane = plane;
-      phase = old.phase;
-      colour = old.colour;
-      next = old.next + 1;
-      string_started = old.string_started;
-      plane_started = old.plane_started;
-    }
+    moved k = record old { string = record { sign = old.string.sign; source = charged old.string.source k }; plane = plane; next = old.next + 1 }
 
     string_is : string ≡ (moved on.2.0).string
     string_is = λ i. record { sign = sign_kept i; source = on.2.3 i }

@@ -1,10 +1,7 @@
 -- The pieces of an accepted string: what each of its items is laid out as.
-use Rattle.multi_layout.proofs.Common.{◌≡◌, ℕ, Bool, true, false, inl, List, [], ◌∷◌, ◌++◌, map, Some, refl, sym, ap, subst, ◌∙◌, arith, append-nil, rules, map-append, Item, Tag, LineFill, Off, SignData, Standing, laid_item, laid_items, laid_out, BeginsPage, Does, EndsArea, Meaning, begins_area, has_place, meaning, pages_of, IsOrderly, each_after, are_laid, each_after-append, each_after_length, each_after_push, IsStateOf, Cursor, NextItem, KnownItem, Char, meant_by, IsBetween, IsFirst, IsItemRead, IsPlaced, IsRead, items_of, laid_meanings, meant, LaidItem, IsPassing, pages_at, same_times, length-meanings}
-use Rattle.multi_meaning.proofs.LaidItemLemmas.{unfilled_item}
-use Rattle.multi_meaning.proofs.StandingLemmas.{unplaced_item}
+use Rattle.multi_layout.proofs.Common.{IsPageStart, ◌≡◌, ℕ, true, false, inl, List, [], ◌∷◌, ◌++◌, map, Some, refl, sym, ap, subst, ◌∙◌, arith, append-nil, rules, map-append, Item, Tag, LineFill, Off, SignData, Standing, laid_item, laid_items, laid_out, BeginsPage, EndsArea, Meaning, begins_area, has_place, meaning, pages_of, IsOrderly, each_after, are_laid, each_after-append, each_after_push, IsStateOf, Cursor, NextItem, KnownItem, Char, meant_by, IsBetween, IsFirst, IsItemRead, IsPlaced, IsRead, items_of, laid_meanings, meant, LaidItem, IsPassing, pages_at, same_times, unfilled_item, unplaced_item, IsPieceFirst, pieces_of}
 use Rattle.multi_judge.specs.declared.item.KnownItem.TheVariants as items
-use Rattle.multi_layout.specs.kept.Cursors.{IsPieceFirst, pieces_of}
-use Rattle.multi_layout.proofs.WalkLemmas.{settled_at, few_pieces, laid_here, same_parts}
+use Rattle.multi_layout.proofs.WalkLemmas.{meanings_split, settled_at, laid_here}
 
 -- THE PIECES OF A STRING
 
@@ -19,8 +16,7 @@ meant_pieces f [] = refl
 meant_pieces f (x ∷ items) = ap (λ l. f [] (meaning x) ∷ l) (meant_pieces (λ before. f (meaning x ∷ before)) items)
 
 pub pieces_are : (sign : SignData) (items : List Item) → (items_of (pieces_of sign items) ≡ items) × (map meant (pieces_of sign items) ≡ laid_meanings sign items)
-pieces_are sign items =
-    (items_of_pieces (λ before item. laid_item sign.line_fill sign (map meaning items) (map meaning before) (meaning item)) items, meant_pieces (laid_item sign.line_fill sign (map meaning items)) items)
+pieces_are sign items = first_of (search (rules, items_of_pieces, meant_pieces), grind (arith, items_of_pieces, meant_pieces))
 
 -- they have the pages of the items
 pub laid_pages : (sign : SignData) (items : List Meaning) → pages_of (laid_out sign items) ≡ pages_of items
@@ -33,23 +29,9 @@ pub unplaced_laid : (sign : SignData) (before rest : List LaidItem) (piece : Lai
     → has_place (meaning piece.item) ≡ false → meant piece ≡ meaning piece.item
 unplaced_laid sign before rest piece laid none = laid_here sign before rest piece laid ∙ unplaced_item sign.line_fill sign _ _ (meaning piece.item) none
 
--- the first pieces are the first items, as they are laid out among all
-pub laid_front : (sign : SignData) (before behind : List LaidItem) → map meant (before ++ behind) ≡ laid_meanings sign (items_of (before ++ behind))
-    → map meant before ≡ laid_items sign.line_fill sign (map meaning (items_of before) ++ map meaning (items_of behind)) (map meaning (items_of before))
-laid_front sign before behind laid =
-    let ms = map meaning (items_of before) in
-    let rest = map meaning (items_of behind) in
-    let f = laid_item sign.line_fill sign (ms ++ rest) in
-    let split : map meaning (items_of (before ++ behind)) ≡ ms ++ rest = ap (map meaning) (map-append (λ (p : LaidItem). p.item) before behind) ∙ map-append meaning (items_of before) (items_of behind) in
-    (same_parts (map meant before) (each_after f ms) (map meant behind) _ (few_pieces before ∙ sym (length-meanings (items_of before)) ∙ sym (each_after_length f ms))
-    (sym (map-append meant before behind) ∙ laid ∙ ap (λ l. laid_items sign.line_fill sign l l) split ∙ each_after-append f ms rest)).0
-
 module _ {sign : SignData} {octets : List ℕ} {before rest : List LaidItem} {piece : LaidItem} {cursor : Cursor} (b : IsBetween sign octets before (piece ∷ rest) cursor) where
-  all_split : map meaning (items_of (before ++ piece ∷ rest)) ≡ map meaning (items_of before) ++ meaning piece.item ∷ map meaning (items_of rest)
-  all_split = ap (map meaning) (map-append (λ (p : LaidItem). p.item) before (piece ∷ rest)) ∙ map-append meaning (items_of before) (piece.item ∷ items_of rest)
-
   pub unfilled_meant : sign.line_fill ≡ Off → meant piece ≡ meaning piece.item
-  unfilled_meant off = first_of (search (rules, all_split, laid_here, unfilled_item), grind (arith, all_split, laid_here, unfilled_item))
+  unfilled_meant off = first_of (search (rules, meanings_split, laid_here, unfilled_item), grind (arith, meanings_split, laid_here, unfilled_item))
 
   pub unplaced_meant : has_place (meaning piece.item) ≡ false → meant piece ≡ meaning piece.item
   unplaced_meant = unplaced_laid sign before rest piece b.laid
@@ -62,18 +44,9 @@ module _ {sign : SignData} {octets : List ℕ} {before rest : List LaidItem} {pi
   read_unplaced none read = record { meant = unplaced_meant (ap has_place read.meant ∙ none) ∙ read.meant; len = read.len }
 
 -- a tag is laid out as itself
-tag_item : (setting : LineFill) (sign : SignData) (all before : List Meaning) (tag : Tag) → laid_item setting sign all before (Does tag) ≡ Does tag
-tag_item setting sign all before tag = grind (arith)
-
 pub read_tag : {sign : SignData} {octets : List ℕ} {before rest : List LaidItem} {piece : LaidItem} {cursor : Cursor} → IsBetween sign octets before (piece ∷ rest) cursor
     → {next : NextItem} → ((number : ℕ) → next.item ≡ Char number → ⊥) → IsItemRead piece.item next → IsRead piece next
-read_tag {sign} {octets} {before} {rest} {piece} {cursor} b {next} other read = of next.item refl
-  where
-    of : (known : KnownItem) → next.item ≡ known → IsRead piece next
-    of (Char number) is = absurd (other number is)
-    of (items.Tag tag) is =
-        let does : meaning piece.item ≡ Does tag = read.meant ∙ ap meant_by is in
-        record { meant = laid_here sign before rest piece b.laid ∙ ap (laid_item sign.line_fill sign _ _) does ∙ tag_item sign.line_fill sign _ _ tag ∙ sym (ap meant_by is); len = read.len }
+read_tag {sign} {octets} {before} {rest} {piece} {cursor} b {next} other read = first_of (search (rules, laid_here), grind (arith, laid_here))
 
 -- what begins an area places nothing
 begins_unplaced : (m : Meaning) → begins_area m ≡ true → has_place m ≡ false
@@ -85,7 +58,10 @@ ends_laid sign before [] laid ends = inl refl
 ends_laid sign before (p ∷ behind) laid ends = grind (arith, unplaced_laid, begins_unplaced)
 
 -- the first of the items is that of the first piece
-pub first_piece : (behind : List LaidItem) (next : NextItem) → IsFirst (items_of behind) (Some next) → (piece : LaidItem) × (rest : List LaidItem) × (behind ≡ piece ∷ rest) × IsItemRead piece.item next
+abbrev pub FirstPiece : List LaidItem → NextItem → Type 0
+FirstPiece behind next = (piece : LaidItem) × (rest : List LaidItem) × (behind ≡ piece ∷ rest) × IsItemRead piece.item next
+
+pub first_piece : (behind : List LaidItem) (next : NextItem) → IsFirst (items_of behind) (Some next) → FirstPiece behind next
 first_piece [] next (item, rest, is, read) = cc
 first_piece (p ∷ behind) next (item, rest, is, read) =
     let same : item ≡ p.item = cc in
@@ -99,10 +75,6 @@ no_piece (p ∷ behind) e = cc
 laid_placed : (setting : LineFill) (sign : SignData) (all before : List Meaning) (x : Meaning) → has_place x ≡ true → has_place (laid_item setting sign all before x) ≡ true
 laid_placed setting sign all before x e = grind (arith)
 
--- an item that begins no area is laid as one
-placed_begins : (m : Meaning) → has_place m ≡ true → begins_area m ≡ false
-placed_begins m e = grind (arith)
-
 pub plain_laid : (sign : SignData) (before rest : List LaidItem) (piece : LaidItem) → map meant (before ++ piece ∷ rest) ≡ laid_meanings sign (items_of (before ++ piece ∷ rest))
     → begins_area (meaning piece.item) ≡ false → begins_area (meant piece) ≡ false
 plain_laid sign before rest piece laid plain = first_of (search (rules, laid_here, unplaced_laid), grind (arith, laid_here, unplaced_laid))
@@ -110,22 +82,11 @@ plain_laid sign before rest piece laid plain = first_of (search (rules, laid_her
 -- a piece that places nothing is its item
 pub itself : {sign : SignData} {octets : List ℕ} {before rest : List LaidItem} {piece : LaidItem} {cursor : Cursor} → IsBetween sign octets before (piece ∷ rest) cursor → has_place (meant piece) ≡ false
     → (has_place (meaning piece.item) ≡ false) × (meaning piece.item ≡ meant piece)
-itself {sign} {octets} {before} {rest} {piece} {cursor} b none =
-    let unplaced : has_place (meaning piece.item) ≡ false = of (has_place (meaning piece.item)) refl in
-    (unplaced, sym (unplaced_meant b unplaced))
-  where
-    of : (p : Bool) → has_place (meaning piece.item) ≡ p → has_place (meaning piece.item) ≡ false
-    of false e = e
-    of true e =
-        let wrong : true ≡ false = sym (laid_placed sign.line_fill sign _ _ (meaning piece.item) e) ∙ ap has_place (sym (laid_here sign before rest piece b.laid)) ∙ none in
-        absurd cc
+itself {sign} {octets} {before} {rest} {piece} {cursor} b none = first_of (search (rules, unplaced_meant, laid_placed, laid_here), grind (arith, unplaced_meant, laid_placed, laid_here))
 
 -- what begins an area is a tag
 pub begins_tag : (item : KnownItem) → begins_area (meant_by item) ≡ true → (tag : Tag) × (item ≡ items.Tag tag)
 begins_tag item begins = grind (arith)
-
-pub free_tag : (item : KnownItem) → has_place (meant_by item) ≡ false → (tag : Tag) × (item ≡ items.Tag tag)
-free_tag item free = grind (arith)
 
 -- where an area ends, the first item begins one
 pub first_begins : (piece : LaidItem) (rest : List LaidItem) → EndsArea (map meant (piece ∷ rest)) → begins_area (meant piece) ≡ true
@@ -148,10 +109,10 @@ module _ (sign : SignData) (octets : List ℕ) (before behind : List Item) (curs
   abbrev piece_at : List Item → Item → LaidItem
   piece_at earlier item = record { item = item; as_laid = laid_item sign.line_fill sign all (map meaning earlier) (meaning item) }
 
-  abbrev pub pieces_before : List LaidItem
+  abbrev pieces_before : List LaidItem
   pieces_before = each_after piece_at before
 
-  abbrev pub pieces_behind : List LaidItem
+  abbrev pieces_behind : List LaidItem
   pieces_behind = each_after (λ more. piece_at (before ++ more)) behind
 
   whole : pieces_before ++ pieces_behind ≡ pieces_of sign (before ++ behind)
@@ -169,10 +130,10 @@ module _ (sign : SignData) (octets : List ℕ) (before behind : List Item) (curs
   laid_begins_page : (ms : List Meaning) → BeginsPage ms → BeginsPage (laid_items sign.line_fill sign all ms)
   laid_begins_page ms begins = grind (arith, each_after_push)
 
-  pub begins_page : BeginsPage (map meant pieces_before)
+  begins_page : BeginsPage (map meant pieces_before)
   begins_page = subst BeginsPage (sym means) (laid_begins_page (map meaning before) begins)
 
-  pub starts_between : IsBetween sign octets pieces_before pieces_behind cursor
+  starts_between : IsBetween sign octets pieces_before pieces_behind cursor
   starts_between =
       let ms = map meaning before in
       let laid = laid_items sign.line_fill sign all ms in
@@ -186,3 +147,6 @@ module _ (sign : SignData) (octets : List ℕ) (before behind : List Item) (curs
             (settled_at sign ms laid cursor.state here (same_times sign.line_fill sign all ms (map meaning behind) split) (pages_at sign laid ms (ap (λ (s : Standing). s.page) here))
             begins (laid_begins_page ms begins) p.state_is);
       }
+
+  pub page_between : IsPageStart sign octets cursor
+  page_between = (pieces_before, pieces_behind, starts_between, begins_page)

@@ -1,21 +1,7 @@
 -- The next item of an accepted string.
-use Rattle.multi_layout.specs.kept.Cursors.{PassesTag}
-use Rattle.multi_layout.proofs.Common.{◌≡◌, ℕ, IsRead, true, false, ◌+◌, ◌^◌, ◌<◌, ◌≤◌, inl, inr, List, [], ◌∷◌, ◌++◌, length, drop, take, map, slice_get, Some, None, refl, sym, ap, subst, ◌∙◌, arith, append_assoc, append-nil, rules, Bool, cond, not, suc, All, length-append, map-append, All-head, All-tail, filter-append, Counted, RisesBetween, charged, Token, IsPlain, Item, spelling, spell, item_of, single_token, spelling_some, rises_then, Off, SignData, each_after, laid_item, Faulty, Meaning, meaning, BeginsPage, Does, has_place, is_new_page, offence, unsized_offence, offence_by, fault_at, offences, pages_of, IsFaultAt, IsItemAt, IsOrderly, offence-faulty, standing_push, present_area-new, length-meanings, each_after-append, each_after_length, left_nil, push_ind, some_after-append, NextItem, IsReady, IsStateOf, meant_by, ready, pages_of-push, NewPage, LineFill, Standing, spots, standing, present_area, ended_times, State, Shows, Cursor, IsBetween, IsFirst, IsPlaced, LaidItem, items_of, laid_meanings, meant, spell_of, IsItemRead, IsPassing, unplaced}
-use Rattle.std.specs.List.{cons_option}
-use Rattle.sign_font.specs.Sign.{font_numbered}
+use Rattle.multi_layout.proofs.Common.{common_steps, none_more, last_fine, ◌≡◌, ℕ, IsRead, true, false, ◌+◌, ◌^◌, ◌<◌, ◌≤◌, inl, inr, List, [], ◌∷◌, ◌++◌, length, drop, map, slice_get, Some, None, refl, sym, ap, subst, ◌∙◌, arith, append_assoc, append-nil, rules, not, All, length-append, map-append, All-head, All-tail, filter-append, Counted, RisesBetween, charged, Token, IsPlain, Item, spelling, spell, item_of, single_token, spelling_some, rises_then, Off, SignData, each_after, laid_item, Faulty, Meaning, meaning, BeginsPage, Does, has_place, is_new_page, offence, unsized_offence, offence_by, offences, pages_of, IsFaultAt, IsItemAt, offence-faulty, standing_push, present_area-new, length-meanings, each_after-append, each_after_length, push_ind, some_after-append, NextItem, IsReady, IsStateOf, meant_by, ready, pages_of-push, NewPage, LineFill, Standing, spots, standing, present_area, ended_times, State, Shows, Cursor, IsBetween, IsFirst, IsPlaced, LaidItem, items_of, laid_meanings, meant, spell_of, IsItemRead, IsPassing, unplaced, PassesTag, font_numbered, is_bracket, IsItem, HasNoItem, IsTokenOf, one_item_begins, charged-zero, IsFine, none_front, none_last, none_mapped, none_of, right_nil, ended_times-push, standing_behind}
 use Rattle.std.proofs.Math.Seq.{drop-append_seam, take-append_seam}
 use Rattle.std.proofs.lemmas.List.Concat.{flat_map-append}
-use Rattle.multi_token.specs.Spelling.{is_bracket, IsItem, HasNoItem}
-use Rattle.multi_token.specs.Tokens.{IsTokenOf}
-use Rattle.multi_token.proofs.SpellingLemmas.{one_item_begins}
-use Rattle.multi_token.proofs.StepLemmas.{charged-zero}
-use Rattle.multi_meaning.specs.Words.{some_after}
-use Rattle.multi_meaning.specs.kept.Fine.{IsFine}
-use Rattle.multi_meaning.proofs.RoomLemmas.{none_front, none_last}
-use Rattle.multi_meaning.proofs.WordLemmas.{none_mapped, none_of, right_nil, some_after_push}
-use Rattle.multi_judge.proofs.JudgedLemmas.{ended_times-push}
-use Rattle.multi_meaning.specs.kept.Present.{standing_behind}
-use Rattle.multi_token.specs.declared.token.Kind.TheVariants as kinds
 
 All-right : (P : Item → Type 0) (xs ys : List Item) → All P (xs ++ ys) → All P ys
 All-right P [] ys h = h
@@ -62,19 +48,16 @@ module _ (sign : SignData) (octets : List ℕ) (before behind : List Item) (at :
           (items, ap (λ y. y ∷ items) same.0)
 
   -- an item that stands here is the first, of which this is read
-  pub item_is : (next : NextItem) → IsItemAt octets at next.len (meant_by next.item) → IsFirst behind (Some next)
-  item_is next (t, here, long, stands, means) = grind (arith, first_is)
+  pub item_is : {octets' : List ℕ} → octets' ≡ octets → (next : NextItem) → IsItemAt octets' at next.len (meant_by next.item) → IsFirst behind (Some next)
+  item_is same next is = let (t, here, long, stands, means) = subst (λ o. IsItemAt o at next.len (meant_by next.item)) same is in grind (arith, first_is)
 
 -- an octet that is no bracket stands for itself
 pub no_bracket : (octet : ℕ) → is_bracket octet ≡ false → IsPlain octet
-no_bracket octet none =
-    (λ e. let wrong : true ≡ false = ap is_bracket (sym e) ∙ none in absurd cc, λ e. let wrong : true ≡ false = ap is_bracket (sym e) ∙ none in absurd cc)
+no_bracket octet none = grind (arith)
 
 -- and is an item
 pub octet_item : (octets : List ℕ) (at octet : ℕ) → length octets < 2 ^ 63 → slice_get octets at ≡ Some octet → IsPlain octet → IsItemAt octets at 1 (Shows octet)
-octet_item octets at octet room here plain =
-    let token : Token = record { at = at; len = 1; kind = kinds.Char octet } in
-    (token, refl, refl, single_token octets at octet room here plain, refl)
+octet_item octets at octet room here plain = grind (arith, single_token octets at octet room here plain)
 
 -- reading leaves the octets
 pub same_octets : {source : Counted} {octets : List ℕ} {steps : ℕ} → source ≡ record { octets = octets; steps = steps } → source.octets ≡ octets
@@ -124,18 +107,9 @@ no_fault sign octets before behind at code p before_end (inr (len, (t, here, lon
 
 -- the items of an accepted string don't offend where lines aren't filled
 pub fine_items : (sign : SignData) → sign.line_fill ≡ Off → (items : List Item) → offences sign items ≡ [] → IsFine sign (map meaning items)
-fine_items sign off = push_ind (λ items. offences sign items ≡ [] → IsFine sign (map meaning items)) (λ none. refl) step
-  where
-    step : (items : List Item) (item : Item) → (offences sign items ≡ [] → IsFine sign (map meaning items)) → offences sign (items ++ item ∷ []) ≡ [] → IsFine sign (map meaning (items ++ item ∷ []))
-    step items item ih none =
-        let parts = sym (some_after_push (fault_at sign) items item) ∙ none in
-        let here : offence Off sign (map meaning items) (meaning item) ≡ None =
-        subst (λ setting. offence setting sign (map meaning items) (meaning item) ≡ None) off
-        (none_mapped (λ code. (code, length (spell items))) (offence sign.line_fill sign (map meaning items) (meaning item)) (none_of (fault_at sign items item) [] (right_nil (offences sign items) _ parts))) in
-        ap (some_after (offence Off sign)) (map-append meaning items (item ∷ []))
-        ∙ some_after_push (offence Off sign) (map meaning items) (meaning item)
-        ∙ ap (λ l. l ++ cons_option (offence Off sign (map meaning items) (meaning item)) []) (ih (left_nil (offences sign items) _ parts))
-        ∙ ap (λ o. cons_option o []) here
+fine_items sign off = push_ind (λ items. offences sign items ≡ [] → IsFine sign (map meaning items)) (λ none. refl) (λ items item ih none.
+    let none_more' = none_more (offence Off sign) (map meaning items) (meaning item) in
+    grind (arith, last_fine sign items item none, map-append, none_more', ih, off))
 
 -- PIECES
 
@@ -147,8 +121,7 @@ pub map_split : (before rest : List LaidItem) (item : LaidItem) (m : Meaning) �
 map_split before rest item m e = map-append meant before (item ∷ rest) ∙ ap (λ x. map meant before ++ x ∷ map meant rest) e
 
 pub few_pieces : (pieces : List LaidItem) → length (map meant pieces) ≡ length (items_of pieces)
-few_pieces [] = refl
-few_pieces (p ∷ pieces) = ap (λ n. Prim.Native.Nat.suc n) (few_pieces pieces)
+few_pieces pieces = grind (arith, common_steps)
 
 module _ (sign : SignData) (octets : List ℕ) (before behind : List LaidItem) (cursor : Cursor) (b : IsBetween sign octets before behind cursor) where
   -- the times are within their bound
@@ -162,10 +135,7 @@ module _ (sign : SignData) (octets : List ℕ) (before behind : List LaidItem) (
 module _ (sign : SignData) (octets : List ℕ) (before rest : List LaidItem) (item : LaidItem) (cursor : Cursor) (b : IsBetween sign octets before (item ∷ rest) cursor) where
   -- it doesn't offend by more than its size
   pub never_offends : unsized_offence sign (map meant before) (meant item) ≡ None
-  never_offends =
-      none_last sign (unsized_offence sign) (map meant before) (meant item)
-      (none_front sign (unsized_offence sign) (map meant before ++ meant item ∷ []) (map meant rest)
-      (subst (IsOrderly sign) (map-append meant before (item ∷ rest) ∙ sym (append_assoc (map meant before) (meant item ∷ []) (map meant rest))) b.orderly))
+  never_offends = grind (arith, none_front sign (unsized_offence sign) (map meant before ++ meant item ∷ []) (map meant rest), map-append meant before (item ∷ rest), append_assoc (map meant before) (meant item ∷ []) (map meant rest), none_last)
 
   -- behind it the cursor stands before the rest
   pub between_more : (new : Cursor) → new.at ≡ cursor.at + length (spelling item.item) → IsStateOf sign (map meant before ++ meant item ∷ []) new.state
@@ -189,22 +159,25 @@ module _ {sign : SignData} {octets : List ℕ} {before rest : List LaidItem} {it
 
 -- two lists are the same up to one place, and from there on
 pub same_parts : {X : Type 0} (xs ys as' bs : List X) → length xs ≡ length ys → xs ++ as' ≡ ys ++ bs → (xs ≡ ys) × (as' ≡ bs)
-same_parts xs ys as' bs n e =
-    (sym (take-append_seam xs as') ∙ (λ i. take (n i) (e i)) ∙ take-append_seam ys bs, sym (drop-append_seam xs as') ∙ (λ i. drop (n i) (e i)) ∙ drop-append_seam ys bs)
+same_parts xs ys as' bs n e = grind (arith, take-append_seam xs as', take-append_seam ys bs, drop-append_seam xs as', drop-append_seam ys bs)
+
+-- the items of pieces, as they mean
+pub meanings_split : (before behind : List LaidItem) → map meaning (items_of (before ++ behind)) ≡ map meaning (items_of before) ++ map meaning (items_of behind)
+meanings_split before behind = ap (map meaning) (map-append (λ (p : LaidItem). p.item) before behind) ∙ map-append meaning (items_of before) (items_of behind)
+
+-- pieces are their items, as these are laid out among all
+pub laid_parts : (sign : SignData) {setting : LineFill} → sign.line_fill ≡ setting → (before behind : List LaidItem) → map meant (before ++ behind) ≡ laid_meanings sign (items_of (before ++ behind))
+    → let ms = map meaning (items_of before) in let rest = map meaning (items_of behind) in let f = laid_item setting sign (ms ++ rest) in
+    (map meant before ≡ each_after f ms) × (map meant behind ≡ each_after (λ more. f (ms ++ more)) rest)
+laid_parts sign {setting} kind before behind laid =
+    let ms = map meaning (items_of before) in
+    let f = laid_item setting sign (ms ++ map meaning (items_of behind)) in
+    grind (arith, meanings_split before behind, few_pieces before, length-meanings (items_of before), each_after_length f ms, map-append meant before behind, each_after-append f ms (map meaning (items_of behind)), same_parts)
 
 -- what an item is laid out as, by its place among all
 pub laid_here : (sign : SignData) (before rest : List LaidItem) (piece : LaidItem) → map meant (before ++ piece ∷ rest) ≡ laid_meanings sign (items_of (before ++ piece ∷ rest))
     → meant piece ≡ laid_item sign.line_fill sign (map meaning (items_of (before ++ piece ∷ rest))) (map meaning (items_of before)) (meaning piece.item)
-laid_here sign before rest piece laid =
-    let all = map meaning (items_of (before ++ piece ∷ rest)) in
-    let f = laid_item sign.line_fill sign all in
-    let ms = map meaning (items_of before) in
-    let split : all ≡ ms ++ meaning piece.item ∷ map meaning (items_of rest) = ap (map meaning) (map-append (λ (p : LaidItem). p.item) before (piece ∷ rest)) ∙ map-append meaning (items_of before) (piece.item ∷ items_of rest) in
-    let parts : laid_meanings sign (items_of (before ++ piece ∷ rest)) ≡ each_after f ms ++ f ms (meaning piece.item) ∷ each_after (λ more. f (ms ++ meaning piece.item ∷ more)) (map meaning (items_of rest)) =
-    ap (each_after f) split ∙ each_after-append f ms (meaning piece.item ∷ map meaning (items_of rest)) ∙ ap (λ l. each_after f ms ++ f l (meaning piece.item) ∷ each_after (λ more. f (ms ++ meaning piece.item ∷ more)) (map meaning (items_of rest))) (append-nil ms) in
-    let same = (same_parts (map meant before) (each_after f ms) (meant piece ∷ map meant rest) _ (few_pieces before ∙ sym (length-meanings (items_of before)) ∙ sym (each_after_length f ms))
-    (sym (map-append meant before (piece ∷ rest)) ∙ laid ∙ parts)).1 in
-    cc
+laid_here sign before rest piece laid = cc ((laid_parts sign refl before (piece ∷ rest) laid).1, meanings_split before (piece ∷ rest), append-nil (map meaning (items_of before)))
 
 -- where the present area is empty, the state is that of all items with these pages, times and values in force
 pub state_moved : (sign : SignData) (one other : List Meaning) (state : State) → standing sign one ≡ standing sign other → ended_times sign one ≡ ended_times sign other → pages_of one ≡ pages_of other
@@ -213,16 +186,13 @@ state_moved sign one other state here times pages none none' st = first_of (sear
 
 -- ONE MORE ITEM
 
-unplaced_if : (ms : List Meaning) (x : Meaning) (b : Bool) → has_place x ≡ b → unplaced (ms ++ x ∷ []) ≡ unplaced ms ++ cond (not b) (x ∷ []) []
-unplaced_if ms x b e = filter-append (λ x. not (has_place x)) ms (x ∷ []) ∙ ap (λ b. unplaced ms ++ cond (not b) (x ∷ []) []) e
-
 -- an item that is placed leaves them
 pub unplaced_stays : (ms : List Meaning) (x : Meaning) → has_place x ≡ true → unplaced (ms ++ x ∷ []) ≡ unplaced ms
-unplaced_stays ms x e = unplaced_if ms x true e ∙ append-nil (unplaced ms)
+unplaced_stays ms x e = grind (arith, filter-append (λ x. not (has_place x)) ms (x ∷ []), append-nil)
 
 -- another joins them
 pub unplaced_grows : (ms : List Meaning) (x : Meaning) → has_place x ≡ false → unplaced (ms ++ x ∷ []) ≡ unplaced ms ++ x ∷ []
-unplaced_grows ms x e = unplaced_if ms x false e
+unplaced_grows ms x e = grind (arith, filter-append (λ x. not (has_place x)) ms (x ∷ []))
 
 -- what is placed begins no page, and leaves all that is in force
 pub placed_behind : (sign : SignData) (at : Standing) (x : Meaning) → has_place x ≡ true → (standing_behind sign at x ≡ at) × (is_new_page x ≡ false)
@@ -233,11 +203,8 @@ module _ (sign : SignData) where
   abbrev Same : List Meaning → Type 0
   Same ms = (standing sign (unplaced ms) ≡ standing sign ms) × (ended_times sign (unplaced ms) ≡ ended_times sign ms) × (pages_of (unplaced ms) ≡ pages_of ms)
 
-  same_if : (ms : List Meaning) (x : Meaning) (b : Bool) → has_place x ≡ b → Same ms → Same (ms ++ x ∷ [])
-  same_if ms x b e same = grind (arith, placed_behind, unplaced_stays, standing_push, ended_times-push, append-nil, pages_of-push, unplaced_grows)
-
   pub same_unplaced : (ms : List Meaning) → Same ms
-  same_unplaced = push_ind Same (refl, refl, refl) (λ ms x. same_if ms x (has_place x) refl)
+  same_unplaced = push_ind Same (refl, refl, refl) (λ ms x same. grind (arith, placed_behind, unplaced_stays ms x, standing_push, ended_times-push, append-nil, pages_of-push, unplaced_grows ms x))
 
   -- an item that places nothing offends behind them just where it does behind all
   pub offends_unplaced : (setting : LineFill) (ms : List Meaning) (x : Meaning) → has_place x ≡ false → unsized_offence sign (unplaced ms) x ≡ offence setting sign ms x
@@ -252,23 +219,13 @@ module _ (sign : SignData) where
 
   pub settled_at : (ms laid : List Meaning) (state : State) → standing sign laid ≡ standing sign ms → ended_times sign laid ≡ ended_times sign ms → pages_of laid ≡ pages_of ms
       → BeginsPage ms → BeginsPage laid → IsStateOf sign (unplaced ms) state → IsStateOf sign laid state
-  settled_at ms laid state here' times' pages' begins begins' =
-      let (here, times, pages) = same_unplaced ms in
-      state_moved sign (unplaced ms) laid state (here ∙ sym here') (times ∙ sym times') (pages ∙ sym pages')
-      (empty (unplaced ms) (empty ms begins).1).0 (empty laid begins').0
+  settled_at ms laid state here' times' pages' begins begins' = grind (arith, same_unplaced ms, empty (unplaced ms) (empty ms begins).1, empty laid begins', empty ms begins, state_moved)
 
 -- THE WAY
 
--- the times are within their bound
-pub ready_there : {sign : SignData} {octets : List ℕ} {before behind : List Item} {cursor : Cursor} → IsPassing sign octets before behind cursor → IsReady cursor.state
-ready_there {sign} {octets} {before} {behind} {cursor} p =
-    ready sign (unplaced (map meaning before)) cursor.state p.state_is
-
 module _ {sign : SignData} {octets : List ℕ} {before rest : List Item} {item : Item} {cursor : Cursor} (p : IsPassing sign octets before (item ∷ rest) cursor) {next : NextItem} (read : IsItemRead item next) where
   pub fine_passing : has_place (meant_by next.item) ≡ false → unsized_offence sign (unplaced (map meaning before)) (meant_by next.item) ≡ None
-  fine_passing e =
-      offends_unplaced sign sign.line_fill (map meaning before) (meant_by next.item) e
-      ∙ ap (offence sign.line_fill sign (map meaning before)) (sym read.meant) ∙ none_offends sign octets before rest item cursor.at p.placed
+  fine_passing e = grind (arith, offends_unplaced sign sign.line_fill (map meaning before) (meant_by next.item) e, none_offends sign octets before rest item cursor.at p.placed)
 
   passing_with : (new : Cursor) → new.at ≡ cursor.at + next.len → IsStateOf sign (unplaced (map meaning before ++ meaning item ∷ [])) new.state → IsPassing sign octets (before ++ item ∷ []) rest new
   passing_with new at st = record {
@@ -278,9 +235,7 @@ module _ {sign : SignData} {octets : List ℕ} {before rest : List Item} {item :
 
   -- behind an item that is placed the state stays
   pub passing_placed : (new : Cursor) → has_place (meant_by next.item) ≡ true → new.at ≡ cursor.at + next.len → new.state ≡ cursor.state → IsPassing sign octets (before ++ item ∷ []) rest new
-  passing_placed new e at same =
-      passing_with new at (subst (IsStateOf sign (unplaced (map meaning before ++ meaning item ∷ []))) (sym same)
-      (subst (λ ms. IsStateOf sign ms cursor.state) (sym (unplaced_stays (map meaning before) (meaning item) (ap has_place read.meant ∙ e))) p.state_is))
+  passing_placed new e at same = grind (arith, common_steps, passing_with, unplaced_stays)
 
   -- behind another it is that with it
   pub passing_tag : (new : Cursor) → has_place (meant_by next.item) ≡ false → new.at ≡ cursor.at + next.len

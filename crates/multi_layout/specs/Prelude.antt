@@ -7,14 +7,15 @@ pub use Rattle.multi_tag.specs.Just.{page_number}
 pub use Rattle.multi_tag.specs.declared.just.LineJust.TheVariants.{Full}
 pub use Rattle.sign_font.specs.Sound.{IsSound, IsSoundSize}
 pub use Rattle.sign_font.specs.Defaults.{default_fault, under}
-pub use Rattle.sign_font.specs.Sign.{SignData}
+pub use Rattle.sign_font.specs.Sign.{FontData, SignData}
 pub use Rattle.page_plane.specs.Plane.{BitPlane}
 pub use Rattle.multi_meaning.specs.Codes.{code_of}
 pub use Rattle.multi_meaning.specs.Picture.{Lights, picture, is_lit_at, shown_colour, pixel_at}
 pub use Rattle.multi_meaning.specs.Meaning.{Meaning, begins_area, meanings}
 pub use Rattle.multi_meaning.specs.kept.Bounds.{has_place}
 pub use Rattle.multi_meaning.specs.kept.Fine.{unsized_offence}
-pub use Rattle.multi_meaning.specs.kept.ItemAt.{IsFaultAt, IsItemAt}
+pub use Rattle.multi_meaning.specs.kept.ItemAt.{IsFaultRead, IsItemAt, IsBracketedRead}
+pub use Rattle.multi_meaning.specs.Steps.{judging_steps, looks}
 pub use Rattle.multi_meaning.specs.Times.{shown}
 pub use Rattle.multi_meaning.specs.Verdict.{Accepted, IsVerdict, IsCycle, Refused}
 pub use Rattle.multi_judge.specs.KnownItem.{meant_by, IsOctet}
@@ -28,7 +29,7 @@ pub use Rattle.multi_judge.specs.Judging.{IsAt}
 pub use Rattle.multi_layout.specs.Pages.{IsDrawnFew, IsReadFew, IsSized, TakesFew, page_count, ShowsAt, IsUnderWay, PagesState, pages_state}
 pub use Rattle.multi_layout.specs.declared.paint.Layer.{Layer}
 pub use Rattle.multi_layout.specs.kept.AreaDrawing.{IsPageDrawn, HasCounted, IsAreaDrawn, IsFilledBy, whole_area, IsCountedBy, ReadsArea}
-pub use Rattle.multi_layout.specs.kept.AreaReading.{EndsGroup, IsNextRead, IsReadOf, KnowsArea, KnowsOn, ReadsOn, item_steps}
+pub use Rattle.multi_layout.specs.kept.AreaReading.{EndsGroup, IsNextRead, IsReadOf, KnowsArea, KnowsOn, ReadsOn, next_steps}
 pub use Rattle.multi_layout.specs.kept.Cursors.{PassesTag, IsBetween, IsItemRead, IsRead, IsWithin, LaidItem}
 pub use Rattle.multi_layout.specs.kept.PageDrawing.{IsFilledFew, IsPagePassed, IsPageStart, IsReadTwice, IsStartOf}
 pub use Rattle.multi_layout.specs.kept.Passing.{IsAtStart, IsOnTheWay, IsPageSkipped}

@@ -1,7 +1,7 @@
 //! Items that begin with a bracket, each read once.
 
-ghost use Rattle.std.specs.Prelude.{◌≡◌, ◌≢◌, ◌+◌, ◌-◌, ◌*◌, ◌^◌, ◌<◌, ◌⊎◌, IfOk, IfErr, OnErr, Some, length, slice_get};
-ghost use Rattle.multi_layout.specs.Prelude.{RisesBetween, is_bracket, HasNoTagAt, code_of, IsFaultAt, IsItemAt, meant_by};
+ghost use Rattle.std.specs.Prelude.{◌≡◌, ◌≢◌, ℕ, ◌+◌, ◌-◌, ◌^◌, ◌<◌, ◌⊎◌, min, IfOk, IfErr, Some, length, slice_get};
+ghost use Rattle.multi_layout.specs.Prelude.{charged, is_bracket, HasNoTagAt, code_of, IsFaultRead, IsBracketedRead, meant_by};
 
 use multi_judge::{KnownItem, NextItem};
 use multi_meaning::SyntaxError;
@@ -30,10 +30,10 @@ pub(crate) fn read_spelled(
     requires stands { slice_get source.old.octets at ≡ Some bracket }
     // whoever read the bracket knows this of the source
     requires room { length source.old.octets < 2 ^ 63 }
-    ensures item { IfOk result (λ spelled. IsItemAt source.old.octets at spelled.len (meant_by spelled.item)) }
-    ensures fault { IfErr result (λ error. IsFaultAt source.old.octets at (code_of error)) }
-    ensures steps { IfOk result (λ spelled. RisesBetween source.old source.new (spelled.len - 1) (9 * spelled.len - 9)) }
-    ensures fault_steps { OnErr result (RisesBetween source.old source.new 0 (4 * (length source.old.octets - at))) }
+    ensures item { IfOk result (λ spelled. (steps : ℕ) × (source.new ≡ charged source.old steps)
+        × IsBracketedRead source.old.octets at spelled.len (meant_by spelled.item) steps) }
+    ensures fault { IfErr result (λ error. (steps : ℕ) × (source.new ≡ charged source.old steps)
+        × IsFaultRead source.old.octets at (code_of error) steps) }
 {
     if source.read(at + 1) == Some(bracket) {
         let item = KnownItem::Char(u16::from(bracket));
@@ -59,8 +59,8 @@ fn fault_of(source: &mut Source<'_>, at: usize) -> SyntaxError
     requires single { slice_get source.old.octets (at + 1) ≢ Some 91 }
     requires none { HasNoTagAt source.old.octets at }
     requires room { length source.old.octets < 2 ^ 63 }
-    ensures fault { IsFaultAt source.old.octets at (code_of result) }
-    ensures steps { RisesBetween source.old source.new 0 (2 * (length source.old.octets - at)) }
+    ensures fault { (steps : ℕ) × (source.new ≡ charged source.old steps)
+        × IsFaultRead source.old.octets at (code_of result) (1 + min 26 (length source.old.octets - (at + 1)) + steps) }
 {
     let Ok(Bracketed::Tag(len)) = read_bracket(source, at, b'[') else {
         return SyntaxError::UnsupportedTag;

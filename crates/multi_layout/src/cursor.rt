@@ -69,7 +69,8 @@ impl Cursor {
             self.state.put_break(gap);
             return;
         }
-        let Ok(()) = judge_tag(sign, &mut self.state, source, tag) else {
+        let mut cells = sign.cells.same();
+        let Ok(()) = judge_tag(sign, &mut self.state, &mut cells, source, tag) else {
             // No item of an accepted string offends.
             unreachable!();
         };

@@ -1,7 +1,7 @@
 //! The drawing of a page into one plane: each area is read for the table of its lines, and then to put its cells.
 
 ghost use Rattle.std.specs.Prelude.{◌≡◌, ℕ, ◌+◌, ◌-◌, ◌*◌, ◌≤◌};
-ghost use Rattle.multi_layout.specs.Prelude.{RisesBetween, Full, Lights, picture, IsSized, IsFilledFew, IsPagePassed, IsPageStart, IsReadTwice, IsAreaDrawn, IsPageDrawn, item_steps, IsFilledBy, DrawsNext, IsNextDrawn};
+ghost use Rattle.multi_layout.specs.Prelude.{RisesBetween, Full, Lights, picture, IsSized, IsFilledFew, IsPagePassed, IsPageStart, IsReadTwice, IsAreaDrawn, IsPageDrawn, next_steps, IsFilledBy, DrawsNext, IsNextDrawn};
 
 use crate::cursor::{Cursor, read_item};
 use crate::paint::{Layer, put_character};
@@ -58,7 +58,7 @@ fn draw_area(
     ensures drawn { (page : ℕ) → IsPageDrawn sign.now source.old.octets layer page cursor.old plane.old
         → IsAreaDrawn sign.now source.old.octets layer page read.new cursor.new plane.new }
     ensures at { (cursor.new.at ≡ read.new.end) × (cursor.old.at ≤ cursor.new.at) }
-    ensures steps { RisesBetween source.old source.new 0 (18 * (cursor.new.at - cursor.old.at) + 1 + item_steps read.new.next) }
+    ensures steps { RisesBetween source.old source.new 0 (18 * (cursor.new.at - cursor.old.at) + 1 + next_steps read.new.next) }
     ensures fills { IsFilledBy sign.now plane.old plane.new (cursor.new.at - cursor.old.at) }
 {
     let fill = sign.bare.line_fill();

@@ -1,7 +1,7 @@
 //! The first reading of an area, for the table of its lines.
 
 ghost use Rattle.std.specs.Prelude.{◌≡◌, ℕ, ◌+◌, ◌-◌, ◌*◌, ◌^◌, ◌≤◌, List, false};
-ghost use Rattle.multi_layout.specs.Prelude.{RisesBetween, charged, IsSound, BitPlane, begins_area, EndsGroup, IsNextRead, IsReadOf, KnowsArea, ReadsOn, IsOctet, meant_by, fill_of, IsBehindCharacter, IsPageDrawn, Layer, ReadsArea, item_steps};
+ghost use Rattle.multi_layout.specs.Prelude.{RisesBetween, charged, IsSound, BitPlane, begins_area, EndsGroup, IsNextRead, IsReadOf, KnowsArea, ReadsOn, IsOctet, meant_by, fill_of, IsBehindCharacter, IsPageDrawn, Layer, ReadsArea, next_steps};
 ghost use Rattle.multi_token.specs.Spelling as spelled;
 
 use crate::cursor::{Cursor, read_item};
@@ -43,7 +43,7 @@ pub(crate) fn read_lines<const WORDS: bool>(
     requires page { (layer : Layer) × (page : ℕ) × (plane : BitPlane) × IsPageDrawn sign.now source.old.octets layer page cursor.old plane }
     ensures read { ReadsArea sign.now source.old.octets cursor.old cursor.new read.new }
     ensures on { cursor.old.at ≤ cursor.new.at }
-    ensures steps { RisesBetween source.old source.new 0 (9 * (read.new.end - cursor.old.at) + 1 + item_steps read.new.next) }
+    ensures steps { RisesBetween source.old source.new 0 (9 * (read.new.end - cursor.old.at) + 1 + next_steps read.new.next) }
 {
     read.lines.clear();
     read.next = None;
@@ -71,8 +71,9 @@ pub(crate) fn read_lines<const WORDS: bool>(
             // The font in force is one of the sign's.
             unreachable!();
         };
-        let run = kept.state.go_along(&cells, source, at, false);
-        (at, first) = (at + run.len, run.next);
+        let run = kept.state.go_along(&cells, source, at);
+        at += run.len;
+        first = run.next.map(|entry| entry.octet);
     }
     read.end = at;
     end_group(&kept.state.area, &mut read.lines);
@@ -100,7 +101,8 @@ fn pass_item<const WORDS: bool>(
     if item.has_place() & (kept.state.area.present < kept.state.attributes.page_just.number()) {
         end_group(&kept.state.area, lines);
     }
-    let Ok(ended) = kept.judge_item::<WORDS>(sign, source, item) else {
+    let mut cells = sign.cells.same();
+    let Ok(ended) = kept.judge_item::<WORDS>(sign, &mut cells, source, item) else {
         // No item of an accepted string offends.
         unreachable!();
     };

@@ -1,7 +1,7 @@
 //! The verdict on a string, in one reading from the left with running sums.
 
-ghost use Rattle.std.specs.Prelude.{◌≡◌, ℕ, ◌+◌, ◌*◌, ◌^◌, ◌<◌, ◌≤◌, [], length, IfOk, IfErr, OnOk, OnErr, None};
-ghost use Rattle.multi_layout.specs.Prelude.{default_fault, under, SignData, code_of, Accepted, IsVerdict, Refused, check_limit, reading_limit, IsSized, ShowsAt, TakesFew, IsRefused, IsTold, IsAt, IsPassOf};
+ghost use Rattle.std.specs.Prelude.{◌≡◌, ℕ, ◌+◌, ◌^◌, ◌<◌, ◌≤◌, [], length, IfOk, IfErr, OnOk, OnErr, None};
+ghost use Rattle.multi_layout.specs.Prelude.{default_fault, under, FontData, SignData, judging_steps, code_of, Accepted, IsVerdict, Refused, check_limit, reading_limit, IsSized, ShowsAt, TakesFew, IsRefused, IsTold, IsAt, IsPassOf};
 
 use crate::bracket::{is_bracket, read_spelled};
 use crate::checked::{Checked, Told};
@@ -37,12 +37,11 @@ pub fn check<'a>(sign: &'a Sign, source: Source<'a>) -> Result<Checked<'a>, Faul
     requires short { length source.octets < 2 ^ 32 }
     ensures accepted { IfOk result (λ checked. (pages : ℕ) × IsVerdict sign.now source.entry.octets (Accepted pages)) }
     ensures refused { IfErr result (λ fault. IsVerdict sign.now source.entry.octets (Refused fault.code fault.at)) }
+    ensures before_end { IfErr result (λ fault. fault.at < length source.entry.octets) }
     ensures kept { IfOk result (λ checked. (checked.sign ≡ sign.now) × (checked.source.octets ≡ source.entry.octets)) }
     ensures given_back { IfErr result (λ fault. fault.source.octets ≡ source.entry.octets) }
-    ensures steps { IfOk result (λ checked. (length source.entry.octets + 1 ≤ checked.source.steps)
-        × (checked.source.steps ≤ check_limit (length source.entry.octets))) }
-    ensures fault_steps { IfErr result (λ fault. (fault.at + 1 ≤ fault.source.steps)
-        × (fault.source.steps ≤ check_limit (length source.entry.octets))) }
+    ensures steps { IfOk result (λ checked. checked.source.steps ≡ judging_steps sign.now source.entry.octets) }
+    ensures fault_steps { IfErr result (λ fault. fault.source.steps ≡ judging_steps sign.now source.entry.octets) }
 {
     check_with(sign, sign.defaults(), source)
 }
@@ -52,8 +51,9 @@ pub fn check<'a>(sign: &'a Sign, source: Source<'a>) -> Result<Checked<'a>, Faul
 ///
 /// An absent value means these defaults, here and in every call of the [`Checked`].
 ///
-/// The source must have no steps yet and at most 4,294,967,295 octets. Both answers give it back. For n octets its count is then at most
-/// 9n + 1. It is at least n + 1 if the string is accepted, and at least one more than the offset of the error if it is refused.
+/// The source must have no steps yet and at most 4,294,967,295 octets. Both answers give it back, with what judging takes as its count: for
+/// n octets at most 9n + 1, and at least n + 1 if the string is accepted, or one more than the offset of the error if it is refused
+/// ([`multi_meaning::judging_is_linear`]).
 #[inline(always)]
 pub fn check_with<'a>(
     sign: &'a Sign,
@@ -65,12 +65,11 @@ pub fn check_with<'a>(
     requires short { length source.octets < 2 ^ 32 }
     ensures accepted { IfOk result (λ checked. (pages : ℕ) × IsVerdict (under sign.now defaults) source.entry.octets (Accepted pages)) }
     ensures refused { IfErr result (λ fault. IsVerdict (under sign.now defaults) source.entry.octets (Refused fault.code fault.at)) }
+    ensures before_end { IfErr result (λ fault. fault.at < length source.entry.octets) }
     ensures kept { IfOk result (λ checked. (checked.sign ≡ under sign.now defaults) × (checked.source.octets ≡ source.entry.octets)) }
     ensures given_back { IfErr result (λ fault. fault.source.octets ≡ source.entry.octets) }
-    ensures steps { IfOk result (λ checked. (length source.entry.octets + 1 ≤ checked.source.steps)
-        × (checked.source.steps ≤ check_limit (length source.entry.octets))) }
-    ensures fault_steps { IfErr result (λ fault. (fault.at + 1 ≤ fault.source.steps)
-        × (fault.source.steps ≤ check_limit (length source.entry.octets))) }
+    ensures steps { IfOk result (λ checked. checked.source.steps ≡ judging_steps (under sign.now defaults) source.entry.octets) }
+    ensures fault_steps { IfErr result (λ fault. fault.source.steps ≡ judging_steps (under sign.now defaults) source.entry.octets) }
 {
     let terms = Terms::new(sign, defaults);
     let mut source = source;
@@ -123,10 +122,9 @@ impl<'a> Judge<'a> {
         requires short { length source.old.octets < 2 ^ 32 }
         ensures accepted { IfOk result (λ pages. IsVerdict self.now source.old.octets (Accepted pages)) }
         ensures refused { IfErr result (λ offence. IsVerdict self.now source.old.octets (Refused (code_of offence.error) offence.at)) }
+        ensures before_end { IfErr result (λ offence. offence.at < length source.old.octets) }
         ensures kept { source.new.octets ≡ source.old.octets }
-        ensures steps { IfOk result (λ pages. length source.old.octets + 1 ≤ source.new.steps) }
-        ensures fault_steps { IfErr result (λ offence. offence.at + 1 ≤ source.new.steps) }
-        ensures most { source.new.steps ≤ check_limit (length source.old.octets) }
+        ensures steps { source.new.steps ≡ judging_steps self.now source.old.octets }
     {
         Ok(judge_string(&self.terms, source)?.pages)
     }
@@ -150,9 +148,10 @@ impl<'a> Judge<'a> {
         ensures undrawn { OnErr result (plane.new ≡ plane.old) }
         ensures size { IsSized plane.new self.now }
         ensures kept { source.new.octets ≡ source.old.octets }
-        ensures steps { OnOk result (length source.old.octets + 1 ≤ source.new.steps) }
-        ensures fault_steps { IfErr result (λ offence. offence.at + 1 ≤ source.new.steps) }
-        ensures most { source.new.steps ≤ 2 * check_limit (length source.old.octets) + reading_limit (length source.old.octets) }
+        ensures least { judging_steps self.now source.old.octets ≤ source.new.steps }
+        ensures most { source.new.steps ≤ judging_steps self.now source.old.octets
+            + check_limit (length source.old.octets) + reading_limit (length source.old.octets) }
+        ensures fault_steps { OnErr result (source.new.steps ≡ judging_steps self.now source.old.octets) }
         ensures plane_steps { TakesFew self.now (length source.old.octets) plane.old plane.new }
     {
         let told = judge_string(&self.terms, source)?;
@@ -181,36 +180,35 @@ fn judge_string(sign: &Terms<'_>, source: &mut Source<'_>) -> Result<Told, Offen
 /// Judges the items of a string from the first on: an item that begins with a bracket, or a character and those behind it that only
 /// lengthen its line. The pass stays where its caller has it, since in registers there are too few places for it.
 #[inline(never)]
-fn judge_items<const WORDS: bool>(
-    sign: &Terms<'_>,
+fn judge_items<'a, const WORDS: bool>(
+    sign: &Terms<'a>,
     pass: &mut Pass,
     source: &mut Source<'_>,
 ) -> Result<(), Offence>
     requires start { IsPassOf WORDS sign.now pass.old [] }
+    requires font { pass.old.state.attributes.font.number ≡ sign.now.defaults.font }
     requires fresh { source.old.steps ≡ 0 }
     requires short { length source.old.octets < 2 ^ 32 }
-    ensures ended { OnOk result ((at : ℕ) × IsAt sign.now source.old.octets at None (IsPassOf WORDS sign.now pass.new) source.new) }
+    ensures ended { OnOk result ((at : ℕ) × (font : FontData)
+        × IsAt sign.now source.old.octets at font None (IsPassOf WORDS sign.now pass.new) source.new) }
     ensures refused { IfErr result (λ offence. IsRefused sign.now source.old.octets offence source.new) }
 {
+    let mut cells = sign.cells.same();
     let mut at = 0;
-    let mut next = source.read(at);
-    while let Some(first) = next {
-        if is_bracket(first) {
-            let spelled = match read_spelled(source, at, first) {
+    let mut next = source.look(at, cells.advances());
+    while let Some(entry) = next {
+        if is_bracket(entry.octet) {
+            let spelled = match read_spelled(source, at, entry.octet) {
                 Ok(spelled) => spelled,
                 Err(error) => return Err(Offence { error, at }),
             };
-            if let Err(error) = pass.judge_item::<WORDS>(sign, source, spelled.item) {
+            if let Err(error) = pass.judge_item::<WORDS>(sign, &mut cells, source, spelled.item) {
                 return Err(Offence { error, at });
             }
             at += spelled.len;
-            next = source.read(at);
+            next = source.look(at, cells.advances());
         } else {
-            let Some(cells) = sign.bare.cells(source, pass.state.attributes.font.number) else {
-                // The font in force is one of the sign's.
-                unreachable!();
-            };
-            if let Err(error) = pass.judge_octet::<WORDS>(&cells, source, first) {
+            if let Err(error) = pass.judge_octet::<WORDS>(&cells, entry) {
                 return Err(Offence { error, at });
             }
             (at, next) = judge_run::<WORDS>(sign, &cells, pass, source, at + 1);

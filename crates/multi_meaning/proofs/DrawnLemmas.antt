@@ -22,10 +22,10 @@ unfolding is_first_put is_put
 put_rows_of cell rows column row wide high shown count x y narrow all each shown_is count_is inside above =
     grind (arith, length-take-le, nat_tests, get_or-take)
 
-module _ (width_of : ℕ → Option ℕ) (word : Bool) (sound : (octet : ℕ) → IfSome (width_of octet) (IsWithin 1 64)) (table : List ℕ) (tables : AreAdvances width_of word table)
-    (gap room : ℕ) (octets : List ℕ) (len : ℕ) (run : IsRun table gap 0 room octets len) (short : room < 32768) (each : (k : ℕ) → slice_index octets k < 2 ^ 8) where
+module _ (width_of : ℕ → Option ℕ) (sound : (octet : ℕ) → IfSome (width_of octet) (IsWithin 1 64)) (table : List ℕ) (tables : AreAdvances width_of table)
+    (gap room : ℕ) (octets : List ℕ) (len : ℕ) (run : IsRun table gap room octets len) (short : room < 32768) (each : (k : ℕ) → slice_index octets k < 2 ^ 8) where
   pub front_width : HasWidth width_of gap (take len octets) (taken table gap (take len octets))
-  front_width = run_width width_of word sound table tables gap (take len octets) (All-take IsOctet len octets (λ k d h.
+  front_width = run_width width_of sound table tables gap (take len octets) (All-take IsOctet len octets (λ k d h.
       grind (arith, get_or_default, each k))) (omega (arith, run.fits, short))
 
 -- what a thing gives a pixel of a page

@@ -8,6 +8,8 @@ pub mod LaidItemLemmas
 pub mod LayoutExamples
 pub mod RoomLemmas
 pub mod StandingLemmas
+mod StepsExamples
+pub mod StepsLemmas
 pub mod StringExamples
 pub mod TimesLemmas
 pub mod VerdictLemmas

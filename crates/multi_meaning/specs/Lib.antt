@@ -10,6 +10,7 @@ pub mod Meaning
 pub mod Offence
 pub mod Picture
 pub mod Place
+pub mod Steps
 pub mod Times
 pub mod Verdict
 pub mod Words

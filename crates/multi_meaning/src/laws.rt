@@ -2,6 +2,7 @@
 
 ghost use Rattle.multi_meaning.specs.FillLaw.{KeepsBreaks};
 ghost use Rattle.multi_meaning.specs.Fit.{SmallerFits};
+ghost use Rattle.multi_meaning.specs.Steps.{JudgingIsLinear};
 ghost use Rattle.multi_meaning.specs.Verdict.{BrokenBracketStands, OneVerdict, RefusalStands};
 
 /// A law of the definitions: every string has exactly one verdict.
@@ -35,4 +36,11 @@ pub fn smaller_fits()
 #[tactic(auto, using(crate::proofs::FillLawLemmas::keeps_breaks))]
 pub fn keeps_breaks()
     ensures { KeepsBreaks }
+{}
+
+/// A law of the definitions: judging a string of n octets takes at most 9n + 1 steps. It takes at least n + 1 if the string is accepted,
+/// and at least one more than the offset of the error if it is refused.
+#[tactic(auto, using(crate::proofs::StepsLemmas::judging_is_linear))]
+pub fn judging_is_linear()
+    ensures { JudgingIsLinear }
 {}

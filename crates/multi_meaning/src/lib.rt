@@ -13,6 +13,9 @@ mod times;
 
 pub use attributes::{FlashTimes, Rectangle};
 pub use fault::SyntaxError;
-pub use laws::{broken_bracket_stands, keeps_breaks, one_verdict, refusal_stands, smaller_fits};
+pub use laws::{
+    broken_bracket_stands, judging_is_linear, keeps_breaks, one_verdict, refusal_stands,
+    smaller_fits,
+};
 pub use place::Place;
 pub use times::Shown;

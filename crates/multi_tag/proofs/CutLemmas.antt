@@ -1,18 +1,19 @@
 -- Digits at the front of octets: as they are read, and that no other digits stand there.
-use Rattle.std.proofs.Common.{◌≡◌, ℕ, ◌+◌, ◌-◌, ◌*◌, ◌^◌, ◌<◌, ◌≤◌, List, [], ◌∷◌, ◌++◌, Option, Some, length, take, drop, get_or, refl, sym, ap, ◌∙◌, arith, append_assoc}
+use Rattle.std.proofs.Common.{◌≡◌, ℕ, ◌+◌, ◌-◌, ◌*◌, ◌^◌, ◌<◌, ◌≤◌, ◌==◌, false, List, [], ◌∷◌, ◌++◌, Option, Some, length, take, drop, get_or, refl, sym, ap, ◌∙◌, arith, append_assoc}
 use Rattle.std.specs.Prelude.{unwrap_or, nat_lt}
 use Rattle.std.specs.List.{All}
 use Rattle.std.specs.Char.{digit_value, to_ascii_lowercase}
 use Rattle.std.specs.Str.{str_to_ascii_lowercase}
 use Rattle.std.proofs.lemmas.List.{length-append, take_rest}
 use Rattle.std.proofs.lemmas.Option.{cond_some}
-use Rattle.std.proofs.lemmas.Bool.{ltb-true}
+use Rattle.std.proofs.lemmas.Bool.{ltb-true, eq-eqb, false≢true}
 use Rattle.std.proofs.lemmas.Bool.Decides.{nat_tests}
 use Rattle.std.proofs.lemmas.Nat.{mul-le}
 use Rattle.std.proofs.lemmas.List.Elements.{All-head, All-tail, All-push}
 use Rattle.multi_tag.specs.Number.{IsDigit}
 use Rattle.multi_tag.specs.Part.{IsCut, BeginsWithDigit, written, digit_of}
-use Rattle.multi_tag.proofs.NumberLemmas.{written-push, written-lt, pow_at_most}
+use Rattle.std.proofs.Math.Nat.{pow-le-pow_left, pow-le-pow_right}
+use Rattle.multi_tag.proofs.NumberLemmas.{written-push, written-lt}
 
 -- the octets begin with so many digits that write this, and the rest follows
 pub record HasDigits (base count : ℕ) (octets : List ℕ) (value : Option ℕ) (rest : List ℕ) : Type 0 where
@@ -44,8 +45,9 @@ one_digit_more base count digit octet octets value behind has e =
 pub digits_small : (base count : ℕ) (octets : List ℕ) (value : Option ℕ) (rest : List ℕ) → HasDigits base count octets value rest → base ≤ 16 → count ≤ 7 → unwrap_or value 0 * base ≤ 4294967280
 digits_small base count octets value rest has small few =
     let below : unwrap_or value 0 < base ^ count = rw (has.value_is, ← has.size) (written-lt base has.digits has.each) in
-    let most = pow_at_most base count 7 small few in
-    let times = mul-le (unwrap_or value 0) base 268435455 16 (omega (arith, below, most)) small in
+    let up = pow-le-pow_left small count in
+    let most : 16 ^ count ≤ 16 ^ 7 = pow-le-pow_right (omega arith) few in
+    let times = mul-le (unwrap_or value 0) base 268435455 16 (omega (arith, below, up, most)) small in
     omega (arith, times)
 
 -- a digit is below the base
@@ -58,8 +60,7 @@ one_front base [] [] x y p q s t e = (refl, e)
 one_front base [] (d ∷ b) [] y p q s t e = cc
 one_front base [] (d ∷ b) (c ∷ x) y p q s t e =
     let h : c ≡ d = cc in
-    let longer = s (rw h (All-head (IsDigit base) d b q)) in
-    absurd (omega arith)
+    absurd (omega (arith, s (rw h (All-head (IsDigit base) d b q))))
 one_front base (c ∷ a) [] x [] p q s t e = cc
 one_front base (c ∷ a) [] x (d ∷ y) p q s t e =
     let h : d ≡ c = cc in
@@ -72,55 +73,31 @@ one_front base (c ∷ a) (d ∷ b) x y p q s t e =
     let r1 = r.1 in
     (cc, r1)
 
--- octets are digits, so many at most, that write this
-pub record IsWritten (base most : ℕ) (octets : List ℕ) (value : Option ℕ) : Type 0 where
-  pub each : All (IsDigit base) octets
-  pub count : length octets ≤ most
-  pub value_is : value ≡ written base octets
-
--- the digits that were cut off
-pub cut_digits : (base most : ℕ) (octets : List ℕ) (value : Option ℕ) (rest : List ℕ) → (cut : IsCut base most octets value rest) → IsWritten base most cut.digits value
-cut_digits base most octets value rest cut = record {
-  each = cut.each;
-  count = cut.count;
-  value_is = cut.value_is;
-}
-
-longer : (base most k : ℕ) (rest digits : List ℕ) → (BeginsWithDigit base rest → length digits ≡ most) → k ≤ most → BeginsWithDigit base rest → k ≤ length digits
-longer base most k rest digits stops few begins = let full = stops begins in omega arith
-
 -- where digits, no more than are read, stand before an octet that is none, those were cut off
-pub cut_before : (base most octet : ℕ) (octets : List ℕ) (read : Option ℕ) (rest front behind : List ℕ) (value : Option ℕ) → IsCut base most octets read rest → octets ≡ front ++ octet ∷ behind → IsWritten base most front value → ¬ (IsDigit base octet) → (read ≡ value) × (rest ≡ octet ∷ behind)
-cut_before base most octet octets read rest front behind value cut e w none =
-    let same = one_front base cut.digits front rest (octet ∷ behind) cut.each w.each (longer base most (length front) rest cut.digits cut.stops w.count) none (sym cut.whole ∙ e) in
-    (cut.value_is ∙ (ap (written base) same.0 ∙ sym w.value_is), same.1)
+pub cut_before : (base most octet : ℕ) (octets : List ℕ) (read : Option ℕ) (rest front behind : List ℕ) → IsCut base most octets read rest → octets ≡ front ++ octet ∷ behind → All (IsDigit base) front → length front ≤ most → ¬ (IsDigit base octet) → (read ≡ written base front) × (rest ≡ octet ∷ behind)
+cut_before base most octet octets read rest front behind cut e each few none =
+    let same = one_front base cut.digits front rest (octet ∷ behind) cut.each each (λ begins. let full = cut.stops begins in omega arith) none (sym cut.whole ∙ e) in
+    (cut.value_is ∙ ap (written base) same.0, same.1)
 
--- no octets are none that begin with one
+-- octets begin with one octet at most, and one rest follows
+pub one_first : {octets x y : List ℕ} {a b : ℕ} → octets ≡ a ∷ x → octets ≡ b ∷ y → (a ≡ b) × (x ≡ y)
+one_first e f = (cc, cc)
+
+pub other_first : {octets x y : List ℕ} {a b : ℕ} → (a == b) ≡ false → octets ≡ a ∷ x → octets ≡ b ∷ y → ⊥
+other_first {a = a} {b = b} apart e f = false≢true (sym apart ∙ eq-eqb a b (one_first e f).0)
+
 pub empty_or_not : {octet : ℕ} {octets behind : List ℕ} → octets ≡ [] → octets ≡ octet ∷ behind → ⊥
 empty_or_not e f = cc
 
-pub first_of : {a b : ℕ} {x y : List ℕ} → a ∷ x ≡ b ∷ y → a ≡ b
-first_of e = cc
-
 -- small letters for capital ones: of the first octet, and of the rest
-pub small_front : (octets : List ℕ) → 1 ≤ length octets → str_to_ascii_lowercase octets ≡ to_ascii_lowercase (get_or octets 0 0) ∷ str_to_ascii_lowercase (take (length octets - 1) (drop 1 octets))
-small_front [] some = absurd (omega arith)
-small_front (octet ∷ octets) some = rw (take_rest (octet ∷ octets) 1) refl
+pub small_front : (octets : List ℕ) (letter : ℕ) → 1 ≤ length octets → to_ascii_lowercase (get_or octets 0 0) ≡ letter → str_to_ascii_lowercase octets ≡ letter ∷ str_to_ascii_lowercase (take (length octets - 1) (drop 1 octets))
+small_front [] letter some is = absurd (omega arith)
+small_front (octet ∷ octets) letter some is = rw (take_rest (octet ∷ octets) 1, is) refl
 
 pub small_empty : (octets : List ℕ) → length octets < 1 → str_to_ascii_lowercase octets ≡ []
 small_empty [] none = refl
 small_empty (octet ∷ octets) none = absurd (omega arith)
 
--- a comma is no letter
-pub small_comma : (octets : List ℕ) → 1 ≤ length octets → get_or octets 0 0 ≡ 44 → str_to_ascii_lowercase octets ≡ 44 ∷ str_to_ascii_lowercase (take (length octets - 1) (drop 1 octets))
-small_comma octets some is = small_front octets some ∙ ap (λ octet. to_ascii_lowercase octet ∷ str_to_ascii_lowercase (take (length octets - 1) (drop 1 octets))) is
-
-pub comma_alone : (octet : ℕ) → to_ascii_lowercase octet ≡ 44 → octet ≡ 44
-comma_alone octet is = grind (arith, nat_tests)
-
--- a bracket is no letter
-pub small_bracket : (octets : List ℕ) → 1 ≤ length octets → get_or octets 0 0 ≡ 93 → str_to_ascii_lowercase octets ≡ 93 ∷ str_to_ascii_lowercase (take (length octets - 1) (drop 1 octets))
-small_bracket octets some is = small_front octets some ∙ ap (λ octet. to_ascii_lowercase octet ∷ str_to_ascii_lowercase (take (length octets - 1) (drop 1 octets))) is
-
-pub bracket_alone : (octet : ℕ) → to_ascii_lowercase octet ≡ 93 → octet ≡ 93
-bracket_alone octet is = grind (arith, nat_tests)
+-- what is no letter, as a comma and a bracket, has no capital one
+pub mark_alone : (mark octet : ℕ) → mark < 97 → to_ascii_lowercase octet ≡ mark → octet ≡ mark
+mark_alone mark octet small is = grind (arith, nat_tests)

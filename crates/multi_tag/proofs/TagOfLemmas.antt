@@ -1,5 +1,5 @@
 -- The table as a function gives what the table spells.
-use Rattle.std.proofs.Common.{◌≡◌, ℕ, List, Option, Some, None, Result, Ok, Err, length, drop, refl, sym, ap, ◌∙◌}
+use Rattle.std.proofs.Common.{◌≡◌, ℕ, ◌++◌, List, Option, Some, None, Result, Ok, Err, length, drop, refl, sym, ap, ◌∙◌}
 use Rattle.std.specs.Prelude.{◌↔◌, IfOk, ok_or}
 use Rattle.std.specs.Str.{str_to_ascii_lowercase}
 use Rattle.std.proofs.lemmas.Option.{none-some}
@@ -7,49 +7,47 @@ use Rattle.multi_tag.specs.declared.name.Name.{Name}
 use Rattle.multi_tag.specs.declared.tag.Tag.{Tag}
 use Rattle.multi_tag.specs.declared.tag.TagFault.{TagFault}
 use Rattle.multi_tag.specs.declared.tag.TagFault.TheVariants.{Unsupported, Value}
-use Rattle.multi_tag.specs.Body.{table, Spells, SpellsSmall, HasName, HasNameAtFront, SpellsNoTag}
+use Rattle.multi_tag.specs.Body.{table, Spells, SpellsSmall, HasName, HasNameAtFront, SpellsNoTag, OneTagAtMost}
 use Rattle.multi_tag.specs.TagOf.{read_rest, listed, name_at_front, tag_behind, tag_of, TagOfIsTheTable}
-use Rattle.multi_tag.proofs.TagRowLemmas.{rest_read, named, behind, begun, found}
+use Rattle.std.proofs.Math.Seq.{drop-append_seam}
+use Rattle.multi_tag.proofs.TagRowLemmas.{rest_read, begun, found}
+use Rattle.multi_tag.proofs.NameLemmas.{named}
 
 -- a tag is given where a name and a rest spell it
 module _ (octets : List ℕ) where
   tag_small : (tag : Tag) → SpellsSmall octets tag → tag_behind (name_at_front octets) octets ≡ Ok tag
   unfolding SpellsSmall
   tag_small tag (name, rest, is, f) =
-      rw (is, named name rest, behind name rest, (rest_read name).whole rest tag f) refl
+      rw (is, named name rest, drop-append_seam (table name).name rest, (rest_read name).whole rest tag f) refl
 
-  small_tag : (tag : Tag) (r : Option Name) → name_at_front octets ≡ r → tag_behind r octets ≡ Ok tag → SpellsSmall octets tag
-  unfolding SpellsSmall
-  small_tag tag None e m = absurd cc
-  small_tag tag (Some name) e m =
-      (name, drop (length (table name).name) octets, begun octets (table name).name (found octets listed name e), (rest_read name).sound (drop (length (table name).name) octets) tag (some (read_rest name (drop (length (table name).name) octets)) m))
+  -- and only there; octets are unsupported just where no listed name begins them
+  small_told : (r : Option Name) → name_at_front octets ≡ r → ((tag : Tag) → tag_behind r octets ≡ Ok tag → SpellsSmall octets tag) × ((tag_behind r octets ≡ Err Unsupported) ↔ (¬ (HasNameAtFront octets)))
+  unfolding SpellsSmall HasNameAtFront
+  small_told None e = (λ tag m. absurd cc, (λ m (name, rest, is). none-some name (sym e ∙ (ap name_at_front is ∙ named name rest)), λ none. refl))
+  small_told (Some name) e = by_cases (read_rest name rest) refl
     where
-      some : (r : Option Tag) → ok_or r Value ≡ Ok tag → r ≡ Some tag
-      some None k = absurd cc
-      some (Some other) k = cc
+      rest : List ℕ
+      rest = drop (length (table name).name) octets
 
-  no_name_small : (r : Option Name) → name_at_front octets ≡ r → tag_behind r octets ≡ Err Unsupported → ¬ (HasNameAtFront octets)
-  unfolding HasNameAtFront
-  no_name_small None e m (name, rest, is) = none-some name (sym e ∙ (ap name_at_front is ∙ named name rest))
-  no_name_small (Some name) e m has = absurd (other (read_rest name (drop (length (table name).name) octets)) m)
-    where
-      other : (r : Option Tag) → ok_or r Value ≡ Err Unsupported → ⊥
-      other None k = cc
-      other (Some tag) k = cc
+      is : octets ≡ (table name).name ++ rest
+      is = begun octets (table name).name (found octets listed name e)
 
-  small_no_name : (r : Option Name) → name_at_front octets ≡ r → ¬ (HasNameAtFront octets) → tag_behind r octets ≡ Err Unsupported
-  unfolding HasNameAtFront
-  small_no_name None e none = refl
-  small_no_name (Some name) e none = absurd (none (name, drop (length (table name).name) octets, begun octets (table name).name (found octets listed name e)))
+      by_cases : (s : Option Tag) → read_rest name rest ≡ s → ((tag : Tag) → ok_or s Value ≡ Ok tag → SpellsSmall octets tag) × ((ok_or s Value ≡ Err Unsupported) ↔ (¬ (HasNameAtFront octets)))
+      by_cases None k = (λ tag m. absurd cc, (λ m. absurd cc, λ none. absurd (none (name, rest, is))))
+      by_cases (Some other) k = (λ tag m. (name, rest, is, (rest_read name).sound rest tag cc), (λ m. absurd cc, λ none. absurd (none (name, rest, is))))
+
+-- a body spells one tag
+pub one_tag : OneTagAtMost
+unfolding Spells
+one_tag body a b f g = let same = sym (tag_small (str_to_ascii_lowercase body) a f) ∙ tag_small (str_to_ascii_lowercase body) b g in cc
 
 -- the law
 pub tag_of_is_the_table : TagOfIsTheTable
 unfolding Spells HasName tag_of
 tag_of_is_the_table body =
-    let octets = str_to_ascii_lowercase body in (
-      (λ tag. (tag_small octets tag, small_tag octets tag (name_at_front octets) refl)),
-      (no_name_small octets (name_at_front octets) refl, small_no_name octets (name_at_front octets) refl),
-    )
+    let octets = str_to_ascii_lowercase body in
+    let (small, unsupported) = small_told octets (name_at_front octets) refl in
+    (λ tag. (tag_small octets tag, small tag), unsupported)
 
 -- what follows for a body that spells a tag, for one of no listed name, and for the others
 pub tag_of-spelled : (body : List ℕ) (tag : Tag) → Spells body tag → tag_of body ≡ Ok tag

@@ -1,6 +1,6 @@
 //! The value of a tag of a counted source.
 
-ghost use Rattle.std.specs.Prelude.{◌≡◌, ◌↔◌, ◌-◌, IfOk, OnOk, OnErr, Err};
+ghost use Rattle.std.specs.Prelude.{◌≡◌, ◌↔◌, ◌-◌, min, IfOk, OnOk, OnErr, Err};
 ghost use Rattle.multi_token.specs.Counted.{charged, RisesBetween};
 ghost use Rattle.multi_token.specs.Tokens.{IsTagOf, body_of};
 ghost use Rattle.multi_tag.specs.Body.{Spells, SpellsNoTag, IsReadOf, HasName};
@@ -48,7 +48,7 @@ pub fn read_fault(source: &mut Source<'_>, token: &Token) -> TagFault
     requires { IsTagOf source.old.octets token.now }
     ensures unsupported { (result ≡ TagFault.Unsupported) ↔ (¬ (HasName (body_of source.old.octets token.now))) }
     ensures value { (result ≡ TagFault.Value) ↔ HasName (body_of source.old.octets token.now) }
-    ensures steps { RisesBetween source.old source.new 1 3 }
+    ensures steps { source.new ≡ charged source.old (min 3 (token.now.len - 2)) }
 {
     // a name stands in the first three octets of the body
     fault(source.ahead(token.at + 1, (token.len - 2).min(3)))

@@ -1,17 +1,19 @@
 -- What the octets that were read make of the place where reading began.
-use Rattle.std.proofs.Common.{◌≡◌, ◌≢◌, ℕ, zero, suc, ◌<◌, ◌≤◌, ◌+◌, ◌-◌, ◌^◌, List, [], ◌∷◌, ◌++◌, length, get_or, drop, refl, sym, ap, ◌∙◌, arith, append_assoc, inl, inr, ◌⊎◌, Option, Some, None, length-take, length-drop}
+use Rattle.std.proofs.Common.{◌≡◌, ◌≢◌, ℕ, zero, suc, Bool, true, false, cond, ◌||◌, ◌==◌, ◌<◌, ◌≤◌, ◌+◌, ◌-◌, ◌^◌, List, [], ◌∷◌, ◌++◌, length, get_or, drop, refl, sym, ap, ◌∙◌, arith, append_assoc, inl, inr, ◌⊎◌, Option, Some, None, length-take, length-drop}
 use Rattle.std.specs.Prelude.{slice_get, slice_range, IfSome}
-use Rattle.std.specs.List.{All}
+use Rattle.std.specs.List.{All, prefix_len, take_while}
+use Rattle.std.proofs.lemmas.List.Sums.{take_while-cons}
+use Rattle.multi_token.specs.Reading.{is_plain}
 use Rattle.std.proofs.lemmas.List.{drop_more, take_more, get_or-drop, take-append-drop, drop-drop, length-append}
 use Rattle.std.proofs.lemmas.Option.{slice_get_within, get_or_from_slice_get, same_Some}
-use Rattle.std.proofs.lemmas.Bool.{eq-eqb, ne_eqb}
-use Rattle.std.proofs.lemmas.List.Elements.{All-nil, All-push}
+use Rattle.std.proofs.lemmas.Bool.{cases_eq, eq-eqb, ne_eqb}
+use Rattle.std.proofs.lemmas.List.Elements.{All-nil, All-push, All-head, All-tail}
 use Rattle.multi_token.specs.declared.token.Token.{Token}
 use Rattle.multi_token.specs.declared.token.Kind.TheVariants as kinds
-use Rattle.multi_token.specs.Spelling.{Char, Tag, IsPlain, spelling, HasNoItem}
+use Rattle.multi_token.specs.Spelling.{Char, Tag, IsPlain, IsEndedBy, spelling, HasNoItem}
 use Rattle.multi_token.specs.declared.token.Bracketed.{Bracketed}
 use Rattle.multi_token.specs.declared.token.Bracketed.TheVariants as bracketed
-use Rattle.multi_token.specs.Tokens.{IsBracketed, IsTokenOf, IsTagOf, item_of, item_spelled, body_of, octets_of}
+use Rattle.multi_token.specs.Tokens.{bracket_steps, IsBracketed, IsTokenOf, IsTagOf, item_of, item_spelled, body_of, octets_of}
 use Rattle.multi_token.proofs.SpellingLemmas.{IsStopped, one_plain_front, doubled, single, spelled_char}
 
 -- the list from a place on, where x stands at it
@@ -189,3 +191,36 @@ bracketed_token xs at bracket bracketed.Doubled token = (record { at = at; len =
 bracketed_token xs at bracket (bracketed.Tag len) token =
     let last : at + (len + 2) - 1 ≡ at + 1 + len = omega arith in
     (record { at = at; len = len + 2; kind = kinds.Tag }, refl, refl, token, ap Tag (ap (slice_range xs (at + 1)) last))
+
+-- the longest front of octets that are no brackets, by what stops it
+plain_octet : (octet : ℕ) → IsPlain octet → is_plain octet ≡ true
+plain_octet octet (open', close) = ap (λ b. cond (b || (octet == 93)) false true) (ne_eqb octet 91 open') ∙ ap (λ b. cond b false true) (ne_eqb octet 93 close)
+
+stops : (octet : ℕ) → (IsPlain octet → ⊥) → is_plain octet ≡ false
+stops octet bracket = elim (cases_eq octet 91) [
+  | inl e ↦ rw e refl
+  | inr open' ↦ elim (cases_eq octet 93) [
+    | inl e ↦ rw e refl
+    | inr close ↦ absurd (bracket (open', close))
+  ]
+]
+
+front_is : (front rest : List ℕ) → All IsPlain front → IsStopped rest → take_while is_plain (front ++ rest) ≡ front
+front_is [] [] each stop = refl
+front_is [] (octet ∷ rest) each stop = take_while-cons is_plain octet rest ∙ ap (λ b. cond b (octet ∷ take_while is_plain rest) []) (stops octet stop)
+front_is (octet ∷ front) rest each stop =
+    take_while-cons is_plain octet (front ++ rest)
+    ∙ ap (λ b. cond b (octet ∷ take_while is_plain (front ++ rest)) []) (plain_octet octet (All-head IsPlain octet front each))
+    ∙ ap (λ l. octet ∷ l) (front_is front rest (All-tail IsPlain octet front each) stop)
+
+pub plain_is : (xs : List ℕ) (from end : ℕ) (ending : Option ℕ) → from ≤ end → All IsPlain (slice_range xs from end) → IsEndedBy xs end ending → take_while is_plain (drop from xs) ≡ slice_range xs from end
+plain_is xs from end None h plain (is, kind) = ap (take_while is_plain) (cut xs from end h) ∙ front_is (slice_range xs from end) (drop end xs) plain (stopped xs end (at_end (sym is)))
+plain_is xs from end (Some octet) h plain (is, inl e) = ap (take_while is_plain) (cut xs from end h) ∙ front_is (slice_range xs from end) (drop end xs) plain (stopped xs end (at_open (sym is ∙ ap Some e)))
+plain_is xs from end (Some octet) h plain (is, inr e) = ap (take_while is_plain) (cut xs from end h) ∙ front_is (slice_range xs from end) (drop end xs) plain (stopped xs end (at_close (sym is ∙ ap Some e)))
+
+pub bracket_few : (bracket : ℕ) (behind : List ℕ) → bracket_steps bracket behind ≤ length behind + 1
+bracket_few bracket behind = by (bracket == 91)
+  where
+    by : (b : Bool) → cond b (length (take_while is_plain behind) + 1) 1 ≤ length behind + 1
+    by true = omega (arith, length-take (prefix_len is_plain behind) behind)
+    by false = omega arith

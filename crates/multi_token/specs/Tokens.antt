@@ -1,5 +1,7 @@
 -- Tokens as the items that they stand for.
-use Rattle.std.specs.Prelude.{◌^◌, ◌<◌, ◌≡◌, ℕ, ◌+◌, ◌-◌, ◌≤◌, List, length, drop, slice_range}
+use Rattle.std.specs.Prelude.{◌^◌, ◌<◌, ◌≡◌, ℕ, ◌+◌, ◌-◌, ◌≤◌, ◌==◌, if◌then◌else◌, List, length, drop, slice_range}
+use Rattle.std.specs.List.{take_while}
+use Rattle.multi_token.specs.Reading.{is_plain}
 use Rattle.multi_token.specs.declared.token.Token.{Token}
 use Rattle.multi_token.specs.declared.token.Bracketed.{Bracketed}
 use Rattle.multi_token.specs.declared.token.Bracketed.TheVariants as bracketed
@@ -37,6 +39,11 @@ pub record IsTagOf (octets : List ℕ) (token : Token) : Type 0 where
 abbrev pub octets_of : Bracketed → ℕ
 octets_of bracketed.Doubled = 2
 octets_of (bracketed.Tag len) = len + 2
+
+-- the steps of reading on behind a bracket with which nothing begins: behind `[` up to the next bracket or the end, behind `]` one
+-- (own)
+abbrev pub bracket_steps : ℕ → List ℕ → ℕ
+bracket_steps bracket behind = if bracket == 91 then length (take_while is_plain behind) + 1 else 1
 
 -- what begins with a bracket at an offset of these octets (own)
 abbrev pub IsBracketed : List ℕ → ℕ → ℕ → Bracketed → Type 0

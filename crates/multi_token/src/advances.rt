@@ -4,7 +4,7 @@ ghost use Rattle.std.specs.Prelude.{◌≡◌};
 
 use std::marker::Model;
 
-/// By octet, what it takes of a room. Only [`crate::Source::read_run`] looks at it, and counts each look.
+/// By octet, what it takes of a room. Only a [`crate::Source`] looks at it, and counts each look.
 #[derive(Drop)]
 pub struct Advances {
     pub(crate) of: [u16; 256],

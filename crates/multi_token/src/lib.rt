@@ -18,5 +18,5 @@ pub use advances::Advances;
 pub use laws::{
     each_string_has_a_reading, no_spelling_begins_another, one_reading, what_can_be_mended,
 };
-pub use source::{Run, Source};
+pub use source::{Entry, Run, Source, Space};
 pub use token::{Bracketed, Kind, Token, TokenFault, next_token, read_bracket};

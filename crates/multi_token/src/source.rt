@@ -1,9 +1,9 @@
 //! Octets that are reached by counted reads alone.
 
-ghost use Rattle.std.specs.Prelude.{◌≡◌, ℕ, ◌+◌, ◌-◌, ◌*◌, ◌^◌, ◌<◌, ◌≤◌, ◌⊎◌, length, min, slice_get, slice_index, slice_range, take, drop, None};
+ghost use Rattle.std.specs.Prelude.{◌≡◌, ℕ, ◌+◌, ◌-◌, ◌*◌, ◌^◌, ◌<◌, ◌≤◌, ◌⊎◌, IfNone, IfSome, length, min, slice_get, slice_index, slice_range, take, drop, None, option_map};
 ghost use Rattle.std.specs.List.{All};
 ghost use Rattle.multi_token.specs.Counted.{charged};
-ghost use Rattle.multi_token.specs.Run.{IsRun, taken};
+ghost use Rattle.multi_token.specs.Run.{IsLastSpace, IsRun, entry_of, look_steps, taken};
 ghost use Rattle.multi_token.specs.Spelling.{IsEndedBy, IsPlain, is_bracket};
 
 use crate::advances::Advances;
@@ -20,6 +20,14 @@ pub struct Source<'a> {
     left: u64,
 }
 
+/// An octet, with what a table has for it.
+#[derive(Clone, Copy, Debug, PartialEq, Eq)]
+pub struct Entry {
+    pub octet: u8,
+    /// What it takes of a room.
+    pub advance: u16,
+}
+
 /// The longest front of octets that goes into a room.
 #[derive(Clone, Copy, Debug, PartialEq, Eq)]
 pub struct Run {
@@ -28,7 +36,17 @@ pub struct Run {
     /// What is taken with it.
     pub width: u32,
     /// The octet that ends it, or `None` at the end.
-    pub next: Option<u8>,
+    pub next: Option<Entry>,
+}
+
+/// The last space of a run.
+#[derive(Clone, Copy, Debug, PartialEq, Eq)]
+pub struct Space {
+    /// The number of the run's octets before it.
+    pub at: usize,
+    /// What these take, and what they take with the space.
+    pub before: u32,
+    pub through: u32,
 }
 
 impl<'a> Model for Source<'a> {
@@ -94,37 +112,77 @@ impl<'a> Source<'a> {
         (&behind[..len], behind.get(len).copied())
     }
 
-    /// The longest front of the octets from an offset on that goes into a room, where this width is taken already: an octet takes
-    /// a gap and its number in the table. Each octet of the front takes two steps, a read and a look at the table, and so does the
-    /// octet that ends it; the end takes one. No octet is given but the one that ends the front.
-    pub fn read_run(
-        &mut self,
-        from: usize,
-        table: &Advances,
-        gap: u32,
-        width: u32,
-        room: u32,
-    ) -> Run
+    /// The octet at an offset, with what a table has for it, or `None` at the end. An octet takes two steps, a read and a look at
+    /// the table; the end takes one.
+    pub fn look(&mut self, at: usize, table: &Advances) -> Option<Entry>
+        requires within { at ≤ length self.old.octets }
+        ensures entry { result ≡ option_map (entry_of table.now) (slice_get self.old.octets at) }
+        ensures steps { self.new ≡ charged self.old (look_steps (length self.old.octets) at) }
+        // what is in a slice of octets
+        ensures octets { (at : ℕ) → slice_index self.old.octets at < 2 ^ 8 }
+        // a slice is no longer than this
+        ensures space { length self.old.octets < 2 ^ 63 }
+    {
+        self.charge(1 + u64::from(at < self.octets.len()));
+        entry_at(self.octets, at, table)
+    }
+
+    /// The longest front of the octets from an offset on that goes into a room: an octet takes a gap and its number in the table.
+    /// Each octet of the front takes two steps, a read and a look at the table, and so does the octet that ends it; the end takes
+    /// one. No octet is given but the one that ends the front.
+    #[inline(always)]
+    pub fn read_run(&mut self, from: usize, table: &Advances, gap: u32, room: u32) -> Run
         requires start { from ≤ length self.old.octets }
-        requires fits { width ≤ room }
         requires small { gap + room < 2 ^ 31 }
-        ensures run { IsRun table.now gap width room (drop from self.old.octets) result.len }
-        ensures width { result.width ≡ width + taken table.now gap (take result.len (drop from self.old.octets)) }
-        ensures next { result.next ≡ slice_get self.old.octets (from + result.len) }
-        ensures steps { self.new ≡ charged self.old (min (2 * result.len + 2) (2 * (length self.old.octets - from) + 1)) }
+        ensures run { IsRun table.now gap room (drop from self.old.octets) result.len }
+        ensures width { result.width ≡ taken table.now gap (take result.len (drop from self.old.octets)) }
+        ensures next { result.next ≡ option_map (entry_of table.now) (slice_get self.old.octets (from + result.len)) }
+        ensures steps { self.new ≡ charged self.old (2 * result.len + look_steps (length self.old.octets) (from + result.len)) }
         // what is in a slice of octets
         ensures octets { (at : ℕ) → slice_index (drop from self.old.octets) at < 2 ^ 8 }
         // a slice is no longer than this
         ensures space { length self.old.octets < 2 ^ 63 }
     {
         let behind = &self.octets[from..];
-        let (len, width) = run_front(behind, &table.of, gap, width, room);
-        self.charge(2 * len as u64 + 1 + u64::from(len < behind.len()));
-        Run {
-            len,
-            width,
-            next: behind.get(len).copied(),
-        }
+        let (len, width) = run_front(behind, &table.of, gap, room);
+        self.count_run(len, behind.len());
+        run_at(behind, len, width, table)
+    }
+
+    /// The same, with the last space of the front, if it has one.
+    pub fn read_words(
+        &mut self,
+        from: usize,
+        table: &Advances,
+        gap: u32,
+        room: u32,
+    ) -> (Run, Option<Space>)
+        requires start { from ≤ length self.old.octets }
+        requires small { gap + room < 2 ^ 31 }
+        ensures run { IsRun table.now gap room (drop from self.old.octets) result.0.len }
+        ensures width { result.0.width ≡ taken table.now gap (take result.0.len (drop from self.old.octets)) }
+        ensures space { IsLastSpace table.now gap (take result.0.len (drop from self.old.octets)) result.1 }
+        ensures next { result.0.next ≡ option_map (entry_of table.now) (slice_get self.old.octets (from + result.0.len)) }
+        ensures steps { self.new ≡ charged self.old (2 * result.0.len + look_steps (length self.old.octets) (from + result.0.len)) }
+        // what is in a slice of octets
+        ensures octets { (at : ℕ) → slice_index (drop from self.old.octets) at < 2 ^ 8 }
+        // a slice is no longer than this
+        ensures short { length self.old.octets < 2 ^ 63 }
+    {
+        let behind = &self.octets[from..];
+        let (len, width, space) = words_front(behind, &table.of, gap, room);
+        self.count_run(len, behind.len());
+        (run_at(behind, len, width, table), space)
+    }
+
+    /// Counts a run of so many octets, out of `most`, and what ends it.
+    #[inline(always)]
+    fn count_run(&mut self, len: usize, most: usize)
+        requires within { len ≤ most }
+        requires short { most < 2 ^ 63 }
+        ensures { self.new ≡ charged self.old (2 * len + look_steps most len) }
+    {
+        self.charge(2 * len as u64 + 1 + u64::from(len < most));
     }
 
     /// The octets from an offset on, at most `most` of them: 26 serve for a tag. Each takes one step. They are lent, and gone before the
@@ -182,25 +240,108 @@ fn plain_front(octets: &[u8], most: usize) -> usize
     len
 }
 
+/// The octet at a place, with what a table has for it. Whoever calls this counts the read and the look.
+#[inline(always)]
+fn entry_at(octets: &[u8], at: usize, table: &Advances) -> Option<Entry>
+    ensures entry { result ≡ option_map (entry_of table.now) (slice_get octets.now at) }
+    ensures octets { (at : ℕ) → slice_index octets.now at < 2 ^ 8 }
+{
+    let octet = *octets.get(at)?;
+    let advance = table.of[usize::from(octet)];
+    Some(Entry { octet, advance })
+}
+
+/// A run of so many octets, of this width, with what ends it. Whoever calls this counts the read and the look.
+#[inline(always)]
+fn run_at(octets: &[u8], len: usize, width: u32, table: &Advances) -> Run
+    ensures { result ≡ record { len = len; width = width; next = option_map (entry_of table.now) (slice_get octets.now len) } }
+{
+    let next = entry_at(octets, len, table);
+    Run { len, width, next }
+}
+
+/// What an octet leaves of what is left of a room, or `None` where that is too little for it.
+#[inline(always)]
+fn left_behind(octet: u8, table: &[u16; 256], gap: u32, left: u32) -> Option<u32>
+    requires small { gap < 2 ^ 31 }
+    ensures some { IfSome result (λ rest. rest + (gap + slice_index table.now octet) ≡ left) }
+    ensures none { IfNone result (left < gap + slice_index table.now octet) }
+{
+    left.checked_sub(gap + u32::from(table[usize::from(octet)]))
+}
+
 /// The longest front that goes into a room, and what is taken with it. Whoever calls this counts the octets that it looks at.
-fn run_front(octets: &[u8], table: &[u16; 256], gap: u32, before: u32, room: u32) -> (usize, u32)
-    requires fits { before ≤ room }
+#[inline(always)]
+fn run_front(octets: &[u8], table: &[u16; 256], gap: u32, room: u32) -> (usize, u32)
     requires small { gap + room < 2 ^ 31 }
-    ensures run { IsRun table.now gap before room octets.now result.0 }
-    ensures width { result.1 ≡ before + taken table.now gap (take result.0 octets.now) }
+    ensures run { IsRun table.now gap room octets.now result.0 }
+    ensures width { result.1 ≡ taken table.now gap (take result.0 octets.now) }
     ensures octets { (at : ℕ) → slice_index octets.now at < 2 ^ 8 }
 {
     let mut len = 0;
-    let mut left = room - before;
+    let mut left = room;
+    // by four, each with a way out of its own, since runs are long
+    while octets.len() - len >= 4 {
+        let Some(one) = left_behind(octets[len], table, gap, left) else {
+            return (len, room - left);
+        };
+        let Some(two) = left_behind(octets[len + 1], table, gap, one) else {
+            return (len + 1, room - one);
+        };
+        let Some(three) = left_behind(octets[len + 2], table, gap, two) else {
+            return (len + 2, room - two);
+        };
+        let Some(four) = left_behind(octets[len + 3], table, gap, three) else {
+            return (len + 3, room - three);
+        };
+        left = four;
+        len += 4;
+    }
     while len < octets.len() {
-        let advance = gap + u32::from(table[usize::from(octets[len])]);
-        if advance > left {
+        let Some(rest) = left_behind(octets[len], table, gap, left) else {
+            return (len, room - left);
+        };
+        left = rest;
+        len += 1;
+    }
+    (len, room - left)
+}
+
+/// The longest front that goes into a room, what is taken with it, and its last space. Whoever calls this counts the octets that it
+/// looks at.
+fn words_front(
+    octets: &[u8],
+    table: &[u16; 256],
+    gap: u32,
+    room: u32,
+) -> (usize, u32, Option<Space>)
+    requires small { gap + room < 2 ^ 31 }
+    ensures run { IsRun table.now gap room octets.now result.0 }
+    ensures width { result.1 ≡ taken table.now gap (take result.0 octets.now) }
+    ensures space { IsLastSpace table.now gap (take result.0 octets.now) result.2 }
+    ensures octets { (at : ℕ) → slice_index octets.now at < 2 ^ 8 }
+{
+    let mut len = 0;
+    let mut left = room;
+    let mut space = None;
+    while len < octets.len() {
+        let octet = octets[len];
+        let advance = gap + u32::from(table[usize::from(octet)]);
+        if left < advance {
             break;
+        }
+        if octet == b' ' {
+            let before = room - left;
+            space = Some(Space {
+                at: len,
+                before,
+                through: before + advance,
+            });
         }
         left -= advance;
         len += 1;
     }
-    (len, room - left)
+    (len, room - left, space)
 }
 
 /// Whether an octet is a bracket.

@@ -3,7 +3,7 @@
 ghost use Rattle.std.specs.Prelude.{◌≡◌, ◌+◌, ◌-◌, ◌^◌, ◌<◌, ◌≤◌, ◌⊎◌, length, drop, slice_get, IfOk, IfErr, IfSome, IfNone, OnErr, IsErr, Ok, None};
 ghost use Rattle.multi_token.specs.Counted.{charged, RisesBetween};
 ghost use Rattle.multi_token.specs.Spelling.{HasNoItem};
-ghost use Rattle.multi_token.specs.Tokens.{IsBracketed, IsTokenOf, octets_of};
+ghost use Rattle.multi_token.specs.Tokens.{IsBracketed, IsTokenOf, bracket_steps, octets_of};
 
 use crate::source::Source;
 use thiserror::Error;
@@ -93,8 +93,8 @@ impl Bracketed {
 
 /// What begins with this bracket at an offset, which was read already. A broken bracket is a [`TokenFault`].
 ///
-/// The bracket isn't read again: a doubled bracket takes one step, a tag one for each octet of its body and one for its last
-/// bracket, and a broken bracket at most as many as there are octets from there on.
+/// The bracket isn't read again: a doubled bracket takes one step, and a tag one for each octet of its body and one for its last
+/// bracket. Of a broken one the octets are read as far as the next bracket or the end, and of a closing one the next octet.
 pub fn read_bracket(
     source: &mut Source<'_>,
     at: usize,
@@ -111,7 +111,7 @@ pub fn read_bracket(
 
     // the steps of what is spelled and of a fault
     ensures steps { IfOk result (λ spelled. source.new ≡ charged source.old (octets_of spelled - 1)) }
-    ensures fault_steps { OnErr result (RisesBetween source.old source.new 0 (length source.old.octets - at)) }
+    ensures fault_steps { OnErr result (source.new ≡ charged source.old (bracket_steps bracket (drop (at + 1) source.old.octets))) }
 {
     if bracket == b'[' {
         open_bracket(source, at)
@@ -126,8 +126,8 @@ fn open_bracket(source: &mut Source<'_>, at: usize) -> Result<Bracketed, TokenFa
     requires room { length source.old.octets < 2 ^ 63 }
     ensures spelled { IfOk result (λ spelled.
         IsBracketed source.old.octets at 91 spelled × (source.new ≡ charged source.old (octets_of spelled - 1))) }
-    ensures fault { IfErr result (λ f.
-        (f.at ≡ at) × HasNoItem (drop at source.old.octets) × RisesBetween source.old source.new 0 (length source.old.octets - at)) }
+    ensures fault { IfErr result (λ f. (f.at ≡ at) × HasNoItem (drop at source.old.octets)
+        × (source.new ≡ charged source.old (bracket_steps 91 (drop (at + 1) source.old.octets)))) }
 {
     let (body, ending) = source.read_plain(at + 1, usize::MAX);
     let len = body.len();
@@ -150,8 +150,7 @@ fn close_bracket(source: &mut Source<'_>, at: usize) -> Result<Bracketed, TokenF
     requires room { length source.old.octets < 2 ^ 63 }
     ensures spelled { IfOk result (λ spelled.
         IsBracketed source.old.octets at 93 spelled × (source.new ≡ charged source.old (octets_of spelled - 1))) }
-    ensures fault { IfErr result (λ f.
-        (f.at ≡ at) × HasNoItem (drop at source.old.octets) × RisesBetween source.old source.new 0 (length source.old.octets - at)) }
+    ensures fault { IfErr result (λ f. (f.at ≡ at) × HasNoItem (drop at source.old.octets) × (source.new ≡ charged source.old 1)) }
 {
     if source.read(at + 1) == Some(b']') {
         Ok(Bracketed::Doubled)

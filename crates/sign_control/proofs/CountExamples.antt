@@ -1,17 +1,13 @@
--- Which text a command judges, and in how many steps at least and at most, computed.
-use Rattle.std.proofs.Common.{◌≡◌, ℕ, Bool, true, false, List, [], ◌∷◌, codes, refl, lit≤, Option, Some, None, Ok}
-use Rattle.multi_token.specs.Reading.{reading, read_items}
+-- Which text a command judges, and the limits on its steps, computed.
+use Rattle.std.proofs.Common.{◌≡◌, ℕ, Bool, true, false, List, [], ◌∷◌, codes, refl, Option, Some, None, Ok}
 use Rattle.sign_font.specs.Sample.{sample}
 use Rattle.sign_font.specs.Sign.{SignData}
-use Rattle.multi_meaning.specs.Verdict.{Accepted, Refused, verdict, verdict_on}
 use Rattle.message_store.specs.declared.slot.Status.TheVariants.{Validating}
 use Rattle.message_store.specs.Slot.{SlotData, empty_slot}
 use Rattle.sign_control.specs.declared.command.Command.TheVariants.{Clear, Work, Activate, SetEnd, Tick}
 use Rattle.sign_control.specs.Activation.{blank_one}
-use Rattle.message_store.specs.Judged.{least_steps}
-use Rattle.sign_control.specs.Counts.{IsJudgedIn, JudgedText, activated_text, slot_text, text_judged, ticked_text}
-use Rattle.sign_control.specs.kept.Answered.{IsAdded}
-use Rattle.sign_control.specs.Run.{run_limit, text_limit}
+use Rattle.sign_control.specs.Counts.{JudgedText, activated_text, slot_text, text_judged, text_steps, ticked_text}
+use Rattle.sign_control.specs.Run.{run_limit, run_steps, text_limit}
 use Rattle.sign_control.specs.State.{StateData, started}
 
 -- `A` waits to be judged
@@ -97,18 +93,11 @@ a_tick_judges_what_follows = refl
 
 -- ---- steps
 
-an_accepted_text_is_read_to_its_end : least_steps 4 (Accepted 1) ≡ 5
-an_accepted_text_is_read_to_its_end = refl
-
-a_refused_text_is_read_to_its_error : least_steps 4 (Refused 5 3) ≡ 4
-a_refused_text_is_read_to_its_error = refl
-
-the_empty_text_is_judged_in_one_step : IsJudgedIn (record { sign = sample; text = [] }) 1
-unfolding verdict verdict_on reading read_items
-the_empty_text_is_judged_in_one_step = (lit≤ tt, lit≤ tt)
-
-without_a_text_there_are_no_steps : IsAdded None 0
+without_a_text_there_are_no_steps : text_steps None ≡ 0
 without_a_text_there_are_no_steps = refl
+
+without_commands_there_are_no_steps : run_steps sample state [] ≡ 0
+without_commands_there_are_no_steps = refl
 
 without_a_text_the_limit_is_0 : text_limit None ≡ 0
 without_a_text_the_limit_is_0 = refl

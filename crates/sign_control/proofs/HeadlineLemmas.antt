@@ -1,5 +1,5 @@
 -- What holds after every list of commands.
-use Rattle.std.proofs.Common.{◌≡◌, ◌≤◌, ℕ, ◌+◌, ◌*◌, Bool, true, false, not, ◌&&◌, ◌==◌, nat_lt, nat_le, if◌then◌else◌, List, [], ◌∷◌, length, take, Option, Some, None, Result, Ok, Err, refl, subst, inl, inr, lit≤, arith}
+use Rattle.std.proofs.Common.{◌≡◌, ◌≤◌, ℕ, ◌*◌, Bool, true, false, not, ◌&&◌, ◌==◌, nat_lt, nat_le, if◌then◌else◌, List, [], ◌∷◌, length, take, Option, Some, None, Result, Ok, Err, refl, subst, inl, inr, lit≤, arith}
 use Rattle.std.proofs.Math.Seq.{take-length}
 use Rattle.sign_font.specs.declared.fault.DefaultFault.{DefaultFault}
 use Rattle.sign_font.specs.declared.parts.Defaults.{Defaults}
@@ -24,9 +24,9 @@ use Rattle.sign_control.specs.declared.display.Registers.{Registers}
 use Rattle.message_store.specs.Judged.{is_accepted}
 use Rattle.sign_control.specs.Activation.{CandidateData, blank_one, current, fitting, found, is_crc, named, of_row, or_blank, text_of, verdict_of}
 use Rattle.sign_control.specs.Code.{activation_code, id_code}
-use Rattle.sign_control.specs.Counts.{IsCountOf, JudgedText, activated_text, candidate_text, end_text, slot_text, text_judged, ticked_text, waiting_text}
+use Rattle.sign_control.specs.Counts.{JudgedText, activated_text, candidate_text, end_text, slot_text, text_judged, text_steps, ticked_text, waiting_text}
 use Rattle.sign_control.specs.Headline.{Headline, after, shown_by, shown_now}
-use Rattle.sign_control.specs.Run.{AreCountsOf, IsWithin, run, text_limit}
+use Rattle.sign_control.specs.Run.{IsWithin, run, run_steps, text_limit}
 use Rattle.sign_control.specs.State.{StateData, Stepped, started}
 use Rattle.sign_control.specs.kept.Ready.{IsAccepted}
 use Rattle.sign_control.specs.kept.Answered.{IsOneOf}
@@ -265,10 +265,6 @@ limit-le : (judged : Option JudgedText) → IsShortText judged → text_limit ju
 limit-le None short = lit≤ tt
 limit-le (Some judged) short = omega (arith, short)
 
-count-ge : (judged : Option JudgedText) (old new : ℕ) → IsCountOf judged old new → old ≤ new
-count-ge None old new is = omega (arith, is)
-count-ge (Some judged) old new (steps, within, is) = omega (arith, is)
-
 -- ---- the run
 
 pub record IsSteady (sign : SignData) (state : StateData) : Type 0 where
@@ -283,23 +279,16 @@ steady-run sign state [] is = is
 steady-run sign state (first ∷ commands) is = steady-run sign (step sign state first).state commands (steady-step sign state first is)
 
 -- a command adds at most the check limit of 4,096 octets
-next-steps : (sign : SignData) (state : StateData) (c : Command) (old new : ℕ) → IsSteady sign state → IsCountOf (text_judged sign state c) old new
-    → (old ≤ new) × (new ≤ old + check_limit 4096)
-next-steps sign state c old new is one =
+next-steps : (sign : SignData) (state : StateData) (c : Command) → IsSteady sign state → text_steps (text_judged sign state c) ≤ check_limit 4096
+next-steps sign state c is =
     let judged = text_judged sign state c in
-    let least = count-ge judged old new one in
-    let most = count-le judged old new one in
-    let limit = limit-le judged (judged-text sign state c is.store is.showing.short) in
-    (least, omega (arith, most, limit))
+    omega (arith, count-le judged, limit-le judged (judged-text sign state c is.store is.showing.short))
 
 -- so commands add at most that for each
-pub steps-run : (sign : SignData) (state : StateData) (commands : List Command) (old new : ℕ) → IsSteady sign state → AreCountsOf sign state commands old new
-    → (old ≤ new) × (new ≤ old + check_limit 4096 * length commands)
-steps-run sign state [] old new is same = (omega (arith, same), omega (arith, same))
-steps-run sign state (first ∷ commands) old new is (between, one, others) =
-    let now = next-steps sign state first old between is one in
-    let rest = steps-run sign (step sign state first).state commands between new (steady-step sign state first is) others in
-    (omega (arith, now.0, rest.0), omega (arith, now.1, rest.1))
+pub steps-run : (sign : SignData) (state : StateData) (commands : List Command) → IsSteady sign state → run_steps sign state commands ≤ check_limit 4096 * length commands
+steps-run sign state [] is = lit≤ tt
+steps-run sign state (first ∷ commands) is =
+    omega (arith, next-steps sign state first is, steps-run sign (step sign state first).state commands (steady-step sign state first is))
 
 pub headline : Headline
 headline sign store commands sound taken kept =
@@ -314,8 +303,8 @@ headline sign store commands sound taken kept =
     let all : take (length commands) commands ≡ commands = take-length commands in
     record {
       within = subst (λ (l : List Command). IsWithin store.limits (run sign first l).state.store) all (every_run_stays_within sign first commands kept (length commands));
-      next = λ c old new count. next-steps sign last c old new is count;
-      steps = λ old new counts. steps-run sign first commands old new steady counts;
+      next = λ c. next-steps sign last c is;
+      steps = steps-run sign first commands steady;
       short = is.showing.short;
       accepted = accepted-pages (shown_by sign last) last.text is.showing.accepted;
       there = there_at (shown_by sign last) last.text last.display.clock (shown_now sign last) refl;

@@ -25,9 +25,9 @@ next_change sign state most =
 abbrev pub change_limit : ℕ → ℕ
 change_limit n = check_limit n + (2 * n + 1)
 
--- a count has risen by the steps that were taken, at most this many (own)
-abbrev pub IsCounted : ℕ → ℕ → ℕ → Type 0
-IsCounted old limit new = (steps : ℕ) × (steps ≤ limit) × (new ≡ raised old steps)
+-- a count has risen by the steps that were taken, at least and at most this many (own)
+abbrev pub IsCounted : ℕ → ℕ → ℕ → ℕ → Type 0
+IsCounted old least most new = (steps : ℕ) × (least ≤ steps) × (steps ≤ most) × (new ≡ raised old steps)
 
 -- some tenths later the duration goes on, the display shows the same page or stays in its off time, and each pixel has the colours that
 -- it has now (own)

@@ -1,10 +1,8 @@
 -- The steps that commands add to the count.
-use Rattle.std.specs.Prelude.{◌≡◌, ℕ, not, ◌&&◌, ◌==◌, nat_lt, nat_le, if◌then◌else◌, List, length, Option, Some, None, Result, Ok, Err}
-use Rattle.step_count.specs.Count.{raised}
+use Rattle.std.specs.Prelude.{ℕ, not, ◌&&◌, ◌==◌, nat_lt, nat_le, if◌then◌else◌, List, Option, Some, None, Result, Ok, Err}
 use Rattle.sign_font.specs.Defaults.{under}
 use Rattle.sign_font.specs.Sign.{SignData}
-use Rattle.multi_meaning.specs.Verdict.{verdict}
-use Rattle.message_store.specs.Judged.{AreStepsOf}
+use Rattle.multi_meaning.specs.Steps.{judging_steps}
 use Rattle.message_store.specs.Slot.{SlotData, StoreData, slot_at}
 use Rattle.message_store.specs.Work.{waiting}
 use Rattle.sign_control.specs.declared.code.ActivateError.{ActivateError}
@@ -74,11 +72,7 @@ text_judged sign state (command.SetEnd octets) = None
 text_judged sign state (command.Tick tenths) = ticked_text sign state tenths state.display.remaining
 text_judged sign state (command.SetDefault field value) = None
 
--- the text was judged in this many steps (own)
-abbrev pub IsJudgedIn : JudgedText → ℕ → Type 0
-IsJudgedIn judged steps = AreStepsOf (length judged.text) (verdict judged.sign judged.text) steps
-
--- the count before and after a text was judged, if one was; without one it stays (own)
-abbrev pub IsCountOf : Option JudgedText → ℕ → ℕ → Type 0
-IsCountOf None old new = new ≡ old
-IsCountOf (Some judged) old new = (steps : ℕ) × IsJudgedIn judged steps × (new ≡ raised old steps)
+-- the steps of judging a text, if one is judged (own)
+abbrev pub text_steps : Option JudgedText → ℕ
+text_steps None = 0
+text_steps (Some judged) = judging_steps judged.sign judged.text

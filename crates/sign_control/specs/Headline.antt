@@ -1,5 +1,5 @@
 -- What holds after every list of commands: the store's budget, the steps, the text that is shown, and its frame.
-use Rattle.std.specs.Prelude.{◌≡◌, ◌≤◌, ℕ, ◌+◌, ◌*◌, Bool, ◌==◌, List, length, None}
+use Rattle.std.specs.Prelude.{◌≡◌, ◌≤◌, ℕ, ◌*◌, Bool, ◌==◌, List, length, None}
 use Rattle.sign_font.specs.Defaults.{default_fault, under}
 use Rattle.sign_font.specs.Sign.{SignData}
 use Rattle.sign_font.specs.Sound.{IsSound}
@@ -13,8 +13,8 @@ use Rattle.page_picture.specs.Shown.{IsThere}
 use Rattle.message_store.specs.Limits.{IsKept}
 use Rattle.message_store.specs.Slot.{StoreData}
 use Rattle.sign_control.specs.declared.command.Command.{Command}
-use Rattle.sign_control.specs.Counts.{IsCountOf, text_judged}
-use Rattle.sign_control.specs.Run.{AreCountsOf, IsWithin, run}
+use Rattle.sign_control.specs.Counts.{text_judged, text_steps}
+use Rattle.sign_control.specs.Run.{IsWithin, run, run_steps}
 use Rattle.sign_control.specs.State.{StateData, started}
 
 -- the sign with the defaults of what it shows (own)
@@ -42,13 +42,9 @@ pub record Holds (sign : SignData) (store : StoreData) (commands : List Command)
   -- the used bytes and slots are within the store's limits
   pub within : IsWithin store.limits (after sign store commands).store
   -- whatever is asked next takes at most the check limit of the longest text
-  pub next :
-      (command : Command) (old new : ℕ) → IsCountOf (text_judged sign (after sign store commands) command) old new
-      → (old ≤ new) × (new ≤ old + check_limit 4096)
+  pub next : (command : Command) → text_steps (text_judged sign (after sign store commands) command) ≤ check_limit 4096
   -- so all commands together took at most that for each
-  pub steps :
-      (old new : ℕ) → AreCountsOf sign (started sign.defaults store) commands old new
-      → (old ≤ new) × (new ≤ old + check_limit 4096 * length commands)
+  pub steps : run_steps sign (started sign.defaults store) commands ≤ check_limit 4096 * length commands
   -- the text that is shown has at most 4,096 octets
   pub short : length (after sign store commands).text ≤ 4096
   -- and is accepted

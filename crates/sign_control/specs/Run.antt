@@ -7,7 +7,7 @@ use Rattle.message_store.specs.Limits.{IsKept}
 use Rattle.message_store.specs.Slot.{StoreData, used_bytes, used_slots}
 use Rattle.sign_control.specs.declared.command.Command.{Command}
 use Rattle.sign_control.specs.declared.command.Reply.{Reply}
-use Rattle.sign_control.specs.Counts.{IsCountOf, JudgedText, text_judged}
+use Rattle.sign_control.specs.Counts.{JudgedText, text_judged, text_steps}
 use Rattle.sign_control.specs.State.{StateData}
 use Rattle.sign_control.specs.Step.{step}
 
@@ -35,11 +35,11 @@ run_limit sign state [] = 0
 run_limit sign state (command ∷ commands) =
     text_limit (text_judged sign state command) + run_limit sign (step sign state command).state commands
 
--- the count before and after commands: each that judges a text adds the steps of this, and any other adds none (own)
-abbrev pub AreCountsOf : SignData → StateData → List Command → ℕ → ℕ → Type 0
-AreCountsOf sign state [] old new = new ≡ old
-AreCountsOf sign state (command ∷ commands) old new = (between : ℕ) × IsCountOf (text_judged sign state command) old between
-    × AreCountsOf sign (step sign state command).state commands between new
+-- the steps that commands add: those of judging the texts that they judge (own)
+abbrev pub run_steps : SignData → StateData → List Command → ℕ
+run_steps sign state [] = 0
+run_steps sign state (command ∷ commands) =
+    text_steps (text_judged sign state command) + run_steps sign (step sign state command).state commands
 
 -- the octets that texts and owners may still take (NTCIP 1203 v03, dmsFreeChangeableMemory)
 abbrev pub free_bytes : StoreData → ℕ

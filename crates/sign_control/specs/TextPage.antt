@@ -1,8 +1,9 @@
 -- The pages of a text that isn't shown.
-use Rattle.std.specs.Prelude.{◌≤◌, ◌<◌, ◌^◌, ℕ, ◌+◌, List, length}
+use Rattle.std.specs.Prelude.{◌≤◌, ◌<◌, ◌^◌, ℕ, ◌+◌, nat_lt, List, length, if◌then◌else◌}
 use Rattle.sign_font.specs.Defaults.{under}
 use Rattle.sign_font.specs.Sign.{SignData}
 use Rattle.multi_meaning.specs.Meaning.{meanings}
+use Rattle.multi_meaning.specs.Steps.{judging_steps}
 use Rattle.multi_meaning.specs.Verdict.{Accepted, IsVerdict, Refused, pages_of}
 use Rattle.multi_layout.specs.Limits.{check_limit, drawing_limit}
 use Rattle.sign_control.specs.declared.page.NoPage.{NoPage}
@@ -30,6 +31,10 @@ abbrev pub LacksPage : SignData → List ℕ → ℕ → NoPage → Type 0
 LacksPage sign text page why.TooLong = 2 ^ 32 ≤ length text
 LacksPage sign text page why.Refused = IsShort text × ((code : ℕ) × (at : ℕ) × IsVerdict sign text (Refused code at))
 LacksPage sign text page why.Number = Accepts sign text × (pages_of (meanings text) ≤ page)
+
+-- the steps of judging a text that isn't too long for it (own)
+abbrev pub tried_steps : SignData → List ℕ → ℕ
+tried_steps sign text = if nat_lt (length text) (2 ^ 32) then judging_steps sign text else 0
 
 -- the most steps of judging a text and drawing a page of it (own)
 abbrev pub page_limit : SignData → ℕ → ℕ

@@ -5,8 +5,8 @@ ghost use Rattle.std.specs.Option.{option_copied, unwrap_or};
 ghost use Rattle.std.specs.Vec.{vec_capacity};
 ghost use Rattle.sign_font.specs.Defaults.{default_fault};
 ghost use Rattle.sign_control.specs.Activation.{blank_one, found, is_crc, missing, named, or_blank, remaining_of, swapped, text_of};
-ghost use Rattle.sign_control.specs.kept.Answered.{candidate_of, candidate_result, IsAdded, IsOneOf};
-ghost use Rattle.sign_control.specs.Counts.{end_text};
+ghost use Rattle.sign_control.specs.kept.Answered.{candidate_of, candidate_result, IsOneOf};
+ghost use Rattle.sign_control.specs.Counts.{end_text, text_steps};
 
 use crate::code::{ActivateError, IdCode};
 use crate::display::Display;
@@ -164,7 +164,7 @@ pub(crate) fn end_message<'a>(
     requires shown_taken { default_fault sign.now display.now.defaults ≡ None }
     requires short { length shown.now ≤ 4096 }
     ensures message { candidate_of result.0 ≡ or_blank sign.now shown.now defaults (named store.now display.now defaults code) }
-    ensures steps { IsAdded (end_text sign.now shown.now (named store.now display.now defaults code)) result.1 }
+    ensures steps { result.1 ≡ text_steps (end_text sign.now shown.now (named store.now display.now defaults code)) }
     ensures within { IfSome result.0.text (λ t. length t.now ≤ store.now.limits.max_string) }
     ensures text_short { IfSome result.0.text (λ t. length t.now ≤ 4096) }
     ensures taken { default_fault sign.now result.0.defaults ≡ None }

@@ -1,8 +1,9 @@
 //! What commands do.
 
 ghost use Rattle.std.specs.Prelude.{◌≡◌, ◌≤◌, ◌+◌, IfOk, OnOk, OnErr};
-ghost use Rattle.sign_control.specs.Counts.{IsCountOf, activation_text, following_text, text_judged, ticked_text};
-ghost use Rattle.sign_control.specs.Run.{AreCountsOf, StaysWithin, run, run_limit};
+ghost use Rattle.step_count.specs.Count.{raised};
+ghost use Rattle.sign_control.specs.Counts.{activation_text, following_text, text_judged, text_steps, ticked_text};
+ghost use Rattle.sign_control.specs.Run.{StaysWithin, run, run_limit, run_steps};
 ghost use Rattle.sign_control.specs.Step.{activate_step, activated_registers, default_step, judged_registers, not_shown, step, work_step};
 ghost use Rattle.sign_control.specs.kept.Answered.{reply_of};
 ghost use Rattle.sign_control.specs.Time.{end_step, passed, tick_step};
@@ -81,7 +82,7 @@ impl Controller {
         ensures state { self.new.state ≡ (work_step self.old.sign self.old.state).state }
         ensures reply { result ≡ (work_step self.old.sign self.old.state).reply }
         ensures kept { (self.new.sign ≡ self.old.sign) × (self.new.plane ≡ self.old.plane) }
-        ensures steps { IsCountOf (text_judged self.old.sign self.old.state command.Work) self.old.steps self.new.steps }
+        ensures steps { self.new.steps ≡ raised self.old.steps (text_steps (text_judged self.old.sign self.old.state command.Work)) }
     {
         let Some(judged) = self.store.work(&self.sign, &self.defaults) else {
             return Reply::Idle;
@@ -112,7 +113,7 @@ impl Controller {
         ensures state { self.new.state ≡ (activate_step self.old.sign self.old.state code).state }
         ensures reply { result ≡ (activate_step self.old.sign self.old.state code).reply }
         ensures kept { (self.new.sign ≡ self.old.sign) × (self.new.plane ≡ self.old.plane) }
-        ensures steps { IsCountOf (activation_text self.old.sign self.old.state code) self.old.steps self.new.steps }
+        ensures steps { self.new.steps ≡ raised self.old.steps (text_steps (activation_text self.old.sign self.old.state code)) }
     {
         let message = match named(&self.store, &self.display, self.defaults, code.id) {
             Ok(message) => message,
@@ -145,7 +146,7 @@ impl Controller {
         ensures state { self.new.state ≡ (end_step self.old.sign self.old.state ago).state }
         ensures reply { result ≡ (end_step self.old.sign self.old.state ago).reply }
         ensures kept { (self.new.sign ≡ self.old.sign) × (self.new.plane ≡ self.old.plane) }
-        ensures steps { IsCountOf (following_text self.old.sign self.old.state) self.old.steps self.new.steps }
+        ensures steps { self.new.steps ≡ raised self.old.steps (text_steps (following_text self.old.sign self.old.state)) }
     {
         let (message, steps) = end_message(
             &self.sign,
@@ -174,8 +175,8 @@ impl Controller {
         ensures state { self.new.state ≡ (tick_step self.old.sign self.old.state tenths).state }
         ensures reply { result ≡ (tick_step self.old.sign self.old.state tenths).reply }
         ensures kept { (self.new.sign ≡ self.old.sign) × (self.new.plane ≡ self.old.plane) }
-        ensures steps { IsCountOf (ticked_text self.old.sign self.old.state tenths self.old.state.display.remaining)
-            self.old.steps self.new.steps }
+        ensures steps { self.new.steps
+            ≡ raised self.old.steps (text_steps (ticked_text self.old.sign self.old.state tenths self.old.state.display.remaining)) }
     {
         match self.display.remaining {
             Some(remaining) if remaining <= tenths => self.end(tenths - remaining),
@@ -207,7 +208,7 @@ impl Controller {
         ensures state { self.new.state ≡ (step self.old.sign self.old.state command.now).state }
         ensures reply { result ≡ (step self.old.sign self.old.state command.now).reply }
         ensures kept { (self.new.sign ≡ self.old.sign) × (self.new.plane ≡ self.old.plane) }
-        ensures steps { IsCountOf (text_judged self.old.sign self.old.state command.now) self.old.steps self.new.steps }
+        ensures steps { self.new.steps ≡ raised self.old.steps (text_steps (text_judged self.old.sign self.old.state command.now)) }
     {
         match command {
             Command::Request(message, code) => reply_of(self.store.request(*message, *code)),
@@ -246,7 +247,7 @@ impl Controller {
         ensures state { OnOk result (self.new.state ≡ (run self.old.sign self.old.state commands.now).state) }
         ensures refused { OnErr result (self.new ≡ self.old) }
         ensures kept { (self.new.sign ≡ self.old.sign) × (self.new.plane ≡ self.old.plane) }
-        ensures counts { OnOk result (AreCountsOf self.old.sign self.old.state commands.now self.old.steps self.new.steps) }
+        ensures counts { OnOk result (self.new.steps ≡ raised self.old.steps (run_steps self.old.sign self.old.state commands.now)) }
         ensures steps { self.new.steps ≤ self.old.steps + run_limit self.old.sign self.old.state commands.now }
         ensures within { StaysWithin self.old.sign self.old.state commands.now }
     {

@@ -4,6 +4,8 @@ ghost use Rattle.std.specs.Prelude.{◌≡◌, ◌≤◌, None, length};
 ghost use Rattle.sign_font.specs.Defaults.{default_fault, under};
 ghost use Rattle.sign_font.specs.Sound.{IsSound};
 ghost use Rattle.multi_meaning.specs.Meaning.{meanings};
+ghost use Rattle.multi_meaning.specs.Steps.{judging_steps};
+ghost use Rattle.sign_control.specs.Headline.{shown_by};
 ghost use Rattle.message_change.specs.Change.{change_at};
 ghost use Rattle.sign_control.specs.Change.{IsCounted, change_limit, next_change, no_later};
 ghost use Rattle.sign_control.specs.kept.Ready.{IsAccepted};
@@ -15,12 +17,14 @@ use sign_font::{Defaults, Sign};
 use step_count::raised;
 
 /// The tenths of a second from a clock to the next change of what an accepted text shows, if it changes, and the steps of finding it.
+#[tactic(auto, using(crate::proofs::CountLemmas::judging_few))]
 fn change_left(sign: &Sign, defaults: Defaults, text: &[u8], clock: u64) -> (Option<u64>, u64)
     requires sound { IsSound sign.now }
     requires taken { default_fault sign.now defaults ≡ None }
     requires accepted { IsAccepted (under sign.now defaults) text.now }
     requires short { length text.now ≤ 4096 }
     ensures change { result.0 ≡ change_at (under sign.now defaults) (meanings text.now) clock }
+    ensures least { judging_steps (under sign.now defaults) text.now ≤ result.1 }
     ensures most { result.1 ≤ change_limit (length text.now) }
 {
     let checked = accepted_text(sign, defaults, text);
@@ -57,7 +61,8 @@ impl Controller {
     pub fn next_change(&mut self, most: u32) -> u32
         ensures next { result ≡ next_change self.old.sign self.old.state most }
         ensures kept { (self.new.sign ≡ self.old.sign) × (self.new.state ≡ self.old.state) × (self.new.plane ≡ self.old.plane) }
-        ensures steps { IsCounted self.old.steps (change_limit (length self.old.state.text)) self.new.steps }
+        ensures steps { IsCounted self.old.steps (judging_steps (shown_by self.old.sign self.old.state) self.old.state.text)
+            (change_limit (length self.old.state.text)) self.new.steps }
     {
         let (left, steps) = change_left(
             &self.sign,

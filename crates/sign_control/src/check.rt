@@ -1,8 +1,8 @@
 //! The check of a text.
 
-ghost use Rattle.std.specs.Prelude.{◌≡◌, ℕ, ◌+◌, ◌^◌, ◌<◌, ◌≤◌, None, length, IfOk, IfErr};
+ghost use Rattle.std.specs.Prelude.{◌≡◌, ℕ, ◌^◌, ◌<◌, None, length, IfOk, IfErr};
+ghost use Rattle.multi_meaning.specs.Steps.{judging_steps};
 ghost use Rattle.multi_meaning.specs.Verdict.{Accepted, IsVerdict, Refused};
-ghost use Rattle.multi_layout.specs.Limits.{check_limit};
 ghost use Rattle.sign_font.specs.Defaults.{default_fault, under};
 ghost use Rattle.sign_control.specs.kept.Ready.{IsAccepted};
 
@@ -23,10 +23,8 @@ pub(crate) fn check_text<'a>(
     ensures accepted { IfOk result (λ checked. (pages : ℕ) × IsVerdict (under sign.now defaults) text.now (Accepted pages)) }
     ensures refused { IfErr result (λ fault. IsVerdict (under sign.now defaults) text.now (Refused fault.code fault.at)) }
     ensures kept { IfOk result (λ checked. (checked.sign ≡ under sign.now defaults) × (checked.source.octets ≡ text.now)) }
-    ensures steps { IfOk result (λ checked. (length text.now + 1 ≤ checked.source.steps)
-        × (checked.source.steps ≤ check_limit (length text.now))) }
-    ensures fault_steps { IfErr result (λ fault. (fault.at + 1 ≤ fault.source.steps)
-        × (fault.source.steps ≤ check_limit (length text.now))) }
+    ensures steps { IfOk result (λ checked. checked.source.steps ≡ judging_steps (under sign.now defaults) text.now) }
+    ensures fault_steps { IfErr result (λ fault. fault.source.steps ≡ judging_steps (under sign.now defaults) text.now) }
 {
     check_with(sign, defaults, counted(text))
 }
@@ -44,7 +42,7 @@ pub(crate) fn accepted_text<'a>(sign: &'a Sign, defaults: Defaults, text: &'a [u
     requires accepted { IsAccepted (under sign.now defaults) text.now }
     requires short { length text.now < 2 ^ 32 }
     ensures kept { (result.sign ≡ under sign.now defaults) × (result.source.octets ≡ text.now) }
-    ensures steps { (length text.now + 1 ≤ result.source.steps) × (result.source.steps ≤ check_limit (length text.now)) }
+    ensures steps { result.source.steps ≡ judging_steps (under sign.now defaults) text.now }
 {
     let Ok(checked) = check_text(sign, defaults, text) else {
         unreachable!();

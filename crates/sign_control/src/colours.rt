@@ -1,6 +1,8 @@
 //! The colours of all pixels, of what the display shows and of a text's page.
 
-ghost use Rattle.std.specs.Prelude.{◌≡◌, ◌≤◌, None, length, IfErr, IfOk, OnOk};
+ghost use Rattle.std.specs.Prelude.{◌≡◌, ◌≤◌, ◌-◌, None, length, IfErr, IfOk, OnOk};
+ghost use Rattle.step_count.specs.Count.{raised};
+ghost use Rattle.multi_meaning.specs.Steps.{judging_steps};
 ghost use Rattle.multi_meaning.specs.Times.{shown};
 ghost use Rattle.multi_meaning.specs.declared.times.Shown.TheVariants.{Page};
 ghost use Rattle.multi_layout.specs.Pages.{IsSized};
@@ -10,7 +12,7 @@ ghost use Rattle.sign_control.specs.Change.{IsCounted};
 ghost use Rattle.sign_control.specs.Colours.{TellsColours, WritesColours, colours_limit, page_colours_limit};
 ghost use Rattle.sign_control.specs.Headline.{shown_by, shown_now};
 ghost use Rattle.sign_control.specs.kept.Ready.{IsAccepted};
-ghost use Rattle.sign_control.specs.TextPage.{HasPage, LacksPage, in_force};
+ghost use Rattle.sign_control.specs.TextPage.{HasPage, LacksPage, in_force, tried_steps};
 
 use crate::check::accepted_text;
 use crate::controller::Controller;
@@ -22,6 +24,7 @@ use sign_font::{Defaults, Sign};
 use step_count::raised;
 
 /// Writes the colours of what an accepted text shows at a clock, tells which page that is, and counts the steps of this.
+#[tactic(auto, using(crate::proofs::CountLemmas::judging_few))]
 fn write_shown(
     sign: &Sign,
     defaults: Defaults,
@@ -38,6 +41,7 @@ fn write_shown(
     ensures colours { TellsColours (under sign.now defaults) text.now (shown (under sign.now defaults) text.now clock)
         octets.old octets.new result.0 }
     ensures size { (plane.new.width ≡ plane.old.width) × (plane.new.height ≡ plane.old.height) }
+    ensures least { raised (judging_steps (under sign.now defaults) text.now) (plane.new.steps - plane.old.steps) ≤ result.1 }
     ensures most { result.1 ≤ colours_limit sign.now (length text.now) }
 {
     let mut checked = accepted_text(sign, defaults, text);
@@ -52,6 +56,7 @@ fn write_shown(
 }
 
 /// Writes the colours of a page of a text by these defaults, and counts the steps of this, or of finding that there is none.
+#[tactic(auto, using(crate::proofs::CountLemmas::tried_few))]
 fn write_text(
     sign: &Sign,
     defaults: Defaults,
@@ -68,6 +73,7 @@ fn write_text(
     ensures missing { IfErr result.0 (LacksPage (under sign.now defaults) text.now at.page) }
     ensures unwritten { IfErr result.0 (λ why. octets.new ≡ octets.old) }
     ensures size { (plane.new.width ≡ plane.old.width) × (plane.new.height ≡ plane.old.height) }
+    ensures least { raised (tried_steps (under sign.now defaults) text.now) (plane.new.steps - plane.old.steps) ≤ result.1 }
     ensures most { result.1 ≤ page_colours_limit sign.now (length text.now) }
 {
     let mut checked = match text_with_page(sign, defaults, text, at.page) {
@@ -95,7 +101,10 @@ impl Controller {
         ensures colours { TellsColours (shown_by self.old.sign self.old.state) self.old.state.text (shown_now self.old.sign self.old.state)
             octets.old octets.new result }
         ensures kept { (self.new.sign ≡ self.old.sign) × (self.new.state ≡ self.old.state) }
-        ensures steps { IsCounted self.old.steps (colours_limit self.old.sign (length self.old.state.text)) self.new.steps }
+        ensures steps { IsCounted self.old.steps
+            (raised (judging_steps (shown_by self.old.sign self.old.state) self.old.state.text)
+            (self.new.plane.steps - self.old.plane.steps))
+            (colours_limit self.old.sign (length self.old.state.text)) self.new.steps }
     {
         let (shown, steps) = write_shown(
             &self.sign,
@@ -126,7 +135,9 @@ impl Controller {
         ensures missing { IfErr result (LacksPage (in_force self.old.sign self.old.state) text.now page) }
         ensures unwritten { IfErr result (λ why. octets.new ≡ octets.old) }
         ensures kept { (self.new.sign ≡ self.old.sign) × (self.new.state ≡ self.old.state) }
-        ensures steps { IsCounted self.old.steps (page_colours_limit self.old.sign (length text.now)) self.new.steps }
+        ensures steps { IsCounted self.old.steps
+            (raised (tried_steps (in_force self.old.sign self.old.state) text.now) (self.new.plane.steps - self.old.plane.steps))
+            (page_colours_limit self.old.sign (length text.now)) self.new.steps }
     {
         let at = PageAt { page, phase };
         let (written, steps) = write_text(

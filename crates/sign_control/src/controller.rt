@@ -4,6 +4,7 @@ ghost use Rattle.std.specs.Prelude.{◌≡◌, ◌+◌, ◌-◌, ◌≤◌, leng
 ghost use Rattle.std.specs.Borrow.{sem};
 ghost use Rattle.multi_meaning.specs.Picture.{Lights, pixel_at};
 ghost use Rattle.multi_meaning.specs.Meaning.{meanings};
+ghost use Rattle.multi_meaning.specs.Steps.{judging_steps};
 ghost use Rattle.multi_meaning.specs.Times.{shown};
 ghost use Rattle.multi_layout.specs.Limits.{frame_limit};
 ghost use Rattle.multi_layout.specs.Pages.{IsSized};
@@ -112,7 +113,8 @@ impl Controller {
         ensures drawn { Lights result.plane.now
             (pixel_at (under self.old.sign self.old.state.display.defaults) (meanings self.old.state.text) result.shown colour) }
         ensures size { IsSized result.plane.now self.old.sign }
-        ensures least { length self.old.state.text + 1 + (result.plane.now.steps - self.old.plane.steps) ≤ result.steps }
+        ensures least { judging_steps (under self.old.sign self.old.state.display.defaults) self.old.state.text
+            + (result.plane.now.steps - self.old.plane.steps) ≤ result.steps }
         ensures most { result.steps ≤ frame_limit self.old.sign (length self.old.state.text) }
     {
         let (shown, steps) = draw_shown(

@@ -3,6 +3,7 @@
 ghost use Rattle.std.specs.Prelude.{◌≡◌, ◌+◌, ◌-◌, ◌≤◌, None, length};
 ghost use Rattle.multi_meaning.specs.Picture.{Lights, pixel_at};
 ghost use Rattle.multi_meaning.specs.Meaning.{meanings};
+ghost use Rattle.multi_meaning.specs.Steps.{judging_steps};
 ghost use Rattle.multi_meaning.specs.Times.{shown};
 ghost use Rattle.multi_layout.specs.Limits.{frame_limit};
 ghost use Rattle.multi_layout.specs.Pages.{IsSized};
@@ -16,6 +17,7 @@ use page_plane::Plane;
 use sign_font::{Defaults, Sign};
 
 /// Draws what an accepted text shows at a clock, and counts the steps of this.
+#[tactic(auto, using(crate::proofs::CountLemmas::judging_few))]
 pub(crate) fn draw_shown(
     sign: &Sign,
     defaults: Defaults,
@@ -33,7 +35,7 @@ pub(crate) fn draw_shown(
     ensures shown { result.0 ≡ shown (under sign.now defaults) text.now clock }
     ensures drawn { Lights plane.new (pixel_at (under sign.now defaults) (meanings text.now) result.0 colour) }
     ensures size { (plane.new.width ≡ plane.old.width) × (plane.new.height ≡ plane.old.height) }
-    ensures least { length text.now + 1 + (plane.new.steps - plane.old.steps) ≤ result.1 }
+    ensures least { judging_steps (under sign.now defaults) text.now + (plane.new.steps - plane.old.steps) ≤ result.1 }
     ensures most { result.1 ≤ frame_limit sign.now (length text.now) }
 {
     let mut source = counted(text);

@@ -1,13 +1,13 @@
 //! The pages of a text that isn't shown, on the sign that a controller holds.
 
-ghost use Rattle.std.specs.Prelude.{◌≡◌, ◌≤◌, None, length, IfErr, IfOk, OnOk};
+ghost use Rattle.std.specs.Prelude.{◌≡◌, ◌≤◌, ◌-◌, None, length, IfErr, IfOk, OnOk};
+ghost use Rattle.step_count.specs.Count.{raised};
 ghost use Rattle.multi_meaning.specs.Picture.{Lights, picture};
-ghost use Rattle.multi_layout.specs.Limits.{check_limit};
 ghost use Rattle.multi_layout.specs.Pages.{IsSized};
 ghost use Rattle.sign_font.specs.Defaults.{default_fault, under};
 ghost use Rattle.sign_font.specs.Sound.{IsSound};
 ghost use Rattle.sign_control.specs.Change.{IsCounted};
-ghost use Rattle.sign_control.specs.TextPage.{HasPage, LacksPage, in_force, page_limit};
+ghost use Rattle.sign_control.specs.TextPage.{HasPage, LacksPage, in_force, page_limit, tried_steps};
 
 use crate::check::check_text;
 use crate::controller::Controller;
@@ -51,9 +51,9 @@ pub(crate) fn text_with_page<'a>(
     requires taken { default_fault sign.now defaults ≡ None }
     ensures found { OnOk result (HasPage (under sign.now defaults) text.now page) }
     ensures kept { IfOk result (λ checked. (checked.sign ≡ under sign.now defaults) × (checked.source.octets ≡ text.now)) }
-    ensures steps { IfOk result (λ checked. checked.source.steps ≤ check_limit (length text.now)) }
+    ensures steps { IfOk result (λ checked. checked.source.steps ≡ tried_steps (under sign.now defaults) text.now) }
     ensures missing { IfErr result (λ why. LacksPage (under sign.now defaults) text.now page why.0) }
-    ensures missing_steps { IfErr result (λ why. why.1 ≤ check_limit (length text.now)) }
+    ensures missing_steps { IfErr result (λ why. why.1 ≡ tried_steps (under sign.now defaults) text.now) }
 {
     if text.len() > MAX_TEXT {
         return Err((NoPage::TooLong, 0));
@@ -71,6 +71,7 @@ pub(crate) fn text_with_page<'a>(
 }
 
 /// Draws the plane of a colour of a page of a text by these defaults, and counts the steps of this, or of finding that there is none.
+#[tactic(auto, using(crate::proofs::CountLemmas::tried_few))]
 pub(crate) fn draw_text(
     sign: &Sign,
     defaults: Defaults,
@@ -86,6 +87,7 @@ pub(crate) fn draw_text(
     ensures drawn { OnOk result.0 (Lights plane.new (picture (under sign.now defaults) text.now at.page at.phase colour)) }
     ensures missing { IfErr result.0 (LacksPage (under sign.now defaults) text.now at.page) }
     ensures size { (plane.new.width ≡ plane.old.width) × (plane.new.height ≡ plane.old.height) }
+    ensures least { raised (tried_steps (under sign.now defaults) text.now) (plane.new.steps - plane.old.steps) ≤ result.1 }
     ensures most { result.1 ≤ page_limit sign.now (length text.now) }
 {
     let mut checked = match text_with_page(sign, defaults, text, at.page) {
@@ -120,7 +122,9 @@ impl Controller {
         ensures drawn { OnOk result (Lights self.new.plane (picture (in_force self.old.sign self.old.state) text.now page phase colour)) }
         ensures missing { IfErr result (LacksPage (in_force self.old.sign self.old.state) text.now page) }
         ensures kept { (self.new.sign ≡ self.old.sign) × (self.new.state ≡ self.old.state) }
-        ensures steps { IsCounted self.old.steps (page_limit self.old.sign (length text.now)) self.new.steps }
+        ensures steps { IsCounted self.old.steps
+            (raised (tried_steps (in_force self.old.sign self.old.state) text.now) (self.new.plane.steps - self.old.plane.steps))
+            (page_limit self.old.sign (length text.now)) self.new.steps }
     {
         let at = PageAt { page, phase };
         let (drawn, steps) = draw_text(

@@ -1,6 +1,7 @@
 -- A sign without a fault is within its limits.
 use Rattle.std.proofs.Common.{◌≡◌, ℕ, ◌+◌, ◌-◌, ◌*◌, ◌/◌, ◌<◌, ◌≤◌, ◌==◌, Bool, true, false, not, List, [], ◌∷◌, ◌++◌, length, map, get_or, Option, Some, None, Bor, refl, sym, ap, subst, ◌∙◌, arith, inl, inr}
-use Rattle.std.specs.Prelude.{find, option_map, option_copied, unwrap_or, IfSome, All}
+use Rattle.std.specs.Prelude.{find, option_map, option_copied, unwrap_or, IfSome, All, Result, Ok, Err}
+use Rattle.std.specs.Result.{OkIff, result_ok}
 use Rattle.std.specs.List.{list_all, range_with_len}
 use Rattle.std.proofs.lemmas.Bool.{and_parts, leb-true, eqb-true, not-true, cases_lt, cases_Bool}
 use Rattle.std.proofs.lemmas.List.Elements.{All-head, All-tail}
@@ -144,6 +145,14 @@ lent_holds P (Some x) found is holds = rw (← is) at holds
 pub no_width : (width : Option ℕ) → IfSome width (IsWithin 1 64) → unwrap_or width 0 ≡ 0 → None ≡ width
 no_width None sound is = refl
 no_width (Some width) sound is = absurd (omega (arith, sound.0))
+
+-- a number of a table that is no octet is for no cell
+pub taken_width : {E : Type 0} (width : Option ℕ) → IfSome width (IsWithin 1 64) → (advance : ℕ) → advance ≡ unwrap_or width 32768
+    → (octet : Result ℕ E) → OkIff octet (advance < 256) advance → result_ok octet ≡ width
+taken_width None sound advance is (Ok octet) fits = absurd (omega (arith, fits.0, is))
+taken_width None sound advance is (Err error) past = refl
+taken_width (Some width) sound advance is (Ok octet) fits = ap Some (fits.1 ∙ is)
+taken_width (Some width) sound advance is (Err error) past = absurd (past (omega (arith, is, sound.1)))
 
 pub some_width : (width : Option ℕ) (result : ℕ) → result ≡ unwrap_or width 0 → (result ≡ 0 → ⊥) → Some result ≡ width
 some_width None result is some = absurd (some is)

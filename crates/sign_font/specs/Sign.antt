@@ -1,5 +1,5 @@
 -- A sign as plain data, and what it is asked for.
-use Rattle.std.specs.Prelude.{ℕ, max, Bool, ◌==◌, List, [], ◌∷◌, map, find, Option, option_map}
+use Rattle.std.specs.Prelude.{ℕ, max, Bool, ◌==◌, nat_lt, if◌then◌else◌, List, [], ◌∷◌, map, find, Option, option_map}
 use Rattle.std.specs.Option.{option_and_then}
 use Rattle.sign_font.specs.declared.font.FontInfo.{FontInfo}
 use Rattle.sign_font.specs.declared.parts.CellPart.{CellPart}
@@ -85,6 +85,10 @@ sized font cell = record { number = cell.number; width = cell.width; height = fo
 abbrev pub cell_in : SignData → ℕ → ℕ → Option SizedCell
 cell_in sign font number =
     option_and_then (λ f. option_map (sized f) (cell_numbered f number)) (font_numbered sign font)
+
+-- the steps of looking up the cell of a number: a table has those of octets, and a search by halves compares at most eight cells (own)
+abbrev pub cell_steps : ℕ → ℕ
+cell_steps number = if nat_lt number 256 then 1 else 8
 
 -- a font's numbers without its cells (own)
 abbrev pub info_of : FontData → FontInfo

@@ -22,7 +22,3 @@ pub record HasWidth (width_of : ℕ → Option ℕ) (gap : ℕ) (text : List ℕ
   pub each : map width_of text ≡ map Some widths
   pub within : All (IsWithin 1 64) widths
   pub together : pixels ≡ sum_by (λ width. gap + width) widths
-
--- an octet is no space (own)
-abbrev pub IsNoSpace : ℕ → Type 0
-IsNoSpace octet = octet ≡ 32 → ⊥

@@ -1,8 +1,8 @@
 //! A font, as a sign keeps it and as it is asked for.
 
-ghost use Rattle.std.specs.Prelude.{◌≡◌, ℕ, IfOk, IfSome, option_map};
-ghost use Rattle.multi_token.specs.Counted.{RisesBetween, charged};
-ghost use Rattle.sign_font.specs.Advance.{AreAdvances};
+ghost use Rattle.std.specs.Prelude.{◌≡◌, ℕ, false, IfOk, IfSome, option_map};
+ghost use Rattle.multi_token.specs.Spelling.{is_bracket};
+ghost use Rattle.sign_font.specs.Advance.{AreAdvances, advance_of};
 ghost use Rattle.sign_font.specs.Sign.{font_of, info_of, cell_numbered, sized};
 ghost use Rattle.sign_font.specs.Sound.{IsSoundFont, IsSoundSize, IsWithin};
 ghost use Rattle.sign_font.specs.Text.{width_numbered};
@@ -10,7 +10,7 @@ ghost use Rattle.sign_font.specs.Text.{width_numbered};
 use crate::cell::{Cell, Glyph};
 use crate::glyphs::Glyphs;
 use crate::parts::FontPart;
-use multi_token::{Advances, Source};
+use multi_token::{Advances, Entry};
 use std::alloc::{AllocError, Global};
 use std::marker::Model;
 
@@ -29,7 +29,7 @@ pub struct FontInfo {
     pub line_spacing: u8,
 }
 
-/// A font of a sign, in which the cells of octets are looked up (own). Each look at a cell counts as one step.
+/// A font of a sign, in which the cells of octets are looked up (own).
 #[derive(Drop)]
 pub struct FontCells<'a> {
     font: &'a Font,
@@ -55,27 +55,43 @@ impl<'a> FontCells<'a> {
         FontCells { font }
     }
 
-    /// The width in pixels of the cell of an octet: 1 to 64, or `None` if the font lacks it. Either way this takes one step.
-    pub fn width(&self, source: &mut Source<'_>, octet: u8) -> Option<u8>
-        ensures width { result ≡ width_numbered self.now octet }
-        ensures size { IfSome result (IsWithin 1 64) }
-        ensures step { source.new ≡ charged source.old 1 }
+    /// The cells of the same font.
+    pub fn same(&self) -> FontCells<'a>
+        ensures { result ≡ self.now }
     {
-        source.charge(1);
-        let font = self.font;
-        font.cell_width(octet)
+        FontCells { font: self.font }
     }
 
-    /// By octet, what it takes of a line: the width of its cell in pixels, 1 to 64. A bracket, an octet without a cell and, where `words`
-    /// is set, a space take more than any line has, so that they end a run.
+    /// What the font says of itself.
+    pub fn info(&self) -> FontInfo
+        ensures info { result ≡ info_of self.now }
+        ensures height { IsWithin 1 64 result.height }
+    {
+        let font = self.font;
+        font.info()
+    }
+
+    /// By octet, what it takes of a line: the width of its cell in pixels, 1 to 64. A bracket and an octet without a cell take more
+    /// than any line has, so that they end a run.
     ///
-    /// Only [`Source::read_run`] can read the table, and counts each look.
-    pub fn advances(&self, words: bool) -> &Advances
-        ensures table { AreAdvances (width_numbered self.now) words result.now }
+    /// Only a source can read the table, and counts each look.
+    pub fn advances(&self) -> &Advances
+        ensures table { AreAdvances (width_numbered self.now) result.now }
         ensures sound { IsSoundFont self.now }
     {
         let font = self.font;
-        font.advances(words)
+        font.advances()
+    }
+
+    /// The width in pixels of the cell of an octet that a source looked up in the table: 1 to 64, or `None` if the font lacks it. A
+    /// bracket has none there.
+    #[inline(always)]
+    pub fn width_of(&self, entry: Entry) -> Option<u8>
+        ensures width { entry.advance ≡ advance_of (width_numbered self.now) entry.octet → is_bracket entry.octet ≡ false
+            → result ≡ width_numbered self.now entry.octet }
+    {
+        let _ = &self.font;
+        u8::try_from(entry.advance).ok()
     }
 }
 
@@ -84,10 +100,8 @@ impl<'a> FontCells<'a> {
 pub(crate) struct Font {
     info: FontInfo,
     glyphs: Glyphs,
-    /// By octet, what it takes of a line in a run of all characters.
-    characters: Advances,
-    /// The same in a word, which a space ends.
-    words: Advances,
+    /// By octet, what it takes of a line.
+    advances: Advances,
 }
 
 impl Model for Font {
@@ -98,7 +112,7 @@ impl Model for Font {
 
     ghost view = { λ f. font_kept f.info f.glyphs };
 
-    ghost invariant = { λ f. IsFontKeptWith f.info f.glyphs f.characters f.words };
+    ghost invariant = { λ f. IsFontKeptWith f.info f.glyphs f.advances };
 }
 
 impl Font {
@@ -119,22 +133,19 @@ impl Font {
             glyphs.push(Glyph::new(alloc, cell, info.height)?)?;
         }
         let glyphs = Glyphs::new(glyphs);
-        let characters = Advances::new(glyphs.advances(false));
-        let words = Advances::new(glyphs.advances(true));
+        let advances = Advances::new(glyphs.advances());
         Ok(Font {
             info,
             glyphs,
-            characters,
-            words,
+            advances,
         })
     }
 
-    /// By octet, what it takes of a line: the width of its cell, or more than any line has for an octet that ends every run, and
-    /// for one without a cell.
-    pub(crate) fn advances(&self, words: bool) -> &Advances
-        ensures { AreAdvances (width_numbered self.now) words result.now }
+    /// By octet, what it takes of a line: the width of its cell, or more than any line has for a bracket and for an octet without a cell.
+    pub(crate) fn advances(&self) -> &Advances
+        ensures { AreAdvances (width_numbered self.now) result.now }
     {
-        if words { &self.words } else { &self.characters }
+        &self.advances
     }
 
     /// The font's number.
@@ -162,13 +173,12 @@ impl Font {
         }
     }
 
-    /// The cell of any number, by halves. Each cell that is compared with it takes one step, and so does the look where there is none.
-    pub(crate) fn search(&self, source: &mut Source<'_>, number: u16) -> Option<Cell<'_>>
+    /// The cell of any number, by halves.
+    pub(crate) fn search(&self, number: u16) -> Option<Cell<'_>>
         ensures cell { result ≡ option_map (sized self.now) (cell_numbered self.now number) }
         ensures size { IfSome result IsSoundSize }
-        ensures steps { RisesBetween source.old source.new 1 8 }
     {
-        match self.glyphs.search(source, number) {
+        match self.glyphs.search(number) {
             Some(glyph) => Some(Cell::new(glyph)),
             None => None,
         }

@@ -2,19 +2,17 @@
 
 ghost use Rattle.std.specs.Prelude.{◌≡◌, ℕ, ◌==◌, find, option_map, unwrap_or};
 ghost use Rattle.std.specs.Option.{option_copied};
-ghost use Rattle.multi_token.specs.Counted.{RisesBetween, charged};
-ghost use Rattle.sign_font.specs.Advance.{AreAdvances, advance_of, ends_run};
+ghost use Rattle.sign_font.specs.Advance.{AreAdvances, advance_of};
 ghost use Rattle.sign_font.specs.kept.Font.{AreNumbered, width_among};
 
 use crate::cell::Glyph;
-use multi_token::Source;
 use std::marker::Model;
 
 /// The place for a number that nothing has. A list has at most 255 things, so nothing stands there.
 pub(crate) const NOWHERE: u8 = 255;
 
 /// What an octet that ends a run has in the table of advances: more than any line has pixels.
-const ENDS: u16 = 0x8000;
+pub(crate) const ENDS: u16 = 0x8000;
 
 /// The cells of a font, with tables by which an octet finds its cell at once. A number above 255 stands in no table.
 #[derive(Drop)]
@@ -68,22 +66,16 @@ impl Glyphs {
         self.glyphs.get(usize::from(place))
     }
 
-    /// The cell of any number, by halves. Each cell that is compared with it takes one step, and so does the look where there is none.
-    pub(crate) fn search(&self, source: &mut Source<'_>, number: u16) -> Option<&Glyph>
-        ensures cell { option_copied result ≡ find (λ cell. cell.number == number) self.now }
-        ensures steps { RisesBetween source.old source.new 1 8 }
+    /// The cell of any number, by halves: at most eight cells are compared with it. Whoever calls this counts them.
+    pub(crate) fn search(&self, number: u16) -> Option<&Glyph>
+        ensures { option_copied result ≡ find (λ cell. cell.number == number) self.now }
     {
-        if self.glyphs.is_empty() {
-            count_miss(source);
-            return None;
-        }
         let mut low = 0;
         let mut high = self.glyphs.len();
         for _probe in 0..8u8 {
             if low >= high {
                 return None;
             }
-            source.charge(1);
             let middle = low + (high - low) / 2;
             let glyph = &self.glyphs[middle];
             let here = glyph.number();
@@ -99,22 +91,22 @@ impl Glyphs {
         None
     }
 
-    /// By octet, the width of its cell, or `ENDS` for an octet that ends every run and for one without a cell.
-    pub(crate) fn advances(&self, words: bool) -> [u16; 256]
-        ensures { AreAdvances (width_among self.now) words result }
+    /// By octet, the width of its cell, or `ENDS` for a bracket and for an octet without a cell.
+    pub(crate) fn advances(&self) -> [u16; 256]
+        ensures { AreAdvances (width_among self.now) result }
     {
         let mut advances = [ENDS; 256];
         for octet in 0..256usize {
-            advances[octet] = self.advance(words, octet as u8);
+            advances[octet] = self.advance(octet as u8);
         }
         advances
     }
 
-    /// The width of an octet's cell, or `ENDS` if it ends every run or has no cell.
-    fn advance(&self, words: bool, octet: u8) -> u16
-        ensures { result ≡ advance_of (width_among self.now) words octet }
+    /// The width of an octet's cell, or `ENDS` if it is a bracket or has no cell.
+    fn advance(&self, octet: u8) -> u16
+        ensures { result ≡ advance_of (width_among self.now) octet }
     {
-        if ends_run(words, octet) {
+        if octet == b'[' || octet == b']' {
             return ENDS;
         }
         let Some(glyph) = self.find(octet) else {
@@ -129,18 +121,4 @@ impl Glyphs {
     {
         self.widths[usize::from(octet)]
     }
-}
-
-/// Whether an octet ends every run: a bracket, and a space where runs are words.
-fn ends_run(words: bool, octet: u8) -> bool
-    ensures { result ≡ ends_run words octet }
-{
-    octet == b'[' || octet == b']' || (words && octet == b' ')
-}
-
-/// Counts a look at what isn't there.
-pub(crate) fn count_miss(source: &mut Source<'_>)
-    ensures { source.new ≡ charged source.old 1 }
-{
-    source.charge(1);
 }

@@ -1,9 +1,9 @@
 //! A sign, which is made once and never changes.
 
-ghost use Rattle.std.specs.Prelude.{◌≡◌, ℕ, ◌+◌, ◌<◌, ◌≤◌, All, Any, IfOk, IfErr, IfSome, IfNone, OnOk, None, map, option_map};
+ghost use Rattle.std.specs.Prelude.{◌≡◌, ℕ, ◌+◌, ◌<◌, ◌≤◌, All, Any, IfOk, IfErr, IfSome, IfNone, OnOk, None, Some, map, option_map};
 ghost use Rattle.std.specs.Option.{option_copied};
-ghost use Rattle.multi_token.specs.Counted.{charged, RisesBetween};
-ghost use Rattle.sign_font.specs.Sign.{sign_of, font_of, font_numbered, info_of, cell_in, tallest};
+ghost use Rattle.multi_token.specs.Counted.{charged};
+ghost use Rattle.sign_font.specs.Sign.{sign_of, font_of, font_numbered, info_of, cell_in, cell_steps, tallest};
 ghost use Rattle.sign_font.specs.Defaults.{default_fault, under};
 ghost use Rattle.sign_font.specs.Limits.{first_fault};
 ghost use Rattle.sign_font.specs.Sound.{IsSound, IsSoundFont, IsSoundSize, IsWithin};
@@ -13,7 +13,6 @@ use crate::cell::Cell;
 use crate::fault::{DefaultFault, SignFault};
 use crate::font::{Font, FontCells, FontInfo};
 use crate::fonts::Fonts;
-use crate::glyphs::count_miss;
 use crate::limits::{are_known, first_fault};
 use crate::parts::{Defaults, FontPart, LineFill, SignParts};
 use multi_token::Source;
@@ -23,7 +22,7 @@ use std::marker::Model;
 /// A sign within its limits, with its fonts (own).
 ///
 /// Only `font`, `cells`, `cell` and `cell_width` look up its fonts and their cells, and each look counts as one step. `cell` and
-/// `cell_width` take one to eight for a number above 255. All other calls take no step.
+/// `cell_width` take eight for a number above 255. All other calls take no step.
 #[derive(Drop)]
 pub struct Sign {
     width: u16,
@@ -188,6 +187,16 @@ impl Sign {
         self.find_font(defaults.font).unwrap().info()
     }
 
+    /// The same font, in which the cells of octets are looked up.
+    pub fn cells_of(&self, defaults: &Defaults) -> FontCells<'_>
+        requires { default_fault self.now defaults.now ≡ None }
+        ensures cells { Some result ≡ font_numbered self.now defaults.now.font }
+        ensures widths { AreWidthsOf self.now defaults.now.font result }
+        ensures sound { IsSound (under self.now defaults.now) }
+    {
+        FontCells::new(self.find_font(defaults.font).unwrap())
+    }
+
     /// The height of the tallest font, in pixels: 1 to 64.
     pub fn tallest(&self) -> u8
         ensures tallest { result ≡ tallest self.now }
@@ -215,13 +224,12 @@ impl Sign {
 
     /// The cell of a number in the font of a number, or `None` if the sign lacks either.
     ///
-    /// A number up to 255 takes one step, found or not. A wider number takes one step for each of the font's cells that is
-    /// compared with it, at most 8, and one where there is none.
+    /// A number up to 255 takes one step, found or not. A wider number takes eight: a search by halves compares at most so many of
+    /// the font's cells with it.
     pub fn cell(&self, source: &mut Source<'_>, font: u8, number: u16) -> Option<Cell<'_>>
         ensures cell { result ≡ cell_in self.now font number }
         ensures size { IfSome result IsSoundSize }
-        ensures step { number ≤ 255 → source.new ≡ charged source.old 1 }
-        ensures steps { RisesBetween source.old source.new 1 8 }
+        ensures steps { source.new ≡ charged source.old (cell_steps number) }
         ensures sound { IsSound self.now }
     {
         if number < 256 {
@@ -236,8 +244,7 @@ impl Sign {
     pub fn cell_width(&self, source: &mut Source<'_>, font: u8, number: u16) -> Option<u8>
         ensures width { result ≡ option_map (λ cell. cell.width) (cell_in self.now font number) }
         ensures size { IfSome result (IsWithin 1 64) }
-        ensures step { number ≤ 255 → source.new ≡ charged source.old 1 }
-        ensures steps { RisesBetween source.old source.new 1 8 }
+        ensures steps { source.new ≡ charged source.old (cell_steps number) }
         ensures sound { IsSound self.now }
     {
         if number < 256 {
@@ -260,20 +267,15 @@ impl Sign {
         }
     }
 
-    /// The cell of any number, by halves. A look at a font that isn't there takes one step.
+    /// The cell of any number, by halves, for eight steps.
     fn search(&self, source: &mut Source<'_>, font: u8, number: u16) -> Option<Cell<'_>>
         ensures cell { result ≡ cell_in self.now font number }
         ensures size { IfSome result IsSoundSize }
-        ensures steps { RisesBetween source.old source.new 1 8 }
+        ensures steps { source.new ≡ charged source.old 8 }
         ensures sound { IsSound self.now }
     {
-        match self.find_font(font) {
-            Some(font) => font.search(source, number),
-            None => {
-                count_miss(source);
-                None
-            }
-        }
+        source.charge(8);
+        self.find_font(font)?.search(number)
     }
 
     /// The font of a number, for one step.

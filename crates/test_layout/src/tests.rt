@@ -41,15 +41,17 @@ fn a_string_comes_back_with_its_steps(rt: HostRuntime) -> Result<(), Fail> {
     let Ok(checked) = check(&sign, Source::new(b"A[np]A")) else {
         panic!(rt; "the string is accepted");
     };
+    // two for each character, three and four octets ahead for the tag, and one for the end
     let steps = checked.steps();
-    assert!(rt; steps >= 7 && steps <= 55, "{steps} steps");
+    assert!(rt; steps == 12, "{steps} steps");
     let Err(fault) = check(&sign, Source::new(b"A[nl2]A")) else {
         panic!(rt; "the string is refused");
     };
-    let (steps, len) = (fault.source.steps(), fault.source.len());
+    // two for each character, of which the last offends, and three and five octets ahead for the tag
+    let (at, steps, len) = (fault.at, fault.source.steps(), fault.source.len());
     assert!(rt;
-        steps >= 7 && steps <= 64 && len == 7,
-        "{steps} steps, {len} octets"
+        (at, steps, len) == (6, 12, 7),
+        "at {at}: {steps} steps, {len} octets"
     );
     Ok(())
 }

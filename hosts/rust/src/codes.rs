@@ -1,6 +1,6 @@
 //! The enumerations of NTCIP 1203 that the library takes and answers with.
 
-use std::fmt;
+use core::fmt;
 
 /// An enumeration by its numbers.
 macro_rules! codes {
@@ -53,6 +53,7 @@ macro_rules! errors {
             }
         }
 
+        #[cfg(feature = "std")]
         impl std::error::Error for $name {}
     )*};
 }

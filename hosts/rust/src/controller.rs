@@ -5,9 +5,11 @@ use crate::error::{done, Error};
 use crate::ffi::{self, Handle};
 use crate::picture::{stride, Picture, Plane, Shown};
 use crate::sign::{Sign, Verdict};
-use std::cell::UnsafeCell;
-use std::fmt;
-use std::ptr::null_mut;
+use alloc::vec;
+use alloc::vec::Vec;
+use core::cell::UnsafeCell;
+use core::fmt;
+use core::ptr::null_mut;
 
 /// The most octets of a text in the table of any sign.
 const MOST_TEXT: usize = 4096;
@@ -246,6 +248,25 @@ pub struct Font {
 }
 
 /// Which message is shown, for how long, and who asks (dmsActivateMessage).
+///
+/// It is made of its fields, or of its 12 octets:
+///
+/// ```
+/// use latsefur::{message_crc, ActivationCode, Error, Memory};
+///
+/// let code = ActivationCode {
+///     duration: 1,
+///     priority: 255,
+///     memory: Memory::Changeable,
+///     number: 1,
+///     crc: message_crc("A", 0, 0),
+///     requester: [127, 0, 0, 1],
+/// };
+/// assert_eq!(ActivationCode::from([0, 1, 255, 3, 0, 1, 0x9a, 0x66, 127, 0, 0, 1]), code);
+/// assert_eq!(ActivationCode::try_from(&code.octets()[..])?, code);
+/// assert!(matches!(ActivationCode::try_from(&code.octets()[1..]), Err(Error::BadLength)));
+/// # Ok::<(), Error>(())
+/// ```
 #[derive(Clone, Copy, Debug, PartialEq, Eq)]
 pub struct ActivationCode {
     /// In minutes; 65,535 has no end.
@@ -271,6 +292,67 @@ impl ActivationCode {
     }
 }
 
+impl From<[u8; 12]> for ActivationCode {
+    fn from([d0, d1, priority, memory, n0, n1, c0, c1, requester @ ..]: [u8; 12]) -> ActivationCode {
+        let (duration, memory) = (u16::from_be_bytes([d0, d1]), memory.into());
+        ActivationCode { duration, priority, memory, number: u16::from_be_bytes([n0, n1]), crc: u16::from_be_bytes([c0, c1]), requester }
+    }
+}
+
+impl TryFrom<&[u8]> for ActivationCode {
+    type Error = Error;
+
+    /// [`Error::BadLength`] for another number of octets.
+    fn try_from(octets: &[u8]) -> Result<ActivationCode, Error> {
+        <[u8; 12]>::try_from(octets).map(ActivationCode::from).map_err(|_| Error::BadLength)
+    }
+}
+
+/// The message that follows a duration (dmsEndDurationMessage).
+///
+/// It is made of its fields, or of its 5 octets:
+///
+/// ```
+/// use latsefur::{EndCode, Memory};
+///
+/// let blank = EndCode { memory: Memory::Blank, number: 1, crc: 0 };
+/// assert_eq!(EndCode::from([7, 0, 1, 0, 0]), blank);
+/// assert_eq!(EndCode::try_from(&blank.octets()[..])?, blank);
+/// # Ok::<(), latsefur::Error>(())
+/// ```
+#[derive(Clone, Copy, Debug, PartialEq, Eq)]
+pub struct EndCode {
+    /// The memory type.
+    pub memory: Memory,
+    /// The number of the message.
+    pub number: u16,
+    /// Its CRC, as of [`message_crc`].
+    pub crc: u16,
+}
+
+impl EndCode {
+    /// The 5 octets of the code, the high octet of each number first.
+    pub fn octets(&self) -> [u8; 5] {
+        let ([n0, n1], [c0, c1]) = (self.number.to_be_bytes(), self.crc.to_be_bytes());
+        [self.memory.number(), n0, n1, c0, c1]
+    }
+}
+
+impl From<[u8; 5]> for EndCode {
+    fn from([memory, n0, n1, c0, c1]: [u8; 5]) -> EndCode {
+        EndCode { memory: memory.into(), number: u16::from_be_bytes([n0, n1]), crc: u16::from_be_bytes([c0, c1]) }
+    }
+}
+
+impl TryFrom<&[u8]> for EndCode {
+    type Error = Error;
+
+    /// [`Error::BadLength`] for another number of octets.
+    fn try_from(octets: &[u8]) -> Result<EndCode, Error> {
+        <[u8; 5]>::try_from(octets).map(EndCode::from).map_err(|_| Error::BadLength)
+    }
+}
+
 /// The CRC of a message's text, beacon and pixel service (dmsMessageCRC), which an activation code has.
 ///
 /// ```
@@ -286,8 +368,9 @@ pub fn message_crc(text: impl AsRef<[u8]>, beacon: u8, pixel_service: u8) -> u16
 ///
 /// Nothing runs between calls: time passes by [`tick`](Controller::tick) alone. It may go to another thread, and is used by one at a time. Its
 /// memory is given back when it is dropped. Commands take it mutably, and questions don't, though those that draw count their steps. Messages
-/// are numbered from 1; any number is taken, and the reply says what the controller thinks of it. Texts, owners and codes are octets: `&[u8]`,
-/// `&str`, `Vec<u8>` and the like.
+/// are numbered from 1; any number is taken, and the reply says what the controller thinks of it. Texts and owners are octets: `&[u8]`, `&str`,
+/// `Vec<u8>` and the like. Codes are an [`ActivationCode`] and an [`EndCode`]. The library needs 64 KiB of stack to make the controller, and 8 KiB
+/// for any other call.
 ///
 /// ```
 /// use latsefur::{message_crc, ActivationCode, Controller, Memory, Reply, Request, Sign};
@@ -308,7 +391,7 @@ pub fn message_crc(text: impl AsRef<[u8]>, beacon: u8, pixel_service: u8) -> u16
 ///     requester: [127, 0, 0, 1],
 /// };
 /// assert_eq!(controller.message(memory, 1)?.crc, code.crc);
-/// controller.activate(code.octets())?.obeyed()?;
+/// controller.activate(code)?.obeyed()?;
 /// assert_eq!(controller.tick(599)?, Reply::Ticked);
 /// assert_eq!(controller.tick(1)?, Reply::Ended);
 /// # Ok::<(), latsefur::Error>(())
@@ -456,25 +539,33 @@ impl Controller {
         self.ask(|handle, reply| unsafe { ffi::latsefur_work(handle, reply) })
     }
 
-    /// Shows a message, named by the 12 octets of an [`ActivationCode`].
+    /// Shows a message.
+    ///
+    /// An end code, or octets that may have any length, are no activation code:
+    ///
+    /// ```compile_fail
+    /// # use latsefur::{Controller, EndCode, Memory, Sign};
+    /// # let mut controller = Controller::new(&Sign::from_file("../../signs/sample.toml").unwrap()).unwrap();
+    /// let _ = controller.activate(EndCode { memory: Memory::Blank, number: 1, crc: 0 });
+    /// ```
     ///
     /// # Errors
     ///
-    /// [`Error::BadLength`] for another number of octets.
-    pub fn activate(&mut self, code: impl AsRef<[u8]>) -> Result<Reply, Error> {
-        let code = code.as_ref();
-        // SAFETY: the octets are those of a slice; the handle and the reply are borrowed by this call alone.
+    /// As [`request`](Controller::request).
+    pub fn activate(&mut self, code: ActivationCode) -> Result<Reply, Error> {
+        let code = code.octets();
+        // SAFETY: the octets are those of an array; the handle and the reply are borrowed by this call alone.
         self.ask(|handle, reply| unsafe { ffi::latsefur_activate(handle, code.as_ptr(), code.len(), reply) })
     }
 
-    /// Names the message that follows a duration, by 5 octets: memory type, number and CRC (dmsEndDurationMessage).
+    /// Names the message that follows a duration. It is checked when the duration ends.
     ///
     /// # Errors
     ///
-    /// [`Error::BadLength`] for another number of octets.
-    pub fn set_end(&mut self, code: impl AsRef<[u8]>) -> Result<Reply, Error> {
-        let code = code.as_ref();
-        // SAFETY: the octets are those of a slice; the handle and the reply are borrowed by this call alone.
+    /// As [`request`](Controller::request).
+    pub fn set_end(&mut self, code: EndCode) -> Result<Reply, Error> {
+        let code = code.octets();
+        // SAFETY: the octets are those of an array; the handle and the reply are borrowed by this call alone.
         self.ask(|handle, reply| unsafe { ffi::latsefur_set_end(handle, code.as_ptr(), code.len(), reply) })
     }
 

@@ -1,8 +1,7 @@
 //! What goes wrong, by name.
 
 use crate::codes::{ActivateError, DefaultError, TableError};
-use std::fmt;
-use std::io;
+use core::fmt;
 
 /// An outcome of the library that gives no answer, or a file that can't be read.
 ///
@@ -12,7 +11,8 @@ use std::io;
 #[non_exhaustive]
 pub enum Error {
     /// The file can't be read.
-    File(io::Error),
+    #[cfg(feature = "std")]
+    File(std::io::Error),
     /// The sign refuses the text.
     TextRefused,
     /// Memory was refused. The same call may succeed later.
@@ -27,7 +27,7 @@ pub enum Error {
     TextTooLong,
     /// The sign is sound, but the message table of its sign file is outside a limit.
     TableFault,
-    /// An activation code hasn't 12 octets, or an end code 5.
+    /// The octets of an activation code aren't 12, or those of an end code 5.
     BadLength,
     /// The number names no default.
     NoDefault,
@@ -46,6 +46,7 @@ pub enum Error {
 impl fmt::Display for Error {
     fn fmt(&self, to: &mut fmt::Formatter<'_>) -> fmt::Result {
         match self {
+            #[cfg(feature = "std")]
             Error::File(fault) => write!(to, "the file can't be read: {fault}"),
             Error::TextRefused => to.write_str("the sign refuses the text"),
             Error::NoMemory => to.write_str("memory was refused"),
@@ -65,6 +66,7 @@ impl fmt::Display for Error {
     }
 }
 
+#[cfg(feature = "std")]
 impl std::error::Error for Error {
     fn source(&self) -> Option<&(dyn std::error::Error + 'static)> {
         match self {

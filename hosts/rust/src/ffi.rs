@@ -1,6 +1,6 @@
 //! The structures and the calls of `hosts/latsefur.h`, field by field.
 
-use std::ffi::c_void;
+use core::ffi::c_void;
 
 #[repr(C)]
 #[derive(Clone, Copy, Debug, Default)]

@@ -9,7 +9,13 @@
 //! println!("{}", sign.check("ROAD[nl]WORK[nl]AHEAD")?); // ok 1
 //! # Ok::<(), latsefur::Error>(())
 //! ```
+//!
+//! Without the feature `std`, which is there by default, the crate needs `core` and `alloc` alone. A sign then comes from octets, and errors are
+//! values with words.
+#![cfg_attr(not(feature = "std"), no_std)]
 #![deny(unsafe_op_in_unsafe_fn)]
+
+extern crate alloc;
 
 mod codes;
 mod controller;
@@ -19,7 +25,7 @@ mod picture;
 mod sign;
 
 pub use codes::{ActivateError, DefaultError, DefaultField, Memory, MultiError, Request, SourceMode, Status, TableError, ValidateError};
-pub use controller::{message_crc, ActivationCode, Controller, Defaults, Display, Font, Frame, Message, Reply, Report, Table};
+pub use controller::{message_crc, ActivationCode, Controller, Defaults, Display, EndCode, Font, Frame, Message, Reply, Report, Table};
 pub use error::Error;
 pub use picture::{Picture, Plane, Shown};
 pub use sign::{Sign, Verdict};

@@ -1,6 +1,8 @@
 //! Pictures: the colour of each pixel, or which pixels have one colour.
 
-use std::fmt;
+use alloc::string::String;
+use alloc::vec::Vec;
+use core::fmt;
 
 /// The colour of every pixel, 0 to 9: black, red, yellow, green, cyan, blue, magenta, white, orange, amber. On a sign of one colour a lit pixel
 /// is 1 and a dark one 0.

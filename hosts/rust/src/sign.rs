@@ -4,8 +4,9 @@ use crate::codes::MultiError;
 use crate::error::{done, Error};
 use crate::ffi;
 use crate::picture::{stride, Picture, Plane, Shown};
-use std::fmt;
-use std::path::Path;
+use alloc::vec;
+use alloc::vec::Vec;
+use core::fmt;
 
 /// What a sign says to a text.
 #[must_use]
@@ -93,7 +94,8 @@ impl Sign {
     /// # Errors
     ///
     /// [`Error::File`] if it can't be read, and those of [`new`](Sign::new).
-    pub fn from_file(path: impl AsRef<Path>) -> Result<Sign, Error> {
+    #[cfg(feature = "std")]
+    pub fn from_file(path: impl AsRef<std::path::Path>) -> Result<Sign, Error> {
         Sign::of(std::fs::read(path).map_err(Error::File)?)
     }
 

@@ -2,7 +2,7 @@
 
 mod common;
 
-use latsefur::{Controller, DefaultField, Error, Memory};
+use latsefur::{ActivationCode, Controller, DefaultField, EndCode, Error, Memory};
 use std::fmt::Display;
 
 /// A number of a script, within its range.
@@ -91,8 +91,8 @@ fn answer(held: &mut Controller, line: &str) -> Option<String> {
         }
         ("clear", 1) => told(held.clear()),
         ("work", 1) => told(held.work()),
-        ("activate", 2) => told(held.activate(octets(words[1])?)),
-        ("end", 2) => told(held.set_end(octets(words[1])?)),
+        ("activate", 2) => told(held.activate(ActivationCode::try_from(&octets(words[1])?[..]).ok()?)),
+        ("end", 2) => told(held.set_end(EndCode::try_from(&octets(words[1])?[..]).ok()?)),
         ("tick", 2) => told(held.tick(number(words[1], u64::from(u32::MAX))? as u32)),
         ("default", 3) => told(held.set_default(field(words[1])?, number(words[2], 255)? as u8)),
         ("row", 3) => place(&words).and_then(|(memory, of)| row(held, memory, of)),

@@ -3,8 +3,8 @@
 mod common;
 
 use latsefur::{
-    message_crc, ActivateError, ActivationCode, Controller, DefaultError, DefaultField, Error, Font, Memory, MultiError, Reply, Request, Sign, Table,
-    TableError, ValidateError, Verdict,
+    message_crc, ActivateError, ActivationCode, Controller, DefaultError, DefaultField, EndCode, Error, Font, Memory, MultiError, Reply, Request,
+    Sign, SourceMode, Table, TableError, ValidateError, Verdict,
 };
 use std::error::Error as _;
 use std::fs;
@@ -29,7 +29,7 @@ fn a_code(crc: u16) -> ActivationCode {
 fn refusals_are_errors_for_who_asks() {
     let mut held = Controller::new(&Sign::new(sample()).unwrap()).unwrap();
     assert!(matches!(held.set_multi(Memory::Changeable, 1, "A").unwrap().obeyed(), Err(Error::Refused(TableError::WrongState))));
-    assert!(matches!(held.activate(a_code(0).octets()).unwrap().obeyed(), Err(Error::NotShown(ActivateError::MessageStatus))));
+    assert!(matches!(held.activate(a_code(0)).unwrap().obeyed(), Err(Error::NotShown(ActivateError::MessageStatus))));
     assert!(matches!(held.set_default(DefaultField::Font, 9).unwrap().obeyed(), Err(Error::NotSet(DefaultError::NoFont))));
     assert!(matches!(held.message(Memory::Changeable, 2), Err(Error::Refused(TableError::Number))));
     assert_eq!(store(&mut held, "A").unwrap().to_string(), "worked 1 4 2 2 0");
@@ -58,7 +58,7 @@ fn numbers_that_say_what_is_wrong_are_errors() {
 fn questions_share_a_controller() {
     let mut held = Controller::new(&Sign::new(sample()).unwrap()).unwrap();
     store(&mut held, "A").unwrap().obeyed().unwrap();
-    held.activate(a_code(message_crc("A", 0, 0)).octets()).unwrap().obeyed().unwrap();
+    held.activate(a_code(message_crc("A", 0, 0))).unwrap().obeyed().unwrap();
     let (first, second) = (&held, &held);
     assert_eq!(first.report().unwrap(), second.report().unwrap());
     assert_eq!(first.report().unwrap().shown_memory, Memory::Changeable);
@@ -83,7 +83,29 @@ fn octets_are_taken_in_each_form() {
     let mut held = Controller::new(&sign).unwrap();
     held.request(Memory::Changeable, 1, Request::Modify).unwrap().obeyed().unwrap();
     held.set_owner(Memory::Changeable, 1, "me").unwrap().obeyed().unwrap();
-    assert_eq!(held.set_end([7, 0, 1, 0, 0]).unwrap(), Reply::Done);
+    assert_eq!(held.set_owner(Memory::Changeable, 1, vec![b'm'; 3]).unwrap(), Reply::Done);
+}
+
+#[test]
+fn codes_are_types_and_octets() {
+    let code = ActivationCode { duration: 0x0102, number: 0x0304, requester: [7, 8, 9, 10], ..a_code(0x0506) };
+    let octets = [1, 2, 255, 3, 3, 4, 5, 6, 7, 8, 9, 10];
+    assert_eq!((code.octets(), ActivationCode::from(octets)), (octets, code));
+    let end = EndCode { memory: Memory::Unlisted(4), number: 0x0102, crc: 0x0304 };
+    assert_eq!((end.octets(), EndCode::from([4, 1, 2, 3, 4])), ([4, 1, 2, 3, 4], end));
+    for length in (0..20).filter(|&length| length != 12) {
+        assert!(matches!(ActivationCode::try_from(&[0; 20][..length]), Err(Error::BadLength)));
+        assert!(matches!(EndCode::try_from(&[0; 20][..length]), Err(Error::BadLength)) || length == 5);
+    }
+    let mut held = Controller::new(&Sign::new(sample()).unwrap()).unwrap();
+    store(&mut held, "A").unwrap().obeyed().unwrap();
+    assert_eq!(held.set_end(EndCode { memory: Memory::Permanent, number: 1, crc: 0 }).unwrap(), Reply::Done);
+    assert_eq!(held.set_end(EndCode { memory: Memory::Changeable, number: 1, crc: message_crc("A", 0, 0) }).unwrap(), Reply::Done);
+    let blank = ActivationCode { memory: Memory::Blank, crc: 0, ..a_code(0) };
+    assert_eq!(held.activate(blank).unwrap(), Reply::Shown);
+    assert_eq!(held.tick(600).unwrap(), Reply::Ended);
+    let report = held.report().unwrap();
+    assert_eq!((report.shown_memory, report.shown_number, report.mode), (Memory::Changeable, 1, SourceMode::EndDuration));
 }
 
 #[test]
@@ -97,7 +119,6 @@ fn errors_have_names() {
     let unsound = Sign::new(sample().replace("slots = 1", "slots = 0")).unwrap();
     assert!(matches!(Controller::new(&unsound), Err(Error::TableFault)));
     let mut held = Controller::new(&sign).unwrap();
-    assert!(matches!(held.activate([]), Err(Error::BadLength)));
     assert!(matches!(held.set_default(DefaultField::Unlisted(0), 1), Err(Error::NoDefault)));
     let fault = Sign::from_file("nowhere").unwrap_err();
     assert!(fault.source().is_some() && fault.to_string().starts_with("the file can't be read"));
@@ -153,7 +174,7 @@ fn a_controller_tells_what_it_holds() {
     assert_eq!(held.plane_of_page(b"A[np]I", 1, 1, 0).unwrap(), sign.plane(b"A[np]I", 1, 30).unwrap());
     assert!(matches!(held.plane_of_page(b"A", 1, 1, 0), Err(Error::NoPage)));
     store(&mut held, "A").unwrap().obeyed().unwrap();
-    assert_eq!(held.activate(a_code(message_crc("A", 0, 0)).octets()).unwrap(), Reply::Shown);
+    assert_eq!(held.activate(a_code(message_crc("A", 0, 0))).unwrap(), Reply::Shown);
     assert_eq!(held.colours().unwrap().picture, sign.colours(b"A", 0).unwrap());
     assert_eq!((held.next_change(u32::MAX).unwrap(), held.next_change(7).unwrap()), (600, 7));
 }

@@ -56,6 +56,6 @@ ReadsOn words sign present item kept lines kept' lines' =
     → IsReadOf words sign (before ++ next ∷ []) kept'.state.area.present kept' lines'
 
 -- the steps that an item took at most, if it was read, behind its first octet (own)
-abbrev pub item_steps : Option NextItem → ℕ
-item_steps None = 0
-item_steps (Some next) = 9 * next.len - 9
+abbrev pub next_steps : Option NextItem → ℕ
+next_steps None = 0
+next_steps (Some next) = 9 * next.len - 9

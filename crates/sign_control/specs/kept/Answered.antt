@@ -1,5 +1,5 @@
 -- What the calls within this crate answer.
-use Rattle.std.specs.Prelude.{◌≡◌, ◌⊎◌, ℕ, Option, Some, None, Result, Ok, Err}
+use Rattle.std.specs.Prelude.{◌≡◌, ◌⊎◌, Result, Ok, Err}
 use Rattle.std.specs.Option.{option_copied}
 use Rattle.sign_font.specs.declared.parts.Defaults.{Defaults}
 use Rattle.message_store.specs.declared.fault.StoreFault.{StoreFault}
@@ -8,7 +8,6 @@ use Rattle.sign_control.specs.declared.code.ActivateError.{ActivateError}
 use Rattle.sign_control.specs.declared.command.Reply.{Reply}
 use Rattle.sign_control.specs.declared.command.Reply.TheVariants as reply
 use Rattle.sign_control.specs.Activation.{CandidateData}
-use Rattle.sign_control.specs.Counts.{IsJudgedIn, JudgedText}
 
 -- the candidate of the code as data (own)
 abbrev pub candidate_of : Candidate → CandidateData
@@ -37,8 +36,3 @@ IsOneOf defaults one other = (defaults ≡ one) ⊎ (defaults ≡ other)
 abbrev pub reply_of : Result (Unit {0}) StoreFault → Reply
 reply_of (Ok done) = reply.Done
 reply_of (Err fault) = reply.Refused fault
-
--- the steps of judging a text, if one was judged; without one there are none (own)
-abbrev pub IsAdded : Option JudgedText → ℕ → Type 0
-IsAdded None steps = steps ≡ 0
-IsAdded (Some judged) steps = IsJudgedIn judged steps

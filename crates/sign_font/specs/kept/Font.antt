@@ -1,5 +1,5 @@
 -- A font as it is kept: what it says of itself, its cells at its height, and tables by which they are found.
-use Rattle.std.specs.Prelude.{ℕ, ◌<◌, ◌≤◌, ◌≡◌, ◌==◌, IsTrue, false, true, List, length, map, find, Option, slice_get, slice_index, option_map, unwrap_or, All}
+use Rattle.std.specs.Prelude.{ℕ, ◌<◌, ◌≤◌, ◌≡◌, ◌==◌, IsTrue, List, length, map, find, Option, slice_get, slice_index, option_map, unwrap_or, All}
 use Rattle.sign_font.specs.declared.font.FontInfo.{FontInfo}
 use Rattle.sign_font.specs.Cell.{SizedCell}
 use Rattle.sign_font.specs.Advance.{AreAdvances}
@@ -54,8 +54,7 @@ pub record AreTables (cells : List SizedCell) (places widths : List ℕ) : Type 
 abbrev pub width_among : List SizedCell → ℕ → Option ℕ
 width_among cells number = option_map (λ cell. cell.width) (find (λ cell. cell.number == number) cells)
 
--- a font that is kept with what octets take of a line by its cells, in runs of all characters and in words (own)
-pub record IsFontKeptWith (info : FontInfo) (cells : List SizedCell) (characters words : List ℕ) : Type 0 where
+-- a font that is kept with what octets take of a line by its cells (own)
+pub record IsFontKeptWith (info : FontInfo) (cells : List SizedCell) (advances : List ℕ) : Type 0 where
   pub font : IsFontKept info cells
-  pub in_characters : AreAdvances (width_among cells) false characters
-  pub in_words : AreAdvances (width_among cells) true words
+  pub in_table : AreAdvances (width_among cells) advances

@@ -1,6 +1,7 @@
 use crate::tests::so;
 use multi_token::{
-    Advances, Bracketed, Kind, Run, Source, Token, TokenFault, next_token, read_bracket,
+    Advances, Bracketed, Entry, Kind, Run, Source, Space, Token, TokenFault, next_token,
+    read_bracket,
 };
 
 /// The tokens of a string up to the end or a fault, as far as a table of four holds them, and the steps.
@@ -117,25 +118,83 @@ fn a_run_ends_at_its_room_or_at_an_octet_that_takes_more(rt: HostRuntime) {
     of[65] = 2;
     of[66] = 3;
     let table = Advances::new(of);
-    let rows: [(usize, u32, u32, u32, Run, u64); 7] = [
-        (0, 1, 0, 7, run(2, 7, Some(b'[')), 6),
-        (0, 1, 0, 6, run(1, 3, Some(b'B')), 4),
-        (0, 0, 0, 1, run(0, 0, Some(b'A')), 2),
-        (0, 1, 4, 7, run(1, 7, Some(b'B')), 4),
-        (2, 0, 0, 9, run(0, 0, Some(b'[')), 2),
-        (3, 0, 0, 9, run(1, 2, None), 3),
-        (4, 0, 5, 9, run(0, 5, None), 1),
+    let rows: [(usize, u32, u32, Run, u64); 6] = [
+        (0, 1, 7, run(2, 7, Some(entry(b'[', 0x8000))), 6),
+        (0, 1, 6, run(1, 3, Some(entry(b'B', 3))), 4),
+        (0, 0, 1, run(0, 0, Some(entry(b'A', 2))), 2),
+        (2, 0, 9, run(0, 0, Some(entry(b'[', 0x8000))), 2),
+        (3, 0, 9, run(1, 2, None), 3),
+        (4, 0, 9, run(0, 0, None), 1),
     ];
-    for (from, gap, width, room, expected, steps) in rows {
+    for (from, gap, room, expected, steps) in rows {
         let mut source = Source::new(b"AB[A");
-        let found = source.read_run(from, &table, gap, width, room);
+        let found = source.read_run(from, &table, gap, room);
         assert!(rt; found == expected, "from {from}");
         assert!(rt; source.steps() == steps, "from {from}");
+        let mut source = Source::new(b"AB[A");
+        let (words, space) = source.read_words(from, &table, gap, room);
+        assert!(rt; (words, space) == (expected, None), "from {from}");
+        assert!(rt; source.steps() == steps, "from {from}");
+    }
+    let rows = [
+        (0, Some(entry(b'A', 2)), 2),
+        (2, Some(entry(b'[', 0x8000)), 2),
+        (4, None, 1),
+    ];
+    for (at, expected, steps) in rows {
+        let mut source = Source::new(b"AB[A");
+        assert!(rt; source.look(at, &table) == expected, "at {at}");
+        assert!(rt; source.steps() == steps, "at {at}");
     }
 }
 
-fn run(len: usize, width: u32, next: Option<u8>) -> Run {
+#[test]
+fn a_run_tells_its_last_space(rt: HostRuntime) {
+    // an A takes 2 and a space 1, each with a gap of one before it
+    let mut of = [0x8000; 256];
+    of[65] = 2;
+    of[32] = 1;
+    let table = Advances::new(of);
+    let rows: [(&[u8], u32, Run, Option<Space>, u64); 4] = [
+        (b"AA", 9, run(2, 6, None), None, 5),
+        (b"A A", 9, run(3, 8, None), Some(space(1, 3, 5)), 7),
+        (
+            b"A  A",
+            9,
+            run(3, 7, Some(entry(b'A', 2))),
+            Some(space(2, 5, 7)),
+            8,
+        ),
+        (
+            b" A",
+            2,
+            run(1, 2, Some(entry(b'A', 2))),
+            Some(space(0, 0, 2)),
+            4,
+        ),
+    ];
+    for (octets, room, expected, last, steps) in rows {
+        let mut source = Source::new(octets);
+        let found = source.read_words(0, &table, 1, room);
+        assert!(rt; found == (expected, last), "of {octets:?}");
+        assert!(rt; source.steps() == steps, "of {octets:?}");
+    }
+}
+
+fn run(len: usize, width: u32, next: Option<Entry>) -> Run {
     Run { len, width, next }
+}
+
+fn entry(octet: u8, advance: u16) -> Entry {
+    Entry { octet, advance }
+}
+
+fn space(at: usize, before: u32, through: u32) -> Space {
+    Space {
+        at,
+        before,
+        through,
+    }
 }
 
 #[test]

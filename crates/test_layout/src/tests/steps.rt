@@ -18,10 +18,6 @@ struct Walk {
     at: usize,
     /// The number of the font in force.
     font: u8,
-    /// The looks of runs beside those of their octets: each looks up its font, and the bracket that ends it.
-    runs: u64,
-    /// Whether the last item is an octet that stands for itself.
-    in_run: bool,
 }
 
 impl Walk {
@@ -30,8 +26,6 @@ impl Walk {
         Walk {
             at: 0,
             font: sign.default_font().number,
-            runs: 0,
-            in_run: false,
         }
     }
 
@@ -50,11 +44,6 @@ impl Walk {
             return None;
         };
         self.at = at.saturating_add(len);
-        let in_run = len == 1;
-        if in_run != self.in_run {
-            self.runs = self.runs.saturating_add(1);
-            self.in_run = in_run;
-        }
         Some(item)
     }
 
@@ -169,19 +158,129 @@ fn is_setting(item: Tag) -> bool {
     )
 }
 
-/// The steps of judging a string whose lines aren't filled: each octet is read once, the end too, the octet behind each bracket
-/// twice, with each tag 26 octets more or as many as there are, and each cell and font is looked up once; then the looks of the
-/// runs.
+/// The steps of judging a string: of each item the first octet is read and looked up, which is all for an octet that stands for
+/// itself; the octet behind each bracket is read, with each tag 26 octets more or as many as there are, and each cell and font is
+/// looked up once. The end is read.
 fn judged(sign: &Sign, octets: &[u8]) -> u64 {
     let mut source = Source::new(octets);
     let mut walk = Walk::new(sign);
     for _ in 0..=octets.len() {
+        let here = walk.at;
         let Some(item) = walk.read(&mut source) else {
             break;
         };
-        walk.look(sign, &mut source, item);
+        source.charge(1);
+        if walk.at.saturating_sub(here) > 1 {
+            walk.look(sign, &mut source, item);
+        }
     }
-    source.steps().saturating_add(walk.runs)
+    source.steps()
+}
+
+/// Whether an octet is a bracket.
+fn is_bracket(octet: u8) -> bool {
+    octet == b'[' || octet == b']'
+}
+
+/// The octets of what begins at an offset, and the steps of judging it: two for an octet that stands for itself, and two more for a
+/// doubled bracket; three for any other bracket. For an opening one also 26 octets ahead, or as many as there are: for a tag its looks
+/// then, and where it is at fault its body and its bracket once more, and up to three octets for its name. A broken one goes on to the
+/// next bracket or the end.
+fn item(octets: &[u8], at: usize) -> (usize, u64) {
+    let Some(first) = octets.get(at).copied() else {
+        return (0, 1);
+    };
+    if !is_bracket(first) {
+        return (1, 2);
+    }
+    let behind = at.saturating_add(1);
+    if octets.get(behind) == Some(&first) {
+        return (2, 4);
+    }
+    if first != b'[' {
+        return (1, 3);
+    }
+    let left = octets.len().saturating_sub(behind) as u64;
+    let ahead = 3u64.saturating_add(left.min(26));
+    let mut end = behind;
+    for octet in octets.iter().skip(behind) {
+        if is_bracket(*octet) {
+            break;
+        }
+        end = end.saturating_add(1);
+    }
+    let body = end.saturating_sub(behind) as u64;
+    if body == 0 || octets.get(end) != Some(&b']') {
+        return (1, ahead.saturating_add(body).saturating_add(1));
+    }
+    let more = match read_ahead(&mut Source::new(octets), at) {
+        None => body.saturating_add(1).saturating_add(body.min(3)),
+        Some((Tag::HexChar(number), _)) if number > 255 => 8,
+        Some((Tag::HexChar(_), _)) | Some((Tag::Font(Some(_)), _)) => 1,
+        Some(_) => 0,
+    };
+    let len = end.saturating_sub(at).saturating_add(1);
+    (len, ahead.saturating_add(more))
+}
+
+/// The steps of judging a string up to the item at which it is refused, or to its end.
+fn up_to(octets: &[u8], offence: Option<usize>) -> u64 {
+    let (mut at, mut steps) = (0usize, 0u64);
+    for _ in 0..=octets.len() {
+        let (len, taken) = item(octets, at);
+        steps = steps.saturating_add(taken);
+        if len == 0 || offence == Some(at) {
+            break;
+        }
+        at = at.saturating_add(len);
+    }
+    steps
+}
+
+/// A row of a string, the offset at which the sample sign refuses it, and the steps of judging it.
+type Judging = (&'static [u8], Option<usize>, u64);
+
+#[test]
+fn each_item_takes_its_steps_up_to_the_first_offence(rt: HostRuntime) -> Result<(), Fail> {
+    let rows: [Judging; 26] = [
+        (b"", None, 1),
+        (b"A", None, 3),
+        (b"AAI", None, 7),
+        (b"AAAA", Some(3), 8),
+        (b"AAAAA", Some(3), 8),
+        (b"B", Some(0), 2),
+        (b"[[[[", None, 9),
+        (b"]]", None, 5),
+        (b"]", Some(0), 3),
+        (b"A]A", Some(1), 5),
+        (b"[", Some(0), 4),
+        (b"A[", Some(1), 6),
+        (b"[nl", Some(0), 8),
+        (b"[nl[", Some(0), 9),
+        (b"[]A", Some(0), 6),
+        (b"[nx]", Some(0), 11),
+        (b"[nlx]", Some(0), 14),
+        (b"[hc41]", None, 10),
+        (b"[hcffff]", Some(0), 18),
+        (b"[fo2]A", None, 12),
+        (b"[fo9]A", Some(0), 9),
+        (b"[fo2,0001]", Some(0), 13),
+        (b"[fo]A", None, 10),
+        (b"[np]AAA", None, 16),
+        (b"[np]AAA[np]A", Some(7), 27),
+        (b"[cf1][cf1][cf1][cf1][cf1][cf1]", None, 115),
+    ];
+    let sign = Sign::new(rt.alloc(), sample_sign(rt.alloc())?)?;
+    for (octets, offence, steps) in rows {
+        assert!(rt; octets.len() <= 100);
+        let found = match check(&sign, Source::new(octets)) {
+            Ok(checked) => (None, checked.steps()),
+            Err(fault) => (Some(fault.at), fault.source.steps()),
+        };
+        assert!(rt; found == (offence, steps), "{octets:?}: {found:?}");
+        assert!(rt; up_to(octets, offence) == steps, "{octets:?}");
+    }
+    Ok(())
 }
 
 /// The steps of finding this page by the clock: the items are read up to its end.
@@ -216,9 +315,6 @@ struct Row {
     octets: &'static [u8],
     clock: u64,
     page: u8,
-    /// What spaces and octets without room take more than others: they end a run, and are looked at once more, a space without
-    /// room twice; what has no room looks up its font, and so does what stands behind a dropped space.
-    again: u64,
     /// The spaces of the page that are dropped: to draw them no cell is looked up.
     dropped: u64,
 }
@@ -227,9 +323,9 @@ struct Row {
 fn assert_row(rt: &impl Abort, alloc: Global, sign: &Sign, row: &Row) -> Result<(), Fail> {
     let Row {
         octets,
+        clock,
         page,
         dropped,
-        ..
     } = *row;
     let mut plane = Plane::new(alloc, sign.width(), sign.height())?;
     assert!(rt; octets.len() <= 100);
@@ -237,13 +333,13 @@ fn assert_row(rt: &impl Abort, alloc: Global, sign: &Sign, row: &Row) -> Result<
         panic!(rt; "{octets:?} is accepted");
     };
     let judging = checked.steps();
-    let want = judged(sign, octets).saturating_add(row.again);
+    let want = judged(sign, octets);
     assert!(rt;
         judging == want,
         "{octets:?} is judged in {judging} steps, not {want}"
     );
 
-    let shown = checked.locate(row.clock);
+    let shown = checked.locate(clock);
     so(
         rt,
         matches!(shown, Shown::Page { page: number, .. } if number == page),
@@ -277,16 +373,15 @@ fn assert_row(rt: &impl Abort, alloc: Global, sign: &Sign, row: &Row) -> Result<
 
 /// A row of a string without breaks of filling.
 fn plain(octets: &'static [u8], clock: u64, page: u8) -> Row {
-    filled(octets, clock, page, 0, 0)
+    filled(octets, clock, page, 0)
 }
 
 /// A row of a string with breaks of filling.
-fn filled(octets: &'static [u8], clock: u64, page: u8, again: u64, dropped: u64) -> Row {
+fn filled(octets: &'static [u8], clock: u64, page: u8, dropped: u64) -> Row {
     Row {
         octets,
         clock,
         page,
-        again,
         dropped,
     }
 }
@@ -320,14 +415,13 @@ fn each_step_is_a_read_or_a_look(rt: HostRuntime) -> Result<(), Fail> {
     }
 
     let rows = [
-        filled(b"AA AA", 0, 0, 3, 1),
-        filled(b"A A A", 0, 0, 5, 1),
-        filled(b" AAA", 0, 0, 2, 1),
-        filled(b"AA[hc20]AA", 0, 0, 0, 1),
-        filled(b"[jl2]A A[jl4]AA", 0, 0, 1, 1),
-        // behind its dropped space no run begins, so that the bracket isn't looked at
-        filled(b"[jp2]AAA [jp4]A", 0, 0, 2, 1),
-        filled(b"[tr1,1,3,0]A A[np]AA AA", 30, 1, 7, 1),
+        filled(b"AA AA", 0, 0, 1),
+        filled(b"A A A", 0, 0, 1),
+        filled(b" AAA", 0, 0, 1),
+        filled(b"AA[hc20]AA", 0, 0, 1),
+        filled(b"[jl2]A A[jl4]AA", 0, 0, 1),
+        filled(b"[jp2]AAA [jp4]A", 0, 0, 1),
+        filled(b"[tr1,1,3,0]A A[np]AA AA", 30, 1, 1),
         plain(b"AAA[nl] A", 0, 0),
     ];
     parts.line_fill = LineFill::Words;

@@ -44,7 +44,8 @@ fn with_full_font(alloc: Global) -> Result<Sign, Fail> {
 fn a_wide_number_takes_few_steps(rt: HostRuntime) -> Result<(), Fail> {
     let sign = with_full_font(rt.alloc())?;
     let mut plane = Plane::new(rt.alloc(), sign.width(), sign.height())?;
-    // the bracket is read, the octet behind it, the seven ahead, and the end; the last of 255 cells is the eighth that is looked at
+    // the bracket is read and looked up, the octet behind it is read, and the seven ahead; the search for the cell takes eight, and the
+    // end is read
     let Ok(mut checked) = check(&sign, Source::new(b"[hcffff]")) else {
         panic!(rt; "the string is accepted");
     };
@@ -52,7 +53,7 @@ fn a_wide_number_takes_few_steps(rt: HostRuntime) -> Result<(), Fail> {
     checked.draw(0, 0, 1, &mut plane);
     let read = checked.steps();
     assert!(rt;
-        judged == 18 && read <= 18 + 146,
+        judged == 19 && read <= 19 + 146,
         "{judged} steps, and then {read}"
     );
     let Err(fault) = check(&sign, Source::new(b"[hcfffe]")) else {
@@ -60,7 +61,7 @@ fn a_wide_number_takes_few_steps(rt: HostRuntime) -> Result<(), Fail> {
     };
     so(
         &rt,
-        (fault.code, fault.at, fault.source.steps()) == (7, 0, 17),
+        (fault.code, fault.at, fault.source.steps()) == (7, 0, 18),
         "there is no such cell",
     );
     Ok(())

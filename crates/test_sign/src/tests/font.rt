@@ -1,5 +1,5 @@
 use crate::tests::so;
-use multi_token::{Run, Source};
+use multi_token::{Entry, Run, Source};
 use sign_font::{
     CellPart, DefaultFault, Defaults, FontInfo, FontPart, LineFill, Sign, SignParts, sample_sign,
 };
@@ -164,18 +164,17 @@ fn only_making_a_sign_takes_memory(rt: HostRuntime) {
         & sign.cell(&mut source, 2, 65).is_some_and(|cell| cell.row(0) == 6 << 60
             && cell.bit(1, 0)
             && cell.width() == 4);
-    // of the five cells the third is looked at, and then the fifth, above which there is none; a font that isn't there is looked for
-    let wide = look(&sign, 1, 65535) == (None, 2) && look(&sign, 9, 65535) == (None, 1);
+    // a search takes eight steps, whatever it finds, and in whatever font
+    let wide = look(&sign, 1, 65535) == (None, 8) && look(&sign, 9, 65535) == (None, 8);
     // an A of 3 columns and an I of one, each with a gap of one before it
     let mut text = Source::new(b"AIA");
-    let whole = sign.cells(&mut text, 1).is_some_and(|cells| text.read_run(
-        0,
-        cells.advances(false),
-        1,
-        0,
-        6,
-    ) == run(2, 6, Some(65))
-        && cells.width(&mut text, 65) == Some(3));
+    let whole = sign.cells(&mut text, 1).is_some_and(|cells| {
+        let found = text.read_run(0, cells.advances(), 1, 6);
+        found == run(2, 6, Some(entry(65, 3)))
+            && found
+                .next
+                .is_some_and(|entry| cells.width_of(entry) == Some(3))
+    });
     so(&rt, large & wide & whole, "large & wide & whole");
     let own = sign.defaults();
     so(
@@ -272,39 +271,36 @@ fn the_cells_of_a_are_drawn_row_by_row(rt: HostRuntime) -> Result<(), Fail> {
 fn a_run_is_as_wide_as_its_cells_and_gaps(rt: HostRuntime) -> Result<(), Fail> {
     let sign = Sign::new(rt.alloc(), with_widths(rt.alloc())?)?;
     // in font 2 an A is 2 columns wide, a B is 3 and a space is 33; there is no octet 0, and no font 9
-    let rows: [(bool, &[u8], u32, u32, Run, u64); 8] = [
-        (false, b"AB", 1, 7, run(2, 7, None), 6),
-        (false, b"AB", 1, 6, run(1, 3, Some(b'B')), 5),
-        (false, b"AB", 1, 2, run(0, 0, Some(b'A')), 3),
-        (false, b"A\0B", 0, 9, run(1, 2, Some(0)), 5),
-        (false, b"A[B", 0, 9, run(1, 2, Some(b'[')), 5),
-        (false, b"A B A", 1, 900, run(5, 78, None), 12),
-        (true, b"A B A", 1, 900, run(1, 3, Some(b' ')), 5),
-        (true, b"BA]", 1, 900, run(2, 7, Some(b']')), 7),
+    let rows: [(&[u8], u32, u32, Run, u64); 7] = [
+        (b"AB", 1, 7, run(2, 7, None), 6),
+        (b"AB", 1, 6, run(1, 3, Some(entry(b'B', 3))), 5),
+        (b"AB", 1, 2, run(0, 0, Some(entry(b'A', 2))), 3),
+        (b"A\0B", 0, 9, run(1, 2, Some(entry(0, 0x8000))), 5),
+        (b"A[B", 0, 9, run(1, 2, Some(entry(b'[', 0x8000))), 5),
+        (b"A B A", 1, 900, run(5, 78, None), 12),
+        (b"BA]", 1, 900, run(2, 7, Some(entry(b']', 0x8000))), 7),
     ];
-    for (words, text, gap, room, expected, steps) in rows {
+    for (text, gap, room, expected, steps) in rows {
         let mut source = Source::new(text);
         let Some(cells) = sign.cells(&mut source, 2) else {
             panic!(rt; "there is a font 2");
         };
-        let found = source.read_run(0, cells.advances(words), gap, 0, room);
+        let found = source.read_run(0, cells.advances(), gap, room);
         assert!(rt; found == expected, "of {text:?}");
         assert!(rt; source.steps() == steps, "over {text:?}");
     }
     let mut source = Source::new(b"AB");
     let none = sign.cells(&mut source, 9).is_none();
     so(&rt, none && source.steps() == 1, "there is no font 9");
-    // the font is one step, and each look at a cell
-    let mut source = Source::new(b"");
-    let found = sign.cells(&mut source, 2).is_some_and(|cells| {
-        cells.width(&mut source, b'A') == Some(2) && cells.width(&mut source, 0).is_none()
-    });
-    so(&rt, found && source.steps() == 3, "a cell and none");
     Ok(())
 }
 
-fn run(len: usize, width: u32, next: Option<u8>) -> Run {
+fn run(len: usize, width: u32, next: Option<Entry>) -> Run {
     Run { len, width, next }
+}
+
+fn entry(octet: u8, advance: u16) -> Entry {
+    Entry { octet, advance }
 }
 
 #[test]
@@ -323,21 +319,11 @@ fn each_octet_finds_its_own_cell_and_width_in_one_step(rt: HostRuntime) -> Resul
 }
 
 #[test]
-fn each_wide_number_finds_its_own_cell_in_at_most_eight_steps(rt: HostRuntime) -> Result<(), Fail> {
+fn each_wide_number_finds_its_own_cell_in_eight_steps(rt: HostRuntime) -> Result<(), Fail> {
     let sign = Sign::new(rt.alloc(), with_wide_numbers(rt.alloc())?)?;
-    let mut together = 0;
     for place in 1..=255u8 {
-        let (width, steps) = look(&sign, 2, u16::from(place).wrapping_mul(257));
-        let own = width == Some(place % 64 + 1) && (1..=8).contains(&steps);
-        assert!(rt; own, "{steps} steps at place {place}");
-        together = steps.wrapping_add(together);
-    }
-    // halves of 255 cells: one is found at the first look, two at the second, and so on up to 128 at the eighth
-    so(&rt, together == 1793, "the steps together");
-    // the cell in the middle, those in the middle of its halves, and the first and the last cell
-    for (number, steps) in [(32896, 1), (16448, 2), (49344, 2), (257, 8), (65535, 8)] {
-        let (_, taken) = look(&sign, 2, number);
-        assert!(rt; taken == steps, "cell {number}");
+        let found = look(&sign, 2, u16::from(place).wrapping_mul(257));
+        assert!(rt; found == (Some(place % 64 + 1), 8), "at place {place}");
     }
     for number in [256, 258, 513, 32895, 32897, 65279, 65534] {
         assert!(rt; look(&sign, 2, number) == (None, 8), "no cell {number}");

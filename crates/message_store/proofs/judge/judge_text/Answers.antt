@@ -1,9 +1,9 @@
-use Rattle.std.proofs.Common.{◌≡◌, ap, arith, length, ℕ}
+use Rattle.std.proofs.Common.{◌≡◌, ap, ℕ}
 use Rattle.multi_token.specs.Counted.{Counted}
 use Rattle.sign_font.specs.Defaults.{under}
 use Rattle.multi_meaning.specs.Verdict.{Accepted, Refused, verdict}
 use Rattle.message_store.specs.Judged.{error_of, is_accepted, position_of}
-use Rattle.message_store.proofs.WorkLemmas.{judged_in, verdict_is}
+use Rattle.message_store.proofs.WorkLemmas.{verdict_is}
 use Rattle.message_store.proofs.judge.judge_text.Goals as goal
 
 accepted : (c : goal.After-steps) → (pages : ℕ) × (Accepted pages ≡ verdict (under c.args.sign.now c.args.defaults) c.args.text.now)
@@ -24,11 +24,6 @@ returns-in-Ok-clause-error c = ap error_of (accepted c).1
 pub returns-in-Ok-clause-position : goal.returns-in-Ok-clause-position
 returns-in-Ok-clause-position c = ap position_of (accepted c).1
 
-pub returns-in-Ok-clause-steps : goal.returns-in-Ok-clause-steps
-returns-in-Ok-clause-steps c =
-    let (pages, is) = accepted c in
-    judged_in (under c.args.sign.now c.args.defaults) c.args.text.now (Accepted pages) c.steps.result is (omega (arith, c.in-Ok.ensures.steps, c.steps.ensures, ap (λ (s : Counted). length s.octets) c.new.ensures, ap (λ (s : Counted). s.steps) c.new.ensures)) (omega (arith, c.in-Ok.ensures.steps, c.steps.ensures, ap (λ (s : Counted). length s.octets) c.new.ensures, ap (λ (s : Counted). s.steps) c.new.ensures))
-
 pub returns-in-Err-clause-accepted : goal.returns-in-Err-clause-accepted
 returns-in-Err-clause-accepted c = ap is_accepted (refused c)
 
@@ -37,8 +32,3 @@ returns-in-Err-clause-error c = ap error_of (refused c)
 
 pub returns-in-Err-clause-position : goal.returns-in-Err-clause-position
 returns-in-Err-clause-position c = ap position_of (refused c)
-
-pub returns-in-Err-clause-steps : goal.returns-in-Err-clause-steps
-returns-in-Err-clause-steps c =
-    judged_in (under c.args.sign.now c.args.defaults) c.args.text.now (Refused c.in-Err.fault.code c.in-Err.fault.at) c.steps-in-Err.result (refused c)
-    (omega (arith, c.in-Err.ensures.fault_steps, c.steps-in-Err.ensures, ap (λ (s : Counted). length s.octets) c.new.ensures, ap (λ (s : Counted). s.steps) c.new.ensures)) (omega (arith, c.in-Err.ensures.fault_steps, c.steps-in-Err.ensures, ap (λ (s : Counted). length s.octets) c.new.ensures, ap (λ (s : Counted). s.steps) c.new.ensures))

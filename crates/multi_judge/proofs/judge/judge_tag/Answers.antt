@@ -1,5 +1,4 @@
-use Rattle.multi_judge.proofs.Lemmas.{◌≡◌, false, true, rectangle, Attributes, judged-rectangle, state-rectangle, ◌+◌, ◌<◌, ◌≤◌, arith, rules, lt-ltb, le-ltb, SignData, judged-page, state-page, None, Option, Some, cond, ℕ, not, subst, ap, refl, sym, ◌∙◌, le-leb, lt-leb, spots, standing, judged-simple, simple_of, break_judged, line_end, page_here, placed_conflict, spot_of}
-use Rattle.multi_judge.proofs.Common.{cases_Bool, is_inside, IsSmall}
+use Rattle.multi_judge.proofs.Lemmas.{◌≡◌, false, true, rectangle, Attributes, judged-rectangle, state-rectangle, ◌+◌, ◌<◌, ◌≤◌, arith, rules, lt-ltb, le-ltb, SignData, judged-page, state-page, None, Option, Some, cond, ℕ, not, subst, ap, refl, sym, ◌∙◌, le-leb, lt-leb, spots, standing, judged-simple, simple_of, break_judged, line_end, page_here, placed_conflict, spot_of, cases_Bool, is_inside, IsSmall}
 use Rattle.multi_judge.proofs.judge.judge_tag.Goals as goal
 
 pub returns-then-not-put_break-clause-judged : goal.returns-then-not-put_break-clause-judged

@@ -1,13 +1,9 @@
-use Rattle.multi_judge.proofs.Lemmas.{◌≡◌, ◌≤◌, ◌<◌, ◌^◌, ◌-◌, line_is_there, look_up, line_number, arith, length, count_by, is_break, Option, Some, None, option_map_or, rules, CountedLine, refl, ap, subst, ◌∙◌, page_number, Spot, area_of, group_of, lines_of, line_before, largest, Attributes, column_is, group_with, height_found, part_with, place_from, UnwrapsOrElse}
-use Rattle.multi_judge.specs.contracts.table.CountedLineDefault.TheImpl.{is_default-value}
-use Rattle.multi_judge.proofs.PlaceLemmas.{own_entry, table_length}
+use Rattle.multi_judge.proofs.Lemmas.{◌≡◌, ◌≤◌, ◌<◌, ◌^◌, ◌-◌, line_is_there, look_up, line_number, arith, length, count_by, is_break, Option, option_map_or, rules, CountedLine, refl, ap, subst, ◌∙◌, page_number, Spot, area_of, group_of, lines_of, line_before, largest, Attributes, column_is, group_with, height_found, part_with, place_from, UnwrapsOrElse, is_default-value, own_entry, table_length, min}
 use Rattle.multi_judge.specs.Table.{width_in}
-use Rattle.std.specs.Prelude.{min}
 use Rattle.multi_judge.proofs.place.place_at.Goals as goal
 
 bottom_if : (o : Option CountedLine) (l : CountedLine) → UnwrapsOrElse o is_default-value.it l → l.bottom ≡ option_map_or (λ (l : CountedLine). l.bottom) o 0
-bottom_if None l is = search rules
-bottom_if (Some k) l is = search rules
+bottom_if o l is = search rules
 
 pub returns-clause-place : goal.returns-clause-place
 returns-clause-place c before all rest spot glyph at width area lines joins apart order =

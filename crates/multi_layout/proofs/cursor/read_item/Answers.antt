@@ -1,4 +1,4 @@
-use Rattle.multi_layout.proofs.Common.{sym, ◌∙◌, arith, slice_get_within, code_of}
+use Rattle.multi_layout.proofs.Common.{◌≡◌, ℕ, sym, ◌∙◌, arith, slice_get_within, code_of, Faulty, KnownItem, meant_by, fault_there, item_few}
 use Rattle.multi_layout.proofs.WalkLemmas.{no_bracket, no_fault, octet_item}
 use Rattle.multi_layout.proofs.cursor.read_item.Goals as goal
 
@@ -11,4 +11,14 @@ pub unreachable-requires : goal.unreachable-requires
 unreachable-requires c =
     let (sign, before, behind, p) = c.requires.within in
     let octets = c.args.source.now.octets in
-    no_fault sign octets before behind c.args.at (code_of c.in_default.field-0) p (slice_get_within octets c.args.at c.args.first c.requires.stands) c.in_default.ensures.fault
+    let (steps, reads, fault) = c.in_default.ensures.fault in
+    no_fault sign octets before behind c.args.at (code_of c.in_default.field-0) p (slice_get_within octets c.args.at c.args.first c.requires.stands) (fault_there steps fault)
+
+-- no item that was read is at fault
+sound : (item : KnownItem) (code : ℕ) → meant_by item ≡ Faulty code → ⊥
+sound item code is = grind (arith)
+
+pub returns-clause-steps : goal.returns-clause-steps
+returns-clause-steps c =
+    let (steps, reads, item) = c.in-Ok.ensures.item in
+    (steps, omega arith, (item_few (sound c.in-Ok.next.item) item).1, reads)

@@ -1,8 +1,6 @@
-use Rattle.multi_layout.proofs.Common.{◌-◌, ◌==◌, true, false, refl, sym, ap, ◌∙◌, arith, cond, nat_tests, is_lit, cell_in, is_lit_at, shown_colour, Attributes}
-use Rattle.multi_meaning.proofs.DrawnLemmas.{put_rows_of}
+use Rattle.multi_layout.proofs.Common.{◌-◌, ◌==◌, true, false, refl, sym, ap, ◌∙◌, arith, cond, nat_tests, is_lit, cell_in, is_lit_at, shown_colour, Attributes, put_rows_of}
 use Rattle.multi_layout.proofs.DrawLemmas.{character_put}
 use Rattle.multi_layout.proofs.paint.put_character.Goals as goal
-use Rattle.multi_layout.proofs.paint.put_character.Goals.{then-column-columns-via-then-column-columns, then-column-columns-via-else-column-columns+then-row-rows}
 
 pub returns-then-not-is_lit-clause-drawn : goal.returns-then-not-is_lit-clause-drawn
 returns-then-not-is_lit-clause-drawn c = λ before rest state number st same found stands.
@@ -15,8 +13,8 @@ returns-then-column-columns-clause-drawn c = λ before rest state number st same
     c.args.plane.now c.args.plane.now c.has-on.result true (ap (λ (a : Attributes). is_lit_at c.args.layer.phase a.flash) same ∙ sym c.is_lit.ensures ∙ c.if-not-is_lit.false)
     (c.has-on.ensures.colour ∙ ap (λ (a : Attributes). shown_colour c.args.sign.now a.fore == c.args.layer.colour) (sym same)) refl refl
     (λ x y across down. elim c.then-column-columns.branch [
-      | then-column-columns-via-then-column-columns w ↦ grind (arith, nat_tests, w.if-column-columns.true)
-      | then-column-columns-via-else-column-columns+then-row-rows w ↦ grind (arith, nat_tests, w.if-row-rows.true)
+      | goal.then-column-columns-via-then-column-columns w ↦ grind (arith, nat_tests, w.if-column-columns.true)
+      | goal.then-column-columns-via-else-column-columns+then-row-rows w ↦ grind (arith, nat_tests, w.if-row-rows.true)
     ])
 
 pub returns-clause-drawn : goal.returns-clause-drawn

@@ -1,5 +1,4 @@
-use Rattle.multi_layout.proofs.Common.{◌≡◌, height_of, lines_of, ◌+◌, refl, ap, ◌∙◌, arith, after_last, in_group, is_break, placing_group, Area, group_of_own, open_entry}
-use Rattle.multi_judge.proofs.AreaSumLemmas.{group_known, group_there, own_line}
+use Rattle.multi_layout.proofs.Common.{◌≡◌, height_of, lines_of, ◌+◌, refl, ap, ◌∙◌, arith, after_last, in_group, is_break, placing_group, Area, group_of_own, open_entry, group_known, group_there, own_line}
 use Rattle.multi_layout.proofs.KnownLinesLemmas.{behind_empty, known_later, last_known, last_room, nothing_left}
 use Rattle.multi_layout.proofs.read.end_group.Goals as goal
 

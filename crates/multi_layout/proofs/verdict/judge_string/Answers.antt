@@ -25,9 +25,9 @@ returns-clause-told c =
     let octets = c.args.source.now.octets in
     rw c.whole_cycle-cycle.ensures (elim c.match-line_fill.branch [
       | in-Off+in_ok-judge_items-in-Off w ↦
-          let (at, ended) = w.in_ok-judge_items-in-Off.ensures.ended in
-          pass_told sign octets at c.match-line_fill.pass false c.match-line_fill.source (rw (← w.pass-is, ← w.source-is) at ended)
+          let (at, font, ended) = w.in_ok-judge_items-in-Off.ensures.ended in
+          pass_told sign octets at font c.match-line_fill.pass false c.match-line_fill.source (rw (← w.pass-is, ← w.source-is) at ended)
       | in-Words+in_ok-judge_items-in-Words w ↦
-          let (at, ended) = w.in_ok-judge_items-in-Words.ensures.ended in
-          pass_told sign octets at c.match-line_fill.pass true c.match-line_fill.source (rw (← w.pass-is, ← w.source-is) at ended)
+          let (at, font, ended) = w.in_ok-judge_items-in-Words.ensures.ended in
+          pass_told sign octets at font c.match-line_fill.pass true c.match-line_fill.source (rw (← w.pass-is, ← w.source-is) at ended)
     ])

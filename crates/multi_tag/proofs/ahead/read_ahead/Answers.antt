@@ -1,8 +1,7 @@
-use Rattle.std.proofs.Common.{◌≡◌, ◌+◌, ◌-◌, length, ap, ◌∙◌, subst, length-take, length-drop}
-use Rattle.std.specs.Prelude.{min}
+use Rattle.std.proofs.Common.{◌+◌, ap, ◌∙◌, subst}
 use Rattle.multi_token.specs.Counted.{charged}
 use Rattle.multi_tag.specs.Closed.{IsClosedTag, HasNoClosedTag}
-use Rattle.multi_tag.proofs.AheadLemmas.{tag_there, no_tag_there}
+use Rattle.multi_tag.proofs.AheadLemmas.{front_length, tag_there, no_tag_there}
 use Rattle.multi_tag.proofs.ahead.read_ahead.Goals as goal
 
 pub returns-in_err-tag-clause-none : goal.returns-in_err-tag-clause-none
@@ -11,9 +10,7 @@ returns-in_err-tag-clause-none c =
 
 pub returns-in_err-tag-clause-steps : goal.returns-in_err-tag-clause-steps
 returns-in_err-tag-clause-steps c =
-    let xs = c.args.source.now.octets in
-    let few : length c.ahead.result.now ≡ min 26 (length xs - (c.args.at + 1)) = rw (c.ahead.ensures.octets, length-take, length-drop) in
-    c.ahead.follows.holds-at-none ∙ ap (charged c.args.source.now) few
+    c.ahead.follows.holds-at-none ∙ ap (charged c.args.source.now) (front_length 26 (c.args.at + 1) c.args.source.now.octets c.ahead.result.now c.ahead.ensures.octets)
 
 pub returns-clause-some : goal.returns-clause-some
 returns-clause-some c =
@@ -21,6 +18,4 @@ returns-clause-some c =
 
 pub returns-clause-steps : goal.returns-clause-steps
 returns-clause-steps c =
-    let xs = c.args.source.now.octets in
-    let few : length c.ahead.result.now ≡ min 26 (length xs - (c.args.at + 1)) = rw (c.ahead.ensures.octets, length-take, length-drop) in
-    c.ahead.follows.holds-at-none ∙ ap (charged c.args.source.now) few
+    c.ahead.follows.holds-at-none ∙ ap (charged c.args.source.now) (front_length 26 (c.args.at + 1) c.args.source.now.octets c.ahead.result.now c.ahead.ensures.octets)

@@ -10,4 +10,4 @@ returns-in_err-value-clause-none c =
 pub returns-in_err-value-in-CharSpacing-clause-none : goal.returns-in_err-value-in-CharSpacing-clause-none
 returns-in_err-value-in-CharSpacing-clause-none c =
     let part = rw (c.in_err-value-in-CharSpacing.was, c.bounds-low.ensures, c.in-CharSpacing.is) at c.in_ok-value.ensures.some in
-    rw (c.in-CharSpacing.is, c.from_residual-in_err-value-in-CharSpacing.ensures) (means_no_part 93 (d 0 255) CharSpacing _ (optional_lacks 0 255 _ _ part))
+    rw (c.in-CharSpacing.is, c.from_residual-in_err-value-in-CharSpacing.ensures) (means_no_part (d 0 255) CharSpacing _ (optional_lacks 0 255 _ _ part))

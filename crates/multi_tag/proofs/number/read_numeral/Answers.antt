@@ -1,4 +1,4 @@
-use Rattle.std.proofs.Common.{◌≡◌, Some, get_or, arith, sym, ◌∙◌}
+use Rattle.std.proofs.Common.{◌≡◌, Some, get_or, refl, arith, sym, ◌∙◌}
 use Rattle.std.specs.Char.{to_ascii_lowercase}
 use Rattle.multi_tag.specs.Part.{digit_of}
 use Rattle.multi_tag.proofs.CutLemmas.{one_digit_more, digits_small, digit_small, small_front}
@@ -24,7 +24,7 @@ pub loop-preserved : goal.loop-preserved
 loop-preserved c =
     let i = c.loop.invariant in
     let digit : digit_of c.args.base (to_ascii_lowercase (get_or c.loop.rest.now 0 0)) ≡ Some c.in-Some.digit = sym c.digit_of.ensures ∙ c.in-Some.is in
-    let digits = rw (small_front c.loop.rest.now c.in-len1-up.len_at_least) at i.digits in
+    let digits = rw (small_front c.loop.rest.now _ c.in-len1-up.len_at_least refl) at i.digits in
     record {
       digits = rw c.unwrap_or.ensures (one_digit_more _ _ _ _ _ _ _ digits digit);
       least = i.least;

@@ -1,4 +1,4 @@
-use Rattle.std.proofs.Common.{◌≡◌, ℕ, List, length, ap, ◌∙◌, subst, arith}
+use Rattle.std.proofs.Common.{length, ap, subst, arith}
 use Rattle.multi_token.specs.Counted.{Counted}
 use Rattle.multi_meaning.specs.Codes.{code_of}
 use Rattle.multi_meaning.specs.Verdict.{IsVerdict, Refused}
@@ -7,6 +7,7 @@ use Rattle.multi_layout.specs.Limits.{plane_limit}
 use Rattle.sign_font.specs.Defaults.{under}
 use Rattle.sign_font.specs.Sign.{SignData}
 use Rattle.sign_font.proofs.DefaultLemmas.{sound_under}
+use Rattle.sign_control.proofs.CountLemmas.{judging_few}
 use Rattle.sign_control.proofs.FrameLemmas.{not_refused}
 use Rattle.sign_control.proofs.draw.draw_shown.Goals as goal
 
@@ -30,6 +31,7 @@ overflow_add-result c =
       drawing_few sign (length c.args.text.now) (sound_under c.args.sign.now c.args.defaults c.requires.sound c.requires.taken) (omega (arith, c.requires.short)),
       c.requires.short,
       given,
+      judging_few c.with-judge.result octets,
       c.in-Ok.ensures.most,
       c.in-Ok.ensures.plane_steps,
       limit,

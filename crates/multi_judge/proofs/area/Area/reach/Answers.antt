@@ -1,6 +1,5 @@
 use Rattle.multi_judge.proofs.Lemmas.{◌≡◌, ◌<◌, [], refl, sym, arith, rules, le-leb, nat_tests, page_number, group_sum, area_turned, kept_group_height}
 use Rattle.multi_judge.proofs.area.Area.reach.Goals as goal
-use Rattle.multi_judge.proofs.area.Area.reach.Goals.{in-2, in-3, in_default}
 
 pub returns : goal.returns
 returns c =
@@ -10,9 +9,9 @@ returns c =
     let is_page = c.number-page_just.ensures.number in
     let later : area.present < page = omega (arith, c.if-page_just-self.false, is_page) in
     let moved : (new.top ≡ kept_group_height 2 area) × (new.middle ≡ kept_group_height 3 area) = elim c.match-self.branch [
-      | in-2 w ↦ rw w.self-is (rw w.in-2.is w.height-self.ensures.kept, rw w.in-2.is refl)
-      | in-3 w ↦ rw w.self-is (rw w.in-3.is refl, rw w.in-3.is w.height-self-in-3.ensures.kept)
-      | in_default w ↦ rw w.self-is (grind (arith, nat_tests, w.in_default), grind (arith, nat_tests, w.in_default))
+      | goal.in-2 w ↦ rw w.self-is (rw w.in-2.is w.height-self.ensures.kept, rw w.in-2.is refl)
+      | goal.in-3 w ↦ rw w.self-is (rw w.in-3.is refl, rw w.in-3.is w.height-self-in-3.ensures.kept)
+      | goal.in_default w ↦ rw w.self-is (grind (arith, nat_tests, w.in_default), grind (arith, nat_tests, w.in_default))
     ] in
     let empty : c.default-self.result ≡ group_sum [] = search rules in
     record {

@@ -1,7 +1,5 @@
-use Rattle.multi_judge.proofs.Lemmas.{◌≡◌, ◌+◌, ℕ, Some, true, refl, ap, ◌∙◌, rules, cond, option_map_or, unwrap_or, average, Group, kept_height, group_break}
-use Rattle.multi_judge.proofs.Common.{counted, held}
+use Rattle.multi_judge.proofs.Lemmas.{◌≡◌, ◌+◌, ℕ, Some, true, refl, ap, ◌∙◌, rules, cond, option_map_or, unwrap_or, average, Group, kept_height, group_break, counted, held}
 use Rattle.multi_judge.proofs.area.Group.add_break.Goals as goal
-use Rattle.multi_judge.proofs.area.Group.add_break.Goals.{then-not-self, else-not-self}
 
 pub returns-clause-sum : goal.returns-clause-sum
 returns-clause-sum c group s placing e is =
@@ -9,8 +7,8 @@ returns-clause-sum c group s placing e is =
     let line = c.if-not-self.self.line in
     let info = c.args.font.now in
     let (same, any, height, spacing) : (c.if-not-self.self ≡ record self { line = line }) × (line.any ≡ true) × (line.height ≡ cond self.line.any self.line.height info.height) × (line.spacing ≡ cond self.line.any self.line.spacing info.line_spacing) = elim c.if-not-self.branch [
-      | then-not-self w ↦ rw (w.self-is, w.if-not-self.true) (refl, refl, refl, refl)
-      | else-not-self w ↦ rw (w.self-is, w.if-not-self.false) (refl, refl, refl, refl)
+      | goal.then-not-self w ↦ rw (w.self-is, w.if-not-self.true) (refl, refl, refl, refl)
+      | goal.else-not-self w ↦ rw (w.self-is, w.if-not-self.false) (refl, refl, refl, refl)
     ] in
     let gap = option_map_or (λ ended. unwrap_or ended.gap (average ended.spacing line.spacing)) self.last 0 in
     let closed : c.height-self.result ≡ held (self.closed + (gap + line.height)) = c.height-self.ensures.kept ∙ ap kept_height same ∙ ap {B = ℕ} (λ b. cond b (held (self.closed + (gap + line.height))) self.closed) any in

@@ -1,6 +1,4 @@
-use Rattle.multi_judge.proofs.Lemmas.{◌≡◌, true, IfSome, None, Some, after_last, filled, is_break, sym, rules, ◌∙◌, subst, le-leb, lt-leb, Joins, breaks_there, drops_there, present_line, put_line, stands_there, stays_there, split_none, split_space, split_word}
-use Rattle.multi_judge.proofs.Common.{Split, character_of}
-use Rattle.multi_judge.specs.Run.{IsOpen}
+use Rattle.multi_judge.proofs.Lemmas.{◌≡◌, true, IfSome, None, Some, after_last, filled, is_break, sym, rules, ◌∙◌, subst, le-leb, lt-leb, Joins, breaks_there, drops_there, present_line, put_line, stands_there, stays_there, split_none, split_space, split_word, Split, character_of, IsOpen}
 use Rattle.multi_judge.proofs.FillGroupLemmas.{present_glyphs}
 use Rattle.multi_judge.proofs.area.Group.fill_character.Goals as goal
 

@@ -1,8 +1,5 @@
-use Rattle.multi_judge.proofs.Lemmas.{refl, character_of, rules, ap, arith, sym, ◌∙◌, LineFill, cell_in, Shows, offence, filled_conflict, cell_of_width, cell_put, clash_by}
-use Rattle.multi_judge.proofs.Common.{order_of}
-use Rattle.multi_judge.proofs.PassedLemmas.{IsSplitReached}
+use Rattle.multi_judge.proofs.Lemmas.{refl, character_of, rules, ap, arith, sym, ◌∙◌, LineFill, cell_in, Shows, offence, filled_conflict, cell_of_width, cell_put, clash_by, order_of, IsSplitReached}
 use Rattle.multi_judge.proofs.pass.Pass.fill_cell.Goals as goal
-use Rattle.multi_judge.proofs.pass.Pass.fill_cell.Goals.{then-page-present-2, else-page-present-2}
 
 pub returns-then-page-present-clause-put : goal.returns-then-page-present-clause-put
 returns-then-page-present-clause-put c = λ sign own items is.

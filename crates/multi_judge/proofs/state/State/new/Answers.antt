@@ -1,5 +1,4 @@
-use Rattle.multi_judge.proofs.Lemmas.{ap, rules, subst, SignData, state-start}
-use Rattle.multi_judge.proofs.Common.{IsSmall}
+use Rattle.multi_judge.proofs.Lemmas.{ap, rules, subst, SignData, state-start, IsSmall}
 use Rattle.multi_judge.proofs.state.State.new.Goals as goal
 
 pub returns-clause-start : goal.returns-clause-start

@@ -1,6 +1,7 @@
-use Rattle.multi_layout.proofs.Common.{length, ap, subst, arith, nat_tests, IsPageSkipped}
+use Rattle.multi_layout.proofs.Common.{◌≡◌, ◌+◌, ◌<◌, ◌≤◌, IsAtPage, length, ap, arith, nat_tests}
 use Rattle.multi_layout.proofs.PagesLemmas.{accepted_of, at_start, drawing_reads, if_next, page_follows, page_starts}
 use Rattle.multi_layout.proofs.WalkLemmas.{no_steps, same_octets, steps_then, steps_within}
+use Rattle.multi_layout.proofs.checked.Checked.draw.Goals.{After-pass_page}
 use Rattle.multi_layout.proofs.checked.Checked.draw.Goals as goal
 
 pub returns-then-page-self-clause-exists : goal.returns-then-page-self-clause-exists
@@ -18,23 +19,20 @@ loop-cursor-init c =
     let (begins, one) = at_start c.self.invariant c.new-cursor.ensures.start in
     record { begins = begins; few = omega (arith, one); steps = no_steps c.self.inside.source }
 
+-- another page begins behind the one that is passed
+follows : (c : After-pass_page) → (c.pass_page.new.self.state.pages ≡ c.loop-cursor.cursor.state.pages + 1) × (c.loop-cursor.cursor.at < c.pass_page.new.self.at) × (c.pass_page.new.self.at ≤ length c.self.inside.source.octets)
+    × IsAtPage c.self.inside.terms c.self.inside.source.octets c.pass_page.new.self
+follows c = page_follows (rw (same_octets c.loop-cursor.invariant.steps.3) at c.pass_page.ensures.passed) (omega (arith, c.loop-cursor-test.true, c.if-page-self.false, (accepted_of c.self.invariant).1))
+
 pub loop-cursor-smaller : goal.loop-cursor-smaller
-loop-cursor-smaller c =
-    let skipped = subst (λ o. IsPageSkipped c.self.inside.terms o c.loop-cursor.cursor c.pass_page.new.self) (same_octets c.loop-cursor.invariant.steps.3) c.pass_page.ensures.passed in
-    omega (arith, page_follows skipped (omega (arith, c.loop-cursor-test.true, c.if-page-self.false, (accepted_of c.self.invariant).1)), skipped.within)
+loop-cursor-smaller c = omega (arith, follows (goal.at.loop-cursor-smaller c).After-pass_page)
 
 pub loop-cursor-preserved : goal.loop-cursor-preserved
 loop-cursor-preserved c =
-    let i = c.loop-cursor.invariant in
     let start = c.self.inside.source in
-    let skipped = subst (λ o. IsPageSkipped c.self.inside.terms o c.loop-cursor.cursor c.pass_page.new.self) (same_octets i.steps.3) c.pass_page.ensures.passed in
-    let (pages, further, begins) = page_follows skipped (omega (arith, c.loop-cursor-test.true, c.if-page-self.false, (accepted_of c.self.invariant).1)) in
-    record {
-      begins = begins;
-      few = omega (arith, pages, c.loop-cursor-test.true);
-      steps = steps_within start (steps_then start i.steps c.pass_page.ensures.steps) (omega arith)
-          (omega (arith, further, if_next c.pass_page.new.self.state.pages c.loop-cursor.cursor.state.pages 1 pages));
-    }
+    let (pages, further, within, begins) = follows (goal.at.loop-cursor-preserved c).After-pass_page in
+    let steps = steps_then start c.loop-cursor.invariant.steps c.pass_page.ensures.steps in
+    grind (arith, pages, further, begins, steps, if_next c.pass_page.new.self.state.pages c.loop-cursor.cursor.state.pages 1 pages, steps_within)
 
 pub draw_next-requires-clause-page : goal.draw_next-requires-clause-page
 draw_next-requires-clause-page c =

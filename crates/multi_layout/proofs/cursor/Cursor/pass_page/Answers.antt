@@ -1,69 +1,47 @@
-use Rattle.multi_layout.proofs.Common.{map, meaning, unplaced, slice_get, sym, ap, ◌∙◌, arith}
-use Rattle.multi_layout.proofs.PagesLemmas.{in_page_in, item_within, page_more, page_over, passed_last, placed_passed, free_fine}
+use Rattle.multi_layout.proofs.Common.{◌≡◌, ◌+◌, ◌-◌, ◌*◌, RisesBetween, map, meaning, unplaced, slice_get, sym, ap, ◌∙◌, arith}
+use Rattle.multi_layout.proofs.PagesLemmas.{page_more, page_over, passed_last, placed_passed, free_fine}
 use Rattle.multi_layout.proofs.PageDrawLemmas.{if_same}
-use Rattle.multi_layout.proofs.WalkLemmas.{ready_there, same_octets, steps_of, steps_then, steps_within}
-use Rattle.multi_layout.proofs.PieceLemmas.{free_tag}
+use Rattle.multi_layout.proofs.WalkLemmas.{same_octets, steps_of, steps_then, steps_within}
+use Rattle.multi_layout.proofs.cursor.Cursor.pass_page.Goals.{After-read_item-next}
 use Rattle.multi_layout.proofs.cursor.Cursor.pass_page.Goals as goal
 
-pub read_item-next-requires-clause-within : goal.read_item-next-requires-clause-within
-read_item-next-requires-clause-within c =
-    let s = in_page_in (same_octets c.read.ensures.step ∙ same_octets c.loop-first.invariant.steps.3) c.loop-first.invariant.way in
-    (c.args.sign.now, s.before, s.behind, s.between.placed)
+-- the item was read of the octets of the string
+same : (c : After-read_item-next) → c.read.new.self.octets ≡ c.args.source.now.octets
+same c = same_octets c.read.ensures.step ∙ same_octets c.loop-first.invariant.steps.3
+
+-- and it took fewer than nine steps for each octet
+fewer : (c : After-read_item-next) → RisesBetween c.args.source.now c.read_item-next.new.source 0 (9 * (c.loop-first.self.at + c.read_item-next.result.len - c.args.self.now.at) - 1)
+fewer c =
+    let i = c.loop-first.invariant in
+    let start = c.args.source.now in
+    steps_within start (steps_then start (steps_then start i.steps (steps_of c.loop-first.source c.read.ensures.step)) c.read_item-next.ensures.steps) (omega arith) (omega (arith, i.on, c.read_item-next.ensures.some))
 
 -- A CHARACTER OR AN `nl`
-
-pub overflow_add-self : goal.overflow_add-self
-overflow_add-self c =
-    let s = c.loop-first.invariant.way in
-    omega (arith, item_within s c.read_item-next.result (same_octets c.read.ensures.step ∙ same_octets c.loop-first.invariant.steps.3) c.read_item-next.ensures.item, s.between.placed.accepted.short)
 
 pub loop-first-preserved-then-has_place : goal.loop-first-preserved-then-has_place
 loop-first-preserved-then-has_place c =
     let i = c.loop-first.invariant in
-    let start = c.args.source.now in
-    record {
-      way = placed_passed i.way c.read_item-next.result (same_octets c.read.ensures.step ∙ same_octets i.steps.3) c.read_item-next.ensures.item (sym c.has_place.ensures ∙ c.if-has_place.true);
-      on = omega (arith, i.on);
-      steps = steps_within start (steps_then start (steps_then start i.steps (steps_of c.loop-first.source c.read.ensures.step)) c.read_item-next.ensures.steps) (omega arith) (omega (arith, i.on, c.read_item-next.ensures.some));
-    }
+    let here = (goal.at.loop-first-preserved-then-has_place c).After-read_item-next in
+    grind (arith, placed_passed i.way c.read_item-next.result (same here) c.read_item-next.ensures.item (sym c.has_place.ensures ∙ c.if-has_place.true), fewer here, steps_within)
 
 -- ANOTHER TAG
 
-pub pass_tag-requires : goal.pass_tag-requires
-pass_tag-requires c =
+pub pass_tag-requires-clause-fine : goal.pass_tag-requires-clause-fine
+pass_tag-requires-clause-fine c =
     let s = c.loop-first.invariant.way in
-    let same = same_octets c.read.ensures.step ∙ same_octets c.loop-first.invariant.steps.3 in
-    let free = sym c.has_place.ensures ∙ c.if-has_place.false in
-    record {
-      ready = ready_there s.between;
-      tag = free_tag c.read_item-next.result.item free;
-      fine = (unplaced (map meaning s.before), s.between.state_is, free_fine s c.read_item-next.result same c.read_item-next.ensures.item free);
-      room = omega (arith, item_within s c.read_item-next.result same c.read_item-next.ensures.item, s.between.placed.accepted.short);
-    }
+    (unplaced (map meaning s.before), s.between.state_is, free_fine s c.read_item-next.result (same (goal.at.pass_tag-requires-clause-fine c).After-read_item-next) c.read_item-next.ensures.item (sym c.has_place.ensures ∙ c.if-has_place.false))
 
 pub returns-then-ends_page : goal.returns-then-ends_page
 returns-then-ends_page c =
     let i = c.loop-first.invariant in
-    let start = c.args.source.now in
-    let same = same_octets c.read.ensures.step ∙ same_octets i.steps.3 in
-    record {
-      passed = page_over i.way c.read_item-next.result same c.read_item-next.ensures.item (sym c.has_place.ensures ∙ c.if-has_place.false) c.pass_tag.ensures.at c.pass_tag.ensures.passed (sym c.ends_page.ensures ∙ c.if-ends_page.true) i.on;
-      on = omega (arith, i.on, c.pass_tag.ensures.at);
-      steps = steps_within start (steps_then start (steps_then start (steps_then start i.steps (steps_of c.loop-first.source c.read.ensures.step)) c.read_item-next.ensures.steps) c.pass_tag.ensures.steps)
-          (omega arith) (omega (arith, i.on, c.pass_tag.ensures.at, c.read_item-next.ensures.some));
-    }
+    let here = (goal.at.returns-then-ends_page c).After-read_item-next in
+    grind (arith, page_over i.way c.read_item-next.result (same here) c.read_item-next.ensures.item (sym c.has_place.ensures ∙ c.if-has_place.false) c.pass_tag.ensures.at c.pass_tag.ensures.passed (sym c.ends_page.ensures ∙ c.if-ends_page.true) i.on, steps_then c.args.source.now (fewer here) c.pass_tag.ensures.steps, steps_within)
 
 pub loop-first-preserved : goal.loop-first-preserved
 loop-first-preserved c =
     let i = c.loop-first.invariant in
-    let start = c.args.source.now in
-    let same = same_octets c.read.ensures.step ∙ same_octets i.steps.3 in
-    record {
-      way = page_more i.way c.read_item-next.result same c.read_item-next.ensures.item (sym c.has_place.ensures ∙ c.if-has_place.false) c.pass_tag.ensures.at c.pass_tag.ensures.passed (sym c.ends_page.ensures ∙ c.if-ends_page.false);
-      on = omega (arith, i.on, c.pass_tag.ensures.at);
-      steps = steps_within start (steps_then start (steps_then start (steps_then start i.steps (steps_of c.loop-first.source c.read.ensures.step)) c.read_item-next.ensures.steps) c.pass_tag.ensures.steps)
-          (omega arith) (omega (arith, i.on, c.pass_tag.ensures.at, c.read_item-next.ensures.some));
-    }
+    let here = (goal.at.loop-first-preserved c).After-read_item-next in
+    grind (arith, page_more i.way c.read_item-next.result (same here) c.read_item-next.ensures.item (sym c.has_place.ensures ∙ c.if-has_place.false) c.pass_tag.ensures.at c.pass_tag.ensures.passed (sym c.ends_page.ensures ∙ c.if-ends_page.false), steps_then c.args.source.now (fewer here) c.pass_tag.ensures.steps, steps_within)
 
 -- THE END OF THE STRING
 
@@ -75,5 +53,4 @@ returns-clause-passed c =
 pub returns-clause-steps : goal.returns-clause-steps
 returns-clause-steps c =
     let i = c.loop-first.invariant in
-    steps_within c.args.source.now (steps_then c.args.source.now i.steps (steps_of c.loop-first.source c.read.ensures.step)) (omega arith)
-    (omega (arith, if_same c.loop-first.self.state.pages c.args.self.now.state.pages 1 i.way.same))
+    grind (arith, steps_then c.args.source.now i.steps (steps_of c.loop-first.source c.read.ensures.step), if_same c.loop-first.self.state.pages c.args.self.now.state.pages 1 i.way.same, steps_within)

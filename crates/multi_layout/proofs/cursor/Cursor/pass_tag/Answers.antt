@@ -1,6 +1,5 @@
-use Rattle.multi_layout.proofs.Common.{◌≡◌, ℕ, refl, [], ◌∷◌, ◌++◌, not, Option, Some, None, sym, ap, subst, ◌∙◌, not-false, false, false≢true, NewLine, Off, Tag, code_of, Does, Meaning, has_place, unsized_offence, meant_by, IsStateOf, state-limits}
+use Rattle.multi_layout.proofs.Common.{◌≡◌, ℕ, refl, [], ◌∷◌, ◌++◌, not, Option, Some, None, sym, ap, subst, ◌∙◌, not-false, false, false≢true, NewLine, Off, Tag, code_of, Does, Meaning, has_place, unsized_offence, meant_by, IsStateOf, state-limits, break-accepted, break-free}
 use Rattle.multi_meaning.proofs.StandingLemmas.{sized}
-use Rattle.multi_judge.proofs.PlacingLemmas.{break-accepted, break-free}
 use Rattle.multi_layout.proofs.cursor.Cursor.pass_tag.Goals as goal
 
 -- a tag that places nothing

@@ -10,4 +10,4 @@ pub returns-clause-missing : goal.returns-clause-missing
 returns-clause-missing c = rw (← c.self.view_is) c.draw_text-drawn.ensures.missing
 
 pub returns-clause-steps : goal.returns-clause-steps
-returns-clause-steps c = rw (← c.self.view_is) (c.draw_text-drawn.result.1, c.draw_text-drawn.ensures.most, c.raised-self-inside.ensures)
+returns-clause-steps c = rw (← c.self.view_is) (c.draw_text-drawn.result.1, c.draw_text-drawn.ensures.least, c.draw_text-drawn.ensures.most, c.raised-self-inside.ensures)

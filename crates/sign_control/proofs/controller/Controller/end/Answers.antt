@@ -1,10 +1,10 @@
-use Rattle.std.proofs.Common.{◌∙◌, ap, sym, subst, List, ℕ}
+use Rattle.std.proofs.Common.{◌∙◌, ap, sym, List, ℕ}
+use Rattle.step_count.specs.Count.{raised}
 use Rattle.sign_font.specs.Defaults.{default_fault}
 use Rattle.sign_control.specs.declared.display.Display.{Display}
 use Rattle.sign_control.specs.Activation.{named, text_of}
-use Rattle.sign_control.specs.kept.Answered.{candidate_of, IsAdded}
-use Rattle.sign_control.specs.Counts.{end_text}
-use Rattle.sign_control.proofs.CountLemmas.{added}
+use Rattle.sign_control.specs.kept.Answered.{candidate_of}
+use Rattle.sign_control.specs.Counts.{end_text, text_steps}
 use Rattle.sign_control.proofs.StepLemmas.{end-accepted, ready-shown, shown-accepted, shown-limited}
 use Rattle.sign_control.proofs.controller.Controller.end.Goals as goal
 
@@ -24,5 +24,7 @@ pub returns-clause-steps : goal.returns-clause-steps
 returns-clause-steps c =
     let s = c.self.inside in
     let named' = named s.store s.display s.defaults s.end in
-    rw (← c.self.view_is) (added (end_text s.sign s.text.items named') c.end_message-steps.result.1 s.steps c.raised-self-inside.result
-    (subst (λ (l : List ℕ). IsAdded (end_text s.sign l named') c.end_message-steps.result.1) c.deref.ensures.value c.end_message-steps.ensures.steps) c.raised-self-inside.ensures)
+    rw (← c.self.view_is) (
+    c.raised-self-inside.ensures
+    ∙ ap (raised s.steps) (c.end_message-steps.ensures.steps ∙ ap (λ (l : List ℕ). text_steps (end_text s.sign l named')) c.deref.ensures.value)
+    )

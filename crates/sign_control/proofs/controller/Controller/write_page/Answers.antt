@@ -7,4 +7,4 @@ pub returns-clause-missing : goal.returns-clause-missing
 returns-clause-missing c = rw (← c.self.view_is) c.write_text-written.ensures.missing
 
 pub returns-clause-steps : goal.returns-clause-steps
-returns-clause-steps c = rw (← c.self.view_is) (c.write_text-written.result.1, c.write_text-written.ensures.most, c.raised-self-inside.ensures)
+returns-clause-steps c = rw (← c.self.view_is) (c.write_text-written.result.1, c.write_text-written.ensures.least, c.write_text-written.ensures.most, c.raised-self-inside.ensures)

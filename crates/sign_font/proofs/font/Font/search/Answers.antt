@@ -10,12 +10,12 @@ use Rattle.sign_font.proofs.font.Font.search.Goals as goal
 pub returns-in-Some-clause-cell : goal.returns-in-Some-clause-cell
 returns-in-Some-clause-cell c =
     let cells = c.self.inside.glyphs in
-    let found : Some c.new.result ≡ find (λ (cell : SizedCell). cell.number == c.args.number) cells = ap Some c.new.ensures ∙ c.in-Some.ensures.cell in
+    let found : Some c.new.result ≡ find (λ (cell : SizedCell). cell.number == c.args.number) cells = ap Some c.new.ensures ∙ c.in-Some.ensures in
     rw (← c.self.view_is) (cell_found c.self.inside.info cells c.self.invariant.font c.args.number (Some c.new.result) found)
 
 pub returns-in-None-clause-cell : goal.returns-in-None-clause-cell
 returns-in-None-clause-cell c =
-    rw (← c.self.view_is) (cell_found c.self.inside.info c.self.inside.glyphs c.self.invariant.font c.args.number None c.in-None.ensures.cell)
+    rw (← c.self.view_is) (cell_found c.self.inside.info c.self.inside.glyphs c.self.invariant.font c.args.number None c.in-None.ensures)
 
 pub returns-in-Some-clause-size : goal.returns-in-Some-clause-size
 returns-in-Some-clause-size c = subst (λ (r : Option SizedCell). IfSome r IsSoundSize) (sym (returns-in-Some-clause-cell c)) (rw (← c.self.view_is) (cell_sized (font_kept c.self.inside.info c.self.inside.glyphs) c.args.number c.self.invariant.font.sound))

@@ -6,5 +6,5 @@ use Rattle.sign_font.proofs.glyphs.Glyphs.advances.Given as goal
 abbrev pub invariant-loop-octet : goal.invariant-loop-octet
 invariant-loop-octet l = record {
   size : length l.advances ≡ 256;
-  each : (k : ℕ) → k < l.octet → slice_index l.advances k ≡ advance_of (width_among l.self) l.words k;
+  each : (k : ℕ) → k < l.octet → slice_index l.advances k ≡ advance_of (width_among l.self) k;
 }

@@ -1,18 +1,16 @@
-use Rattle.std.proofs.Common.{◌≡◌, ◌<◌, ◌≤◌, length, get_or, ◌+◌, ◌-◌, ◌*◌, ◌/◌, ◌^◌, arith, ap, sym, ◌∙◌}
-use Rattle.multi_token.specs.Counted.{charged}
-use Rattle.multi_token.proofs.StepLemmas.{charged-charged}
+use Rattle.std.proofs.Common.{◌≡◌, ◌<◌, ◌≤◌, length, get_or, ◌+◌, ◌-◌, ◌*◌, ◌/◌, ◌^◌, arith, sym, ◌∙◌}
 use Rattle.sign_font.specs.Cell.{SizedCell}
 use Rattle.sign_font.proofs.HalfLemmas.{halved, none_between, small_below, large_above, found_here}
 use Rattle.sign_font.proofs.glyphs.Glyphs.search.Goals as goal
 use Rattle.sign_font.proofs.glyphs.Glyphs.search.Goals.{then-here-number-2, else-here-number-2}
 
-pub returns-then-low-high-clause-cell : goal.returns-then-low-high-clause-cell
-returns-then-low-high-clause-cell c =
+pub returns-then-low-high : goal.returns-then-low-high
+returns-then-low-high c =
     let at = c.loop-probe in
     sym (none_between (λ (cell : SizedCell). cell.number) c.args.self.now c.args.number at.low at.high c.if-low-high.true at.invariant.below at.invariant.above)
 
-pub returns-then-here-number-clause-cell : goal.returns-then-here-number-clause-cell
-returns-then-here-number-clause-cell c =
+pub returns-then-here-number : goal.returns-then-here-number
+returns-then-here-number c =
     let at = c.loop-probe in
     let cells = c.self.inside.glyphs.items in
     let glyph = c.index-glyph.result.now in
@@ -21,13 +19,6 @@ returns-then-here-number-clause-cell c =
     let within : at.low + (at.high - at.low) / 2 < length cells = omega (arith, left, inside) in
     let named : glyph.number ≡ c.args.number = sym c.number-here.ensures ∙ c.if-here-number.true in
     rw (← c.self.view_is) (sym (found_here (λ (cell : SizedCell). cell.number) cells c.self.invariant.numbered.rising (at.low + (at.high - at.low) / 2) glyph within c.index-glyph.ensures c.args.number named))
-
-pub returns-then-here-number-clause-steps : goal.returns-then-here-number-clause-steps
-returns-then-here-number-clause-steps c =
-    let at = c.loop-probe in
-    let one : 1 ≤ at._probe + 1 = omega arith in
-    let most : at._probe + 1 ≤ 8 = omega (arith, c.loop-probe-test.true) in
-    (at._probe + 1, one, most, c.charge.ensures ∙ ap (λ s. charged s 1) at.invariant.steps ∙ charged-charged c.args.source.now at._probe 1)
 
 pub loop-probe-preserved : goal.loop-probe-preserved
 loop-probe-preserved c =
@@ -42,7 +33,6 @@ loop-probe-preserved c =
     let within : middle < length cells = omega (arith, before, inv.within) in
     let is : glyph ≡ get_or cells middle glyph = rw (c.self.view_is) at c.index-glyph.ensures in
     let rising = rw (c.self.view_is) at c.self.invariant.numbered.rising in
-    let steps = c.charge.ensures ∙ ap (λ s. charged s 1) inv.steps ∙ charged-charged c.args.source.now at._probe 1 in
     elim c.if-here-number-2.branch [
       | then-here-number-2 w ↦
           let half : 2 * (c.if-here-number-2.high - c.if-here-number-2.low) ≤ at.high - at.low = omega (arith, w.low-is, w.high-is, left) in
@@ -53,8 +43,6 @@ loop-probe-preserved c =
             few = halved (at.high - at.low) (c.if-here-number-2.high - c.if-here-number-2.low) at._probe half inv.few;
             below = λ k d h. small_below number_of cells rising middle glyph within is c.args.number small k d (omega (arith, h, w.low-is));
             above = λ k d h inside. inv.above k d (omega (arith, h, w.high-is)) inside;
-            whole = λ none. absurd (omega (arith, none));
-            steps = steps;
           }
       | else-here-number-2 w ↦
           let half : 2 * (c.if-here-number-2.high - c.if-here-number-2.low) ≤ at.high - at.low = omega (arith, w.low-is, w.high-is, left) in
@@ -65,13 +53,11 @@ loop-probe-preserved c =
             few = halved (at.high - at.low) (c.if-here-number-2.high - c.if-here-number-2.low) at._probe half inv.few;
             below = λ k d h. inv.below k d (omega (arith, h, w.low-is));
             above = λ k d h inside. large_above number_of cells rising middle glyph within is c.args.number large k d (omega (arith, h, w.high-is)) inside;
-            whole = λ none. absurd (omega (arith, none));
-            steps = steps;
           }
     ]
 
-pub returns-clause-cell : goal.returns-clause-cell
-returns-clause-cell c =
+pub returns : goal.returns
+returns c =
     let at = c.loop-probe in
     let last : at._probe ≡ 8 = omega (arith, c.loop-probe-test.false) in
     let few : (at.high - at.low) * 2 ^ 8 ≤ 255 = rw last at at.invariant.few in

@@ -1,5 +1,4 @@
-use Rattle.std.proofs.Common.{◌≡◌, ◌≤◌, ◌-◌, ◌*◌, ◌^◌, length}
-use Rattle.multi_token.specs.Counted.{charged}
+use Rattle.std.proofs.Common.{◌≤◌, ◌-◌, ◌*◌, ◌^◌, length}
 use Rattle.sign_font.specs.Cell.{SizedCell}
 use Rattle.sign_font.proofs.HalfLemmas.{AreBelow, AreAbove}
 use Rattle.sign_font.proofs.glyphs.Glyphs.search.Given as goal
@@ -12,6 +11,4 @@ invariant-loop-probe l = record {
   few : (l.high - l.low) * 2 ^ l._probe ≤ 255;
   below : AreBelow (λ (cell : SizedCell). cell.number) l.self l.number l.low;
   above : AreAbove (λ (cell : SizedCell). cell.number) l.self l.number l.high;
-  whole : l._probe ≡ 0 → (l.low ≡ 0) × (l.high ≡ length l.self);
-  steps : l.source ≡ charged l.fn.source l._probe;
 }
