@@ -303,7 +303,7 @@ class Controller:
         width, height = self._sign.width, self._sign.height
         shown, buffer = ShownFacts(), create_string_buffer(width * height)
         self._call("colours", byref(shown), buffer, len(buffer))
-        return Display(shown_of(shown), Picture(width, height, buffer.raw))
+        return Display(shown_of(shown), Picture(width, height, buffer.raw, self._sign.classic))
 
     def next_change(self, most: SupportsIndex = 2**32 - 1) -> int:
         """For how many tenths of a second, at most `most`, what the display shows stays as it is if no command comes."""
@@ -335,7 +335,7 @@ class Controller:
         octets, width, height = octets_of(text), self._sign.width, self._sign.height
         words, buffer = (number_of("page", page, 255), number_of("phase", phase, MOST_CLOCK)), create_string_buffer(width * height)
         self._call("held_colours_of_page", octets, len(octets), *words, buffer, len(buffer))
-        return Picture(width, height, buffer.raw)
+        return Picture(width, height, buffer.raw, self._sign.classic)
 
     def plane_of_page(self, text: Text, page: SupportsIndex, colour: SupportsIndex = 1, phase: SupportsIndex = 0) -> Plane:
         """Which pixels of a page of a text have a colour, by the defaults in force. Raises `TextRefused` and `NoPage`."""

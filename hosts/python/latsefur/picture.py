@@ -1,13 +1,21 @@
 """Pictures: the colour of each pixel, or which pixels have one colour."""
 from __future__ import annotations
 
-from dataclasses import dataclass
-from typing import TYPE_CHECKING, Any
+from dataclasses import dataclass, field
+from pathlib import Path
+from typing import TYPE_CHECKING, Any, Optional, SupportsIndex
 
+from .drawing import MOST_SCALE, lines_of, palette_of, png_of
+from .library import PathLike
 from .values import number_of
 
 if TYPE_CHECKING:
     import numpy
+
+# The points side by side for a pixel in a file, as `signctl picture` has them, and the most points of
+# a line that a notebook is shown.
+SCALE = 8
+MOST_SHOWN = 1200
 
 COLOURS = ("black", "red", "yellow", "green", "cyan", "blue", "magenta", "white", "orange", "amber")
 
@@ -18,11 +26,15 @@ class Picture:
 
     `octets` has an octet for each pixel, 0 to 9, row by row from the top and each row from the left; 0 is black or dark, and on a sign of
     one colour a lit pixel is 1. `COLOURS` names them. `bytes(picture)` is `octets`.
+
+    `classic` says whether it is drawn in the ten colours; else all that is lit is amber. A simulated sign doesn't tell, and its pictures are
+    drawn in the ten. Pictures of the same pixels are equal.
     """
 
     width: int
     height: int
     octets: bytes
+    classic: bool = field(default=True, compare=False)
 
     def __bytes__(self) -> bytes:
         return self.octets
@@ -41,9 +53,52 @@ class Picture:
 
         return numpy.frombuffer(self.octets, numpy.uint8).reshape(self.height, self.width)
 
+    def __array__(self, dtype: Any = None, copy: Optional[bool] = None) -> numpy.ndarray[Any, Any]:
+        """The same for `numpy.asarray(picture)`, in another type if one is named. Raises `ValueError`
+        if that takes a copy and `copy` is false."""
+        held = self.array()
+        given = held.astype(held.dtype if dtype is None else dtype, copy=bool(copy))
+        if copy is False and given is not held:
+            raise ValueError(f"a picture as {given.dtype} is a copy")
+        return given
+
+    def rgb(self, scale: SupportsIndex = 1) -> bytes:
+        """Red, green and blue of each point as it shines, three octets each, line by line from the
+        top and from the left.
+
+        A pixel is a square with `scale` points side by side, 1 to 16. Below 4 all of them are its
+        dot; from there on the dot is round, on dark. So `signctl picture --scale` draws it too.
+        """
+        palette = palette_of(self.classic)
+        lines = lines_of(self.rows(), scale_of(scale))
+        return b"".join(palette[number] for line in lines for number in line)
+
+    def png(self, scale: SupportsIndex = SCALE) -> bytes:
+        """The points of `rgb` as a file in PNG."""
+        return png_of(lines_of(self.rows(), scale_of(scale)), palette_of(self.classic))
+
+    def save(self, path: PathLike, scale: SupportsIndex = SCALE) -> None:
+        """Writes the file in PNG. Raises `ValueError` if its name has another ending than `.png`, and
+        `OSError` if it can't be written."""
+        if Path(path).suffix.lower() != ".png":
+            raise ValueError(f"{path} doesn't end in .png, and no other kind is written")
+        Path(path).write_bytes(self.png(scale))
+
+    def _repr_png_(self) -> bytes:
+        """What a notebook shows of a picture."""
+        return self.png(max(1, min(SCALE, MOST_SHOWN // self.width)))
+
     def __str__(self) -> str:
         """The rows as lines, with a digit for each pixel."""
         return "\n".join("".join(map(str, row)) for row in self.rows())
+
+
+def scale_of(scale: SupportsIndex) -> int:
+    """A scale. Raises `ValueError` if it isn't 1 to 16."""
+    number = number_of("scale", scale, MOST_SCALE)
+    if number == 0:
+        raise ValueError(f"scale is 0, and may be 1 to {MOST_SCALE}")
+    return number
 
 
 @dataclass(frozen=True)

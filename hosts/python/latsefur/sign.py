@@ -200,7 +200,7 @@ class Sign:
     def _picture(self, name: str, text: Text, *words: int) -> Picture:
         octets, buffer = octets_of(text), create_string_buffer(self.width * self.height)
         self._call(name, octets, len(octets), *words, buffer, len(buffer))
-        return Picture(self.width, self.height, buffer.raw)
+        return Picture(self.width, self.height, buffer.raw, self.classic)
 
     def _plane(self, name: str, text: Text, *words: int) -> Plane:
         octets, buffer = octets_of(text), create_string_buffer(stride_of(self.width) * self.height)
