@@ -4,8 +4,8 @@
 
 const assert = require("assert");
 const {
-  Asking, LOST, MOST_CHARACTERS, MOST_OPEN, PATIENCE, UNANSWERED,
-  characterAt, fitted, hashOf, kindOf, spelled, textOf, toSpell, wordsOf,
+  Asking, Film, LOST, Looking, MOST_CHARACTERS, MOST_OPEN, MOST_PAST, PATIENCE, Past, RESTED, UNANSWERED,
+  characterAt, fitted, hashOf, kindOf, partsOf, pastOf, slipOf, spelled, spokenOf, textOf, toSpell, wordsOf, wrapped,
 } = require(process.argv[2]);
 
 const settled = () => new Promise(setImmediate);
@@ -319,7 +319,8 @@ const tests = {
   },
 
   async "what is no answer"() {
-    for (const wrong of [null, 1, {}, {accepted: 1}, {accepted: true}, {accepted: true, frames: []}, {accepted: false}]) {
+    const others = [{...verdict("A"), others: [{}]}, {...verdict("A"), others: [verdict("A"), {accepted: true}]}];
+    for (const wrong of [null, 1, {}, {accepted: 1}, {accepted: true}, {accepted: true, frames: []}, {accepted: false}, ...others]) {
       const bench = new Bench();
       bench.asking.ask = async () => wrong;
       bench.type("A");
@@ -374,6 +375,97 @@ const tests = {
     assert.strictEqual(lone.outcome, "Not finished: a ] that is to be shown is written ]].");
     const long = told({accepted: false, at: null, said: "at most 4096 octets", name: "too long", words: null});
     assert.deepStrictEqual([long.reason, long.code, long.at], ["at most 4096 octets", "too long", null]);
+  },
+
+  async "several signs"() {
+    const others = [verdict("ABCDE"), verdict("A")], parts = partsOf({...verdict("A"), text: "A", others});
+    assert.deepStrictEqual(parts.map(({accepted, text}) => [accepted, text]), [[true, "A"], [false, "A"], [true, "A"]]);
+    assert.strictEqual(partsOf({...verdict("A"), text: "A"}).length, 1);
+    const told = parts.slice(0, 2).map((part, place) => ({name: ["one", "two"][place], words: wordsOf({kind: kindOf(part), answer: part})}));
+    assert.strictEqual(spokenOf(told.slice(0, 1)), "Accepted: 1 page. warned of A");
+    assert.strictEqual(spokenOf(told), "one: Accepted: 1 page. warned of A two: Refused. ABCDE is too big");
+  },
+
+  async "a slip in the field"() {
+    assert.deepStrictEqual(slipOf({text: "AB[x]", at: 2}, "AB[x]"), {before: "AB", at: "[", after: "x]"});
+    assert.deepStrictEqual(slipOf({text: "AB", at: 2}, "AB"), {before: "AB", at: " ", after: ""});
+    assert.deepStrictEqual(slipOf({text: "A\ud83d\udea7B", at: 1}, "A\ud83d\udea7B"), {before: "A", at: "\ud83d\udea7", after: "B"});
+    assert.deepStrictEqual([slipOf({text: "AB", at: 1}, "ABC"), slipOf({text: "AB", at: null}, "AB")], [null, null]);
+  },
+
+  async "a film"() {
+    const told = (frames, until, more) => ({text: "A", page: null, pages: 2, cycle: 30, frames, until, pictures: ["a", "b"], ...more});
+    const film = new Film(told([[0, 0, 0], [5, null, 1]], 8));
+    assert.deepStrictEqual([0, 4, 5, 7].map((time) => film.at(time).picture), ["a", "a", "b", "b"]);
+    assert.deepStrictEqual([film.clock(31), film.repeats()], [1, true]);
+    film.extend(told([[8, 1, 0]], 12), 8, 6);
+    assert.deepStrictEqual([film.frames.map(({time}) => time), film.until, film.at(9).page], [[5, 8], 12, 1]);
+    film.extend(told([[20, 0, 0]], 25), 20, 21);
+    assert.deepStrictEqual(film.frames.map(({time}) => time), [20]);
+    for (const more of [{page: 1}, {pages: 1}, {cycle: 0}]) {
+      const still = new Film(told([[0, 0, 0]], 1, more));
+      assert.deepStrictEqual([still.clock(31), still.repeats()], [31, false]);
+    }
+    assert(film.goesOnWith({accepted: true, text: "A", page: null}));
+    for (const other of [{accepted: false}, {text: "B"}, {page: 0}]) {
+      assert(!film.goesOnWith({accepted: true, text: "A", page: null, ...other}));
+    }
+  },
+
+  async "what is looked at"() {
+    const looking = new Looking();
+    assert.deepStrictEqual([looking.view("plays", true, 0), looking.view("caret", true, 0), looking.view("2", true, 0)], [null, "caret", 2]);
+    looking.write(100);
+    assert.deepStrictEqual([looking.view("plays", true, 100), looking.view("plays", false, 100)], ["caret", null]);
+    assert.deepStrictEqual([looking.view("2", true, 100), looking.view("caret", false, 100)], [2, "caret"]);
+    assert.deepStrictEqual([100 + RESTED - 1, 100 + RESTED].map((now) => looking.isWriting(now)), [true, false]);
+    looking.write(200);
+    looking.rest();
+    assert.strictEqual(looking.view("plays", true, 201), null);
+  },
+
+  async "what was accepted before"() {
+    const past = new Past([]);
+    for (const text of ["RO", "ROAD", "ROAD WORK"]) {
+      past.stand(text);
+    }
+    assert.deepStrictEqual(past.texts, ["ROAD WORK"]);
+    past.stand("FOG");
+    past.use("FOG");
+    past.stand("FOG AHEAD");
+    assert.deepStrictEqual(past.texts, ["FOG AHEAD", "FOG", "ROAD WORK"]);
+    past.leave();
+    past.stand("ROAD WORK");
+    past.leave();
+    past.stand("ROAD WORK 2");
+    assert.deepStrictEqual(past.texts, ["ROAD WORK 2", "ROAD WORK", "FOG AHEAD", "FOG"]);
+    past.use("");
+    for (let number = 0; number < 2 * MOST_PAST; number++) {
+      past.use(`M${number}`);
+    }
+    assert.deepStrictEqual([past.texts.length, past.texts[0], past.texts.includes("FOG")], [MOST_PAST, `M${2 * MOST_PAST - 1}`, false]);
+    past.forget();
+    past.stand("A");
+    assert.deepStrictEqual(past.texts, ["A"]);
+  },
+
+  async "what a browser has kept"() {
+    assert.deepStrictEqual(pastOf(JSON.stringify(["A", "B[nl]C"])), ["A", "B[nl]C"]);
+    const wrong = [1, null, "", "A\nB", "A".repeat(MOST_CHARACTERS + 1), ["A"], {}];
+    assert.deepStrictEqual(pastOf(JSON.stringify(["A", ...wrong, "A"])), ["A"]);
+    for (const kept of [null, undefined, "", "{", "{}", "1", "null", '"A"']) {
+      assert.deepStrictEqual(pastOf(kept), []);
+    }
+    assert.strictEqual(pastOf(JSON.stringify(Array.from({length: 99}, (_, number) => `M${number}`))).length, MOST_PAST);
+  },
+
+  async "tags around what is chosen"() {
+    const tag = {open: "[cf1]", close: "[cf]", pairs: false, replaces: false};
+    assert.deepStrictEqual(wrapped(tag, "AB"), {words: "[cf1]AB[cf]", begin: 5, end: 7});
+    assert.deepStrictEqual(wrapped(tag, ""), {words: "[cf1]", begin: 5, end: 5});
+    assert.deepStrictEqual(wrapped({...tag, pairs: true}, ""), {words: "[cf1][cf]", begin: 5, end: 5});
+    assert.deepStrictEqual(wrapped({...tag, replaces: true}, "AB"), {words: "[cf1]", begin: 5, end: 5});
+    assert.deepStrictEqual(wrapped({...tag, close: ""}, "AB"), {words: "[cf1]AB", begin: 5, end: 7});
   },
 
   async "sizes"() {

@@ -13,18 +13,47 @@ import threading
 import unittest
 from http.client import HTTPConnection
 from pathlib import Path
-from typing import Any, Optional, Sequence
+from typing import Any, Iterator, Optional, Sequence
+from unittest import mock
 
 from latsefur import MultiError, Sign
 from latsefur.preview import program
-from latsefur.preview.answers import Answers, name_of, written
-from latsefur.preview.server import ADDRESS, FILES, MOST_BODY, Page, Server, hosts_of
+from latsefur.preview.answers import Answers, default_font, name_of, written
+from latsefur.preview.server import ADDRESS, FILES, MOST_BODY, OneSign, Page, Server, hosts_of
+from latsefur.preview.tags import font_at
 from latsefur.preview.templates import templates
 
-from tests.places import SIGNS
+from tests.places import SIGNS, sign_with
 
 SIGN = Sign.from_file(SIGNS / "sample.toml")
 JSON = {"Content-Type": "application/json"}
+PREVIEW = Path(program.__file__).parent
+SCRIPTS = ("state.js", "panels.js", "helps.js", "page.js")
+
+
+def page_of(*names: str) -> Page:
+    """The page of these signs of signs/."""
+    found = program.find()
+    signs = {name: Sign.from_file(SIGNS / f"{name}.toml") for name in names}
+    return Page(
+        [
+            OneSign(name, Answers(sign), program.Program(found, sign.octets) if found else None)
+            for name, sign in signs.items()
+        ],
+        templates(),
+    )
+
+
+@contextlib.contextmanager
+def served(page: Page) -> Iterator[str]:
+    """The address at which a page is served for a while."""
+    server = Server(page)
+    threading.Thread(target=server.serve_forever, daemon=True).start()
+    try:
+        yield server.url
+    finally:
+        server.shutdown()
+        server.server_close()
 
 
 class Served(unittest.TestCase):
@@ -34,7 +63,8 @@ class Served(unittest.TestCase):
     def setUpClass(cls) -> None:
         found = program.find()
         asked = program.Program(found, SIGN.octets) if found else None
-        cls.server = Server(Page("sample", Answers(SIGN), ["A", "B", "A[np]I"], asked))
+        page = Page([OneSign("sample", Answers(SIGN), asked)], ["A", "B", "A[np]I"])
+        cls.server = Server(page)
         threading.Thread(target=cls.server.serve_forever, daemon=True).start()
 
     @classmethod
@@ -185,7 +215,12 @@ class Served(unittest.TestCase):
         self.assertEqual(facts["stamp"], self.message("A")["stamp"])
         self.assertNotEqual(facts["stamp"], Answers(Sign(SIGN.octets + b"\n")).stamp)
         self.assertEqual((facts["width"], facts["height"], facts["pages"]), (12, 7, 2))
-        self.assertEqual((facts["fonts"], facts["templates"]), ([1, 2], ["A", "A[np]I"]))
+        self.assertEqual((facts["fonts"], facts["font"], facts["others"]), ([1, 2], 1, []))
+        offered = {known["text"]: known["picture"] for known in facts["templates"]}
+        drawn = {
+            text: "".join(map(str, SIGN.colours(text).octets)) for text in ("A", "A[np]I")
+        }
+        self.assertEqual(offered, drawn)
         characters = self.told("/font", font=1)["characters"]
         self.assertEqual([known["number"] for known in characters], [32, 65, 73, 91, 93])
         spelled = [known["text"] for known in characters]
@@ -197,7 +232,8 @@ class Served(unittest.TestCase):
             self.assertEqual(self.told("/font", font=font)["characters"], [])
 
     def test_words_and_pictures_of_signctl(self) -> None:
-        if self.server.page.program is None:
+        asked = self.server.page.first.program
+        if asked is None:
             self.assertIsNone(self.message("A")["words"])
             self.assertEqual(self.ask("POST", "/gif", b'{"text":"A"}', **JSON)[0], 409)
             self.skipTest("signctl isn't there")
@@ -212,11 +248,48 @@ class Served(unittest.TestCase):
             self.assertTrue(json.loads(octets)["said"])
         for text in ("A\nA", "\u2190", "A\r", "A" * 4097):
             self.assertIsNone(self.message(text)["words"])
-        if self.server.page.program.explains:
+        if asked.explains:
             words = self.message("B")["words"]
             self.assertTrue(words["reason"])
             self.assertEqual(self.message("A")["words"], {"reason": "", "warnings": []})
             self.assertEqual(self.message("B", begin=3)["words"], words)
+
+    def test_a_file_in_png(self) -> None:
+        text = "A[np][fl]I[/fl]"
+        pages = [
+            ({"view": None, "begin": 31}, SIGN.colours(text, 31)),
+            ({"view": 1, "begin": 6}, SIGN.colours_of_page(text, 1, 6)),
+        ]
+        for asked, picture in pages:
+            body = json.dumps({"text": text, **asked}).encode()
+            status, headers, octets = self.ask("POST", "/png", body, **JSON)
+            self.assertEqual((status, headers["Content-Type"]), (200, "image/png"))
+            self.assertEqual(octets, picture.png(16))
+        for asked in ({"text": "B"}, {"text": "\u2190"}, {"text": "A", "view": 1}):
+            body = json.dumps({"view": None, "begin": 0, **asked}).encode()
+            status, _, octets = self.ask("POST", "/png", body, **JSON)
+            self.assertEqual((status, bool(json.loads(octets)["said"])), (409, True), asked)
+        self.assertEqual(self.ask("POST", "/png", b'{"text":"A"}', **JSON)[0], 400)
+
+    def test_a_strip_of_pages(self) -> None:
+        text = "A[np][fl]I[/fl]"
+        drawn = ["".join(map(str, picture.octets)) for picture in SIGN.pages(text)]
+        asked = {"text": text, "view": None, "caret": 0, "begin": 0, "tenths": 1}
+        self.assertEqual(self.told("/judge", **asked, strip=True)["strip"], drawn)
+        self.assertEqual(self.told("/judge", **asked)["strip"], [])
+        for other in ("A", "B", "", "\u2190"):
+            told = self.told("/judge", **{**asked, "text": other}, strip=True)
+            self.assertEqual(told["strip"], [], other)
+
+    def test_small_signs_have_a_limit(self) -> None:
+        answers = Answers(SIGN)
+        with mock.patch("latsefur.preview.answers.MOST_SMALL", 84):
+            self.assertEqual(len(answers.strip("A[np]I")), 1)
+            self.assertEqual([bool(it) for it in answers.small(["A", "I"])], [True, False])
+
+    def test_the_font_at_the_caret(self) -> None:
+        fonts = [self.message("A[fo2]I[fo]A[fo9]", caret=caret)["font"] for caret in (1, 6, 11, 17)]
+        self.assertEqual(fonts, [1, 2, 1, 1])
 
     def test_names_as_the_standard_writes_them(self) -> None:
         names = [name_of(error) for error in MultiError]
@@ -252,7 +325,7 @@ class OneAnswer(unittest.TestCase):
     """A verdict comes with its own words, or with none."""
 
     def words(self, text: str, record: Optional[dict[str, Any]]) -> Any:
-        page = Page("sample", Answers(SIGN), [], Telling({text.encode(): record}))
+        page = Page([OneSign("sample", Answers(SIGN), Telling({text.encode(): record}))], [])
         asked = {"text": text, "view": None, "caret": 0, "begin": 0, "tenths": 1}
         told = page.judge(asked)
         self.assertEqual(told["accepted"], SIGN.check(text).accepted)
@@ -279,27 +352,156 @@ class OneAnswer(unittest.TestCase):
         self.assertIsNone(self.words("A", refused))
 
 
+class SeveralSigns(unittest.TestCase):
+    """Of a text each sign says its own; what helps to write is what all of them take."""
+
+    def test_each_sign_judges(self) -> None:
+        page = page_of("full-matrix", "portable")
+        asked = {"view": None, "caret": 0, "begin": 30, "tenths": 9}
+        for text in ("ROAD[np]WORK", "CONGESTION", "[cf3]A", "[x]", "", "\u2190"):
+            told = page.judge({"text": text, **asked})
+            own, stamps = {}, []
+            for name in ("full-matrix", "portable"):
+                alone = page_of(name).judge({"text": text, **asked})
+                stamps.append(alone.pop("stamp"))
+                own[name] = {key: alone[key] for key in {*alone} - {"font", "strip", "others"}}
+            self.assertEqual(told["others"], [own["portable"]], text)
+            self.assertEqual({key: told[key] for key in own["full-matrix"]}, own["full-matrix"])
+            self.assertEqual(told["stamp"], "-".join(stamps))
+
+    def test_what_all_take(self) -> None:
+        matrix, portable, both = (
+            page_of(*names).facts()
+            for names in (("full-matrix",), ("portable",), ("portable", "full-matrix"))
+        )
+        for name, key in (("templates", "text"), ("tags", "open")):
+            known = [[it[key] for it in facts[name]] for facts in (matrix, portable, both)]
+            self.assertEqual(known[2], [it for it in known[1] if it in known[0]])
+            self.assertTrue(known[2])
+        (other,) = both["others"]
+        facts = (other["name"], other["width"], other["height"], other["classic"])
+        self.assertEqual(facts, ("full-matrix", 144, 48, True))
+
+
+class Tags(unittest.TestCase):
+    def test_what_a_sign_has(self) -> None:
+        groups = {}
+        for name in ("full-matrix", "portable", "sample"):
+            sign = Sign.from_file(SIGNS / f"{name}.toml")
+            tags = Answers(sign).tags()
+            self.assertTrue(all(sign.check(tag.message()) for tag in tags))
+            groups[name] = {group: [] for group in dict.fromkeys(tag.group for tag in tags)}
+            for tag in tags:
+                groups[name][tag.group].append(tag.name)
+        self.assertEqual(
+            list(groups["full-matrix"]), ["", "Colour", "Font", "Line", "Page", "Page time"]
+        )
+        self.assertEqual(len(groups["full-matrix"]["Colour"]), 10)
+        self.assertEqual(groups["full-matrix"]["Font"], ["font 1", "font 2"])
+        self.assertEqual(groups["full-matrix"][""], ["New line", "New page", "Flash"])
+        self.assertNotIn("Colour", groups["portable"])
+        self.assertNotIn("Font", groups["portable"])
+        one = sign_with(SIGNS / "portable.toml", "max_pages = 1")
+        names = {tag.name for tag in Answers(Sign(one.encode())).tags()}
+        self.assertFalse(names & {"New page", "2 s"})
+
+    def test_the_last_font_before_the_caret(self) -> None:
+        text = b"A[[fo2][fo3]B[FO12,ab]C[fo]D"
+        found = [font_at(text, caret) for caret in (0, 7, 11, 12, 21, 22, 26, 27, 99)]
+        self.assertEqual(found, [None, None, None, 3, 3, 12, 12, None, None])
+
+    def test_the_default_font(self) -> None:
+        other = sign_with(SIGNS / "full-matrix.toml", "font = 2 -> font = 1")
+        for text, font in (((SIGNS / "full-matrix.toml").read_text(), 2), (other, 1)):
+            sign = Sign(text.encode())
+            self.assertEqual(default_font(sign, [1, 2]), font)
+        # A table that has a fault isn't asked.
+        wrong = Sign(sign_with(SIGNS / "sample.toml", "slots = 0").encode())
+        self.assertEqual((default_font(wrong, [7]), default_font(wrong, [])), (7, None))
+
+
 class OnThePage(unittest.TestCase):
-    def test_what_it_says(self) -> None:
-        """What the page says while answers are late, out of order or lost: tests/state.js."""
+    def run_node(self, *words: object) -> None:
         node = shutil.which("node")
         if not node:
             self.skipTest("node isn't there")
-        own = Path(__file__).with_name("state.js")
-        decides = Path(program.__file__).with_name("state.js")
-        ran = subprocess.run([node, own, decides], capture_output=True, text=True, timeout=60)
+        told = list(map(str, (node, *words)))
+        ran = subprocess.run(told, capture_output=True, text=True, timeout=120)
         self.assertEqual(ran.returncode, 0, ran.stdout + ran.stderr)
 
+    def test_what_it_says(self) -> None:
+        """What the page says while answers are late, out of order or lost: tests/state.js."""
+        self.run_node(Path(__file__).with_name("state.js"), PREVIEW / "state.js")
+
+    def test_what_it_does(self) -> None:
+        """What its buttons and fields do, with the answers of servers: tests/page.js."""
+        with served(page_of("full-matrix")) as one:
+            with served(page_of("full-matrix", "portable")) as several:
+                self.run_node(Path(__file__).with_name("page.js"), PREVIEW, one, several)
+
     def test_its_elements(self) -> None:
-        """Each element that the page's script or another element names is there, once."""
-        folder = Path(program.__file__).parent
-        page, script = ((folder / name).read_text() for name in ("page.html", "page.js"))
+        """Each element that the page's scripts or another element names is there, once."""
+        page = (PREVIEW / "page.html").read_text()
         there = re.findall(r'\bid="([\w-]+)"', page)
         self.assertEqual(len(there), len(set(there)))
+        self.assertEqual(tuple(re.findall(r'<script src="(.*?)" defer>', page)), SCRIPTS)
         named = " ".join(re.findall(r'(?:describedby|labelledby|for)="([^"]+)"', page)).split()
-        used = re.findall(r'\bbyId\("([\w-]+)"\)', script)
+        scripts = "".join((PREVIEW / name).read_text() for name in SCRIPTS)
+        used = re.findall(r'\bbyId\("([\w-]+)"\)', scripts)
         self.assertTrue(named and used)
         self.assertLessEqual({*named, *used}, set(there))
+
+
+# What stands on what, by the names of their colours in page.css, and the least contrast of each: of
+# text 4.5, and of an edge, or of what shows the focus, 3.
+TEXTS = {
+    "ground": ("text", "quiet", "amber", "wrong", "right"),
+    "panel": ("text", "quiet"),
+    "button": ("text", "off"),
+    "slip": ("text",),
+    "sign": ("sign-text",),
+}
+EDGES = {"ground": ("edge", "amber"), "panel": ("edge", "amber"), "button": ("amber",)}
+
+
+class Colours(unittest.TestCase):
+    def test_contrast(self) -> None:
+        """In light and dark all text has a contrast of at least 4.5, and each edge one of 3."""
+        dark, light = schemes((PREVIEW / "page.css").read_text())
+        self.assertEqual((len(dark), set(light) - set(dark)), (13, set()))
+        for name, colours in (("dark", dark), ("light", {**dark, **light})):
+            for table, least in ((TEXTS, 4.5), (EDGES, 3)):
+                for ground, texts in table.items():
+                    for text in texts:
+                        found = contrast(colours[ground], colours[text])
+                        self.assertGreaterEqual(found, least, f"{text} on {ground}, {name}")
+
+    def test_the_focus_is_seen(self) -> None:
+        style = (PREVIEW / "page.css").read_text()
+        self.assertIn(":focus-visible {\n  outline: 2px solid var(--amber);", style)
+        self.assertNotRegex(style, r"outline: *(none|0)")
+
+
+def schemes(style: str) -> list[dict[str, str]]:
+    """The colours of a style, for a dark room and for a light one."""
+    blocks = re.findall(r":root \{(.*?)\}", style, re.DOTALL)
+    return [dict(re.findall(r"--([\w-]+): (#\w+);", block)) for block in blocks]
+
+
+def contrast(one: str, other: str) -> float:
+    """The contrast of two colours, 1 to 21, as the guidelines for accessible pages define it."""
+    dim, bright = sorted(map(luminance, (one, other)))
+    return (bright + 0.05) / (dim + 0.05)
+
+
+def luminance(colour: str) -> float:
+    """How bright a colour such as #fff or #0b0c0e is, 0 to 1."""
+    digits = colour[1:] if len(colour) == 7 else "".join(2 * digit for digit in colour[1:])
+    shares = [int(digits[at : at + 2], 16) / 255 for at in (0, 2, 4)]
+    red, green, blue = (
+        share / 12.92 if share <= 0.03928 else ((share + 0.055) / 1.055) ** 2.4 for share in shares
+    )
+    return 0.2126 * red + 0.7152 * green + 0.0722 * blue
 
 
 class InTurn(program.Program):

@@ -5,13 +5,24 @@ import argparse
 import sys
 import webbrowser
 from pathlib import Path
+from typing import Optional
 
 from ..errors import LatsefurError
 from ..sign import Sign
 from . import program
 from .answers import Answers
-from .server import Page, Server
+from .server import OneSign, Page, Server
 from .templates import templates
+
+
+def one_sign(
+    file: str, files: list[str], library: Optional[str], path: Optional[Path]
+) -> OneSign:
+    """The sign of a file, which is named without its folder if no other file has that name."""
+    sign = Sign.from_file(file, library)
+    stems = [Path(other).stem for other in files]
+    name = Path(file).stem if stems.count(Path(file).stem) == 1 else file
+    return OneSign(name, Answers(sign), program.Program(path, sign.octets) if path else None)
 
 
 def main() -> None:
@@ -19,7 +30,13 @@ def main() -> None:
         prog="python -m latsefur.preview",
         description="A page to write messages on, for the browser of this machine.",
     )
-    parser.add_argument("--sign", required=True, metavar="FILE", help="the sign file")
+    parser.add_argument(
+        "--sign",
+        required=True,
+        action="append",
+        metavar="FILE",
+        help="the sign file; a second one shows its sign beside the first",
+    )
     parser.add_argument("--templates", metavar="FILE", help="messages to begin with, one a line")
     parser.add_argument(
         "--port", type=int, default=0, metavar="N", help="the port, or any that is free"
@@ -33,16 +50,13 @@ def main() -> None:
     if not 0 <= words.port <= 65535:
         parser.error("a port is 0 to 65535")
     try:
-        sign = Sign.from_file(words.sign, words.library)
         path = program.find(words.signctl)
-        asked = program.Program(path, sign.octets) if path else None
-        server = Server(
-            Page(Path(words.sign).stem, Answers(sign), templates(words.templates), asked),
-            words.port,
-        )
+        signs = [one_sign(name, words.sign, words.library, path) for name in words.sign]
+        server = Server(Page(signs, templates(words.templates)), words.port)
     except (LatsefurError, OSError) as fault:
         sys.exit(f"latsefur.preview: {fault}")
     print(server.url, flush=True)
+    asked = signs[0].program
     if asked is None:
         print(
             "signctl isn't there: refusals have their names alone, and no GIF is written",

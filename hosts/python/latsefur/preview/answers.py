@@ -5,18 +5,22 @@ import hashlib
 import re
 import threading
 from functools import lru_cache
-from typing import Any, Iterable, Optional
+from typing import Any, Optional, Sequence
 
+from ..controller import Controller
+from ..errors import TableFault
 from ..picture import COLOURS, Picture
 from ..sign import Sign, Verdict
 from ..values import MultiError, Text, octets_of
+from .tags import Tag, font_at, tags
 
 # A message of more octets isn't judged, as `signctl` judges none; and at most this many tenths of a second are drawn for one question.
 MOST_OCTETS = 4096
 MOST_TENTHS = 100
 
-# Characters of a font that are drawn on their buttons.
+# Characters of a font that are drawn on their buttons, and the pixels of small signs that are drawn for one answer: at least one is.
 MOST_DRAWN = 1024
+MOST_SMALL = 1 << 20
 
 # A bracket that more text can still mend: a tag that isn't closed, or a lone `]` at the end.
 OPEN = re.compile(rb"\]|\[[^][]*")
@@ -36,26 +40,59 @@ class Answers:
         self.stamp = hashlib.sha256(sign.octets).hexdigest()[:16]
         self.font = lru_cache(maxsize=255)(self._font)
         self.drawing = threading.Lock()
+        self.fonts = fonts_of(sign)
+        self.default_font = default_font(sign, self.fonts)
 
-    def facts(self, templates: Iterable[str]) -> dict[str, Any]:
-        """What the sign is like, its fonts, and those of the templates that it accepts. `stamp` tells its sign file from others."""
-        sign, offered = self.sign, list(templates)
-        verdicts = sign.check_all(template.encode("latin-1") for template in offered)
-        fonts = sign.check_all(f"[fo{number}]" for number in range(1, 256))
+    def facts(self) -> dict[str, Any]:
+        """What the sign is like, and its fonts; `font` is the default one. `stamp` tells its sign file from others."""
         return {
-            "width": sign.width,
-            "height": sign.height,
-            "pages": sign.max_pages,
-            "classic": sign.classic,
+            "width": self.sign.width,
+            "height": self.sign.height,
+            "pages": self.sign.max_pages,
+            "classic": self.sign.classic,
             "stamp": self.stamp,
             "colours": list(COLOURS),
-            "templates": [template for template, verdict in zip(offered, verdicts) if verdict],
-            "fonts": [
-                number
-                for number, verdict in enumerate(fonts, 1)
-                if verdict.error != MultiError.FONT_NOT_DEFINED
-            ],
+            "fonts": self.fonts,
+            "font": self.default_font,
         }
+
+    def taken(self, texts: Sequence[str]) -> list[bool]:
+        """Whether each of these texts is accepted."""
+        return list(map(bool, self.sign.check_all(text.encode("latin-1") for text in texts)))
+
+    def tags(self) -> list[Tag]:
+        """The tags with buttons that the sign has."""
+        offered = tags(self.sign.classic, self.fonts)
+        taken = self.taken([tag.message() for tag in offered])
+        return [tag for tag, is_taken in zip(offered, taken) if is_taken]
+
+    def small(self, texts: Sequence[str]) -> list[str]:
+        """How each of these accepted texts begins, as pictures of digits. What isn't drawn is empty."""
+        most = self.most_small()
+        drawn = [digits(self.sign.colours(text).octets) for text in texts[:most]]
+        return drawn + [""] * (len(texts) - len(drawn))
+
+    def strip(self, text: Text) -> list[str]:
+        """How each page of an accepted text begins, as pictures of digits, if it has several. Of very many pages not all are drawn."""
+        octets = octets_of(text)
+        pages = self.sign.check(octets).pages
+        drawn = range(min(pages, self.most_small())) if pages > 1 else ()
+        return [digits(self.sign.colours_of_page(octets, page).octets) for page in drawn]
+
+    def most_small(self) -> int:
+        """How many small signs are drawn for one answer."""
+        return max(1, MOST_SMALL // (self.sign.width * self.sign.height))
+
+    def font_at(self, text: str, caret: int) -> Optional[int]:
+        """The font in force at the caret, if the sign has it."""
+        number = font_at(text.encode("latin-1", "replace"), caret)
+        return self.default_font if number not in self.fonts else number
+
+    def picture(self, text: Text, page: Optional[int], time: int) -> Picture:
+        """What is shown of a text: of a page at a phase, or of the message at a clock. Raises what `Sign.colours_of_page` does."""
+        if page is None:
+            return self.sign.colours(text, time)
+        return self.sign.colours_of_page(text, page, time)
 
     def message(self, text: Text, view: Any, caret: int, begin: int, tenths: int) -> dict[str, Any]:
         """The verdict on a text and, if it is accepted, what is shown from `begin` on, for this many tenths of a second.
@@ -136,6 +173,22 @@ class Answers:
     def _drawn(self, number: int, character: int) -> list[str]:
         text = f"[jp2][jl2][fo{number}][hc{character:x}]"
         return cut(self.sign.colours(text)) if self.sign.check(text) else []
+
+
+def fonts_of(sign: Sign) -> list[int]:
+    """The numbers of a sign's fonts."""
+    verdicts = sign.check_all(f"[fo{number}]" for number in range(1, 256))
+    there = enumerate((verdict.error != MultiError.FONT_NOT_DEFINED for verdict in verdicts), 1)
+    return [number for number, is_defined in there if is_defined]
+
+
+def default_font(sign: Sign, fonts: Sequence[int]) -> Optional[int]:
+    """The font in force where no tag names one. A sign whose table has a fault isn't asked, and its first font is given."""
+    try:
+        with Controller(sign) as controller:
+            return controller.defaults().font
+    except TableFault:
+        return next(iter(fonts), None)
 
 
 def is_there(verdict: Verdict) -> bool:

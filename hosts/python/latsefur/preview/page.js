@@ -1,18 +1,7 @@
 "use strict";
 // The page on which one writes a message. It draws what the program behind it tells, and knows nothing of MULTI: a message is a row of
-// characters, and verdicts, places, times, pages and the colours of pixels are answers. What it says of a text and when it asks, state.js
-// decides.
-
-const byId = (id) => document.getElementById(id);
-
-// The colours as they shine, between the dots first; those of `signctl picture`. The one colour of a monochrome sign is amber.
-const BETWEEN = "rgb(12,12,12)";
-const SHINE = ["40,40,40", "255,32,32", "255,240,32", "32,224,64", "32,224,240", "64,96,255", "240,64,240", "255,255,255", "255,128,16",
-               "255,176,0"].map((shares) => `rgb(${shares})`);
-
-// The largest dot in CSS pixels, and what a phone is, as in page.css.
-const LARGEST = 16;
-const PHONE = "(max-width: 40rem), (max-height: 32rem)";
+// characters, and verdicts, places, times, pages and the colours of pixels are answers, and so are the tags that have buttons. What it says of a
+// text and when it asks, state.js decides; panels.js draws signs, and helps.js lists what helps one to write.
 
 // How many tenths of a second are asked for at once while a message plays, and how long before their end more are.
 const AHEAD = 50;
@@ -35,50 +24,8 @@ const FILM_PATIENCE = 10000;
 // Milliseconds after a key until the text is kept in the link. Browsers refuse to change it at each key.
 const KEPT_AFTER = 400;
 
-// A picture as round dots. It draws only the dots that differ from those that are there.
-class Dots {
-  constructor(canvas, width, height, classic) {
-    Object.assign(this, {canvas, width, height, shine: classic ? SHINE : [SHINE[0], ...Array(9).fill(SHINE[9])]});
-  }
-
-  // Sizes the dots for a room, which they fill if they may.
-  fit(room, largest, fills = false) {
-    const {pitch, shown} = fitted(room, this.width, window.devicePixelRatio || 1, largest, fills);
-    this.pitch = pitch;
-    this.canvas.width = pitch * this.width;
-    this.canvas.height = pitch * this.height;
-    this.canvas.style.width = `${shown}px`;
-    this.tiles = document.createElement("canvas");
-    this.tiles.width = this.pitch * this.shine.length;
-    this.tiles.height = this.pitch;
-    const pen = this.tiles.getContext("2d");
-    pen.fillStyle = BETWEEN;
-    pen.fillRect(0, 0, this.tiles.width, this.pitch);
-    this.shine.forEach((colour, number) => {
-      pen.fillStyle = colour;
-      if (this.pitch < 4) {
-        pen.fillRect(number * this.pitch, 0, this.pitch, this.pitch);
-      } else {
-        pen.beginPath();
-        pen.arc((number + 0.5) * this.pitch, this.pitch / 2, this.pitch * Math.sqrt(3) / 4, 0, 2 * Math.PI);
-        pen.fill();
-      }
-    });
-    this.there = "";
-  }
-
-  // A picture has a digit for each pixel, the number of its colour.
-  draw(picture) {
-    const pen = this.canvas.getContext("2d"), size = this.pitch;
-    for (let place = 0; place < picture.length; place++) {
-      if (picture[place] !== this.there[place]) {
-        const x = place % this.width * size, y = Math.floor(place / this.width) * size;
-        pen.drawImage(this.tiles, picture[place] * size, 0, size, size, x, y, size, size);
-      }
-    }
-    this.there = picture;
-  }
-}
+// Milliseconds for which an accepted text stands until it is kept among those that were accepted.
+const STOOD_AFTER = 3000;
 
 const GONE = "the program behind this page doesn't answer";
 
@@ -119,15 +66,21 @@ async function patiently(path, asked, lost) {
 }
 
 const text = byId("text"), view = byId("view"), canvas = byId("sign");
-let sign, dots;
 
-// The film of the last answer that counted, if that was accepted: its frames from `frames[0].time` up to `until`. `from` is the time at the moment
-// `begun`. `holds` is whether the page's text is the film's, and `seen` whether the film is what is wanted.
-let film = null, from = 0, begun = 0, loading = false, holds = false, seen = false;
+// The first sign, and a panel for each.
+let sign, panels = [];
+
+// The time at the moment `begun`, and whether the pictures are what is wanted.
+let from = 0, begun = 0, loading = false, seen = false;
 let playing = !window.matchMedia("(prefers-reduced-motion: reduce)").matches;
-let speaking = 0;
+let speaking = 0, resting = 0, standing = 0;
+
+const looking = new Looking();
 
 const now = () => playing ? from + Math.floor((performance.now() - begun) / 100) : from;
+
+// All films are of the same message and time.
+const filmOf = () => panels.map(({film}) => film).find((film) => film !== null) ?? null;
 
 // All questions go through this, and what is told of a text is drawn from it alone.
 const asking = new Asking({
@@ -135,9 +88,9 @@ const asking = new Asking({
   clock: {now: () => performance.now(), after: (rest, then) => setTimeout(then, rest), forget: clearTimeout.bind(window)},
 });
 
-// The answer on a text, and what is shown of it for some tenths of a second.
+// The answer on a text, and what is shown of it for some tenths of a second. Pictures of all pages come with the first of them.
 async function judged({text: asked, view: chosen, caret, begin}, tenths, signal) {
-  const answer = await told("judge", {text: asked, view: chosen, caret, begin, tenths}, signal);
+  const answer = await told("judge", {text: asked, view: chosen, caret, begin, tenths, strip: tenths === 1}, signal);
   if (isAnswer(answer) && answer.stamp !== sign.stamp) {
     keep();
     location.reload();
@@ -148,39 +101,44 @@ async function judged({text: asked, view: chosen, caret, begin}, tenths, signal)
 
 // Wants the text that is there, and what is shown of it at a time. If it `keeps`, a film that plays the same page goes on.
 function want(begin, keeps = false) {
-  const chosen = view.value === "plays" ? null : view.value === "caret" ? "caret" : Number(view.value);
+  const chosen = looking.view(view.value, playing, performance.now());
   asking.want({text: text.value, view: chosen, caret: text.selectionStart, begin, keeps});
   text.dataset.revision = asking.judging.revision;
 }
 
-const framesOf = (answer) => answer.frames.map(([time, page, place]) => ({time, page, picture: answer.pictures[place]}));
-
-// Shows an answer that counts: its first picture at once, and what comes later while it plays.
+// Shows an answer that counts: its first pictures at once, and what comes later while it plays.
 function show(answer, {begin, keeps}) {
-  const goesOn = keeps && film && film.text === answer.text && film.page === answer.page;
-  if (!answer.accepted) {
-    film = null;
-  } else if (!goesOn) {
-    film = {...answer, frames: framesOf(answer)};
+  const parts = partsOf(answer);
+  const goesOn = keeps && panels.every(({film}, place) => film ? film.goesOnWith(parts[place]) : !parts[place].accepted);
+  followFont(answer.font);
+  if (answer.accepted) {
+    listPages(answer.pages);
+    listStrip(answer.strip);
+  }
+  if (!goesOn) {
+    panels.forEach((panel, place) => { panel.film = parts[place].accepted ? new Film(parts[place]) : null; });
     from = begin;
     begun = performance.now();
-    listPages(film.pages);
-    drawFrame(film.frames[0], begin);
+    draw(begin);
+  }
+}
+
+// Draws all signs at a time.
+function draw(time) {
+  panels.forEach((panel) => panel.film && panel.draw(time));
+  if (panels[0].film) {
+    tellTime(panels[0].film, time);
   }
 }
 
 async function loadMore(begin) {
-  const mine = film;
+  const mine = panels.map(({film}) => film), {text: asked, page} = filmOf();
   let rest = 0;
   loading = true;
   try {
-    const asked = {text: mine.text, view: mine.page, caret: 0, begin};
-    const answer = await judged(asked, AHEAD, AbortSignal.timeout(FILM_PATIENCE));
-    if (mine === film && isAnswer(answer) && answer.accepted) {
-      const isOver = (_, place, all) => all[place + 1] && all[place + 1].time <= now();
-      const kept = film.until === begin ? film.frames.filter((...frame) => !isOver(...frame)) : [];
-      film.frames = [...kept, ...framesOf(answer)];
-      film.until = answer.until;
+    const answer = await judged({text: asked, view: page, caret: 0, begin}, AHEAD, AbortSignal.timeout(FILM_PATIENCE));
+    if (isAnswer(answer) && panels.every(({film}, place) => film === mine[place])) {
+      partsOf(answer).forEach((part, place) => part.accepted && mine[place] && mine[place].extend(part, begin, now()));
     }
   } catch (fault) {
     rest = RETRIED_AFTER;
@@ -189,35 +147,37 @@ async function loadMore(begin) {
   setTimeout(() => { loading = false; }, rest);
 }
 
-function drawFrame(frame, time) {
-  if (frame.picture !== dots.there) {
-    dots.draw(frame.picture);
-  }
-  const span = byId("time"), repeats = film.page === null && film.pages > 1 && film.cycle > 0;
-  const at = repeats ? time % film.cycle : time;
-  span.max = repeats ? film.cycle - 1 : MINUTE - 1;
+function tellTime(film, time) {
+  const frame = film.at(time), span = byId("time"), at = film.clock(time);
+  span.max = film.repeats() ? film.cycle - 1 : MINUTE - 1;
   span.value = at;
-  const page = frame.page === null ? "off time" : `page ${frame.page + 1} of ${film.pages}`;
-  byId("clock").textContent = `${seconds(at)} s${repeats ? ` of ${seconds(film.cycle)} s` : ""}, ${page}`;
   span.setAttribute("aria-valuetext", `${seconds(at)} seconds`);
-  Object.assign(canvas.dataset, {time, page: frame.page ?? "off"});
-  const label = frame.page === null ? "The sign in the off time of a page" : `The sign, ${page}, of the message ${film.text}`;
-  if (canvas.getAttribute("aria-label") !== label) {
-    canvas.setAttribute("aria-label", label);
+  byId("clock").textContent = `${seconds(at)} s${film.repeats() ? ` of ${seconds(film.cycle)} s` : ""}, ${pageOf(frame, film)}`;
+  if (frame.page !== shownPage) {
+    shownPage = frame.page;
+    tellPage();
   }
+}
+
+// Marks the small sign of the page that is shown.
+let shownPage = null;
+
+function tellPage() {
+  [...byId("strip").children].forEach((element, page) => element.setAttribute("aria-current", String(page === shownPage)));
 }
 
 function play() {
   requestAnimationFrame(play);
-  if (film && playing && holds) {
+  const film = filmOf();
+  if (film && playing && panels.some(({holds}) => holds)) {
     const time = now();
     if (time < film.until) {
-      drawFrame(film.frames.findLast((frame) => frame.time <= time), time);
+      draw(time);
     }
     if (!loading && time >= film.until - SOON) {
       loadMore(Math.max(time, film.until));
     }
-    canvas.classList.toggle("stale", !seen || time > film.until + LATE);
+    panels.forEach((panel) => panel.dim(!panel.holds || !seen || time > film.until + LATE));
   }
 }
 
@@ -225,14 +185,21 @@ function play() {
 
 // Tells all that is known of the text, and nothing else.
 function tell() {
-  const said = asking.said(), words = wordsOf(said), {revision} = asking.judging.answer ?? {};
-  holds = said.answer !== null && said.answer.accepted;
+  const said = asking.said(), parts = said.answer === null ? [] : partsOf(said.answer), {revision} = asking.judging.answer ?? {};
   seen = said.isSeen;
-  canvas.classList.toggle("stale", !holds || !seen);
-  canvas.classList.toggle("resting", said.kind === "unfinished");
+  const others = panels.map((panel, place) => {
+    const part = parts[place] ?? null;
+    return panel.tell(wordsOf({kind: part ? kindOf(part) : said.kind, answer: part}), part !== null && part.accepted, said.isSeen);
+  });
   tellLost(asking.judging.lost);
-  tellWords(words);
-  if (!holds) {
+  tellSlip(panels[0].words);
+  if (others.includes(true)) {
+    text.setAttribute("aria-invalid", panels[0].words.kind === "refused");
+    clearTimeout(speaking);
+    speaking = setTimeout(speak, SPOKEN_AFTER, panels.map(({sign: {name}, words}) => ({name, words})));
+  }
+  byId("strip").classList.toggle("stale", !panels[0].holds);
+  if (!panels[0].holds) {
     byId("clock").textContent = canvas.dataset.page === undefined ? "" : "the last message that was accepted";
   }
   // The last thing that changes: who waits for an answer sees all of it.
@@ -250,51 +217,14 @@ function tellLost(why) {
   byId("lost").hidden = why === "";
 }
 
-let lastWords = "";
-
-function tellWords(words) {
-  const written = JSON.stringify(words);
-  if (written === lastWords) {
-    return;
+// Marks the slip in the field itself: the marks stand behind its text, letter below letter.
+function tellSlip(words) {
+  const slip = slipOf(words, text.value);
+  byId("marks").hidden = slip === null;
+  for (const id of ["before", "at", "after"]) {
+    byId(id).textContent = slip === null ? "" : slip[id];
   }
-  lastWords = written;
-  byId("verdict").dataset.kind = words.kind;
-  text.setAttribute("aria-invalid", words.kind === "refused");
-  for (const id of ["outcome", "reason", "code"]) {
-    byId(id).textContent = words[id];
-    byId(id).hidden = words[id] === "";
-  }
-  tellPlace(words);
-  tellWarnings(words.warnings);
-  clearTimeout(speaking);
-  speaking = setTimeout(speak, SPOKEN_AFTER, words);
-}
-
-// Marks the octet at which something is wrong.
-function tellPlace({text: marked, at}) {
-  for (const id of ["place", "go"]) {
-    byId(id).hidden = at === null;
-  }
-  if (at !== null) {
-    const character = characterAt(marked, at);
-    byId("before").textContent = marked.slice(0, at);
-    byId("at").textContent = character || " ";
-    byId("after").textContent = marked.slice(at + character.length);
-    byId("go").textContent = `Go to octet ${at}`;
-    byId("go").dataset.at = at;
-  }
-}
-
-function tellWarnings(warnings) {
-  byId("warnings").hidden = warnings.length === 0;
-  byId("warnings").replaceChildren(...warnings.map(({octet, text: words}) => {
-    const item = document.createElement("li"), button = document.createElement("button");
-    button.type = "button";
-    button.textContent = `Go to octet ${octet}`;
-    button.addEventListener("click", () => goTo(octet));
-    item.append(`${words} `, button);
-    return item;
-  }));
+  byId("marks").scrollTop = text.scrollTop;
 }
 
 function goTo(octet) {
@@ -302,8 +232,8 @@ function goTo(octet) {
   text.setSelectionRange(octet, octet + characterAt(text.value, octet).length);
 }
 
-function speak({outcome, reason, warnings}) {
-  byId("spoken").textContent = [outcome, reason, ...warnings.map((one) => one.text)].filter(Boolean).join(" ");
+function speak(said) {
+  byId("spoken").textContent = spokenOf(said);
 }
 
 function say(words) {
@@ -345,7 +275,62 @@ function written() {
   say("");
   grow();
   keeping ??= setTimeout(keep, KEPT_AFTER);
+  write();
   want(0);
+  clearTimeout(standing);
+  standing = setTimeout(stand, STOOD_AFTER);
+}
+
+// One writes, and sees the page of the caret; after a rest the message plays.
+function write() {
+  looking.write(performance.now());
+  clearTimeout(resting);
+  resting = setTimeout(rest, RESTED);
+}
+
+function rest() {
+  const film = filmOf();
+  looking.rest();
+  if (view.value === "plays" && playing) {
+    want(film && film.pages === 1 ? now() : 0);
+  }
+}
+
+// The caret stands elsewhere: on another page, it may be, or in another font.
+function moved() {
+  const {wanted} = asking.judging;
+  if (document.activeElement !== text || (wanted.text === text.value && wanted.caret === text.selectionStart)) {
+    return;
+  }
+  if (looking.isWriting(performance.now())) {
+    write();
+  }
+  const goesOn = asking.judging.isJudged() && looking.view(view.value, playing, performance.now()) !== "caret";
+  want(goesOn ? now() : 0, true);
+}
+
+// Something is chosen to be seen.
+function choose(chosen, begin = 0) {
+  clearTimeout(resting);
+  looking.rest();
+  view.value = chosen;
+  want(begin);
+  tellChosen();
+}
+
+// An accepted text has stood for a while, or it is used.
+const isAccepted = () => text.value !== "" && asking.judging.isJudged() && asking.judging.answer.accepted;
+
+function stand() {
+  if (isAccepted()) {
+    changePast(() => past.stand(text.value));
+  }
+}
+
+function use() {
+  if (isAccepted()) {
+    changePast(() => past.use(text.value));
+  }
 }
 
 // Keeps the text in the link, so that it is there after a reload, and goes with the link.
@@ -365,8 +350,7 @@ function keep() {
 function follow() {
   const linked = textOf(location.hash);
   if (linked && linked !== text.value) {
-    text.select();
-    insert(linked);
+    replace(linked);
   } else {
     keep();
   }
@@ -382,11 +366,18 @@ function insert(given) {
   }
 }
 
-// Writes a tag before what is chosen and one after it, and keeps that chosen.
-function wrap(open, close) {
-  const {selectionStart: begin, selectionEnd: end} = text, chosen = text.value.slice(begin, end);
-  insert(`${open}${chosen}${close}`);
-  text.setSelectionRange(begin + open.length, begin + open.length + spelled(chosen).length);
+// Writes another message in place of the one that is there.
+function replace(words) {
+  past.leave();
+  text.select();
+  insert(words);
+}
+
+// Writes a tag around what is chosen, and keeps that chosen.
+function writeTag(tag) {
+  const {selectionStart: first, selectionEnd: last} = text, chosen = text.value.slice(first, last), {words, begin, end} = wrapped(tag, spelled(chosen));
+  insert(words);
+  text.setSelectionRange(first + begin, first + end);
 }
 
 function listPages(pages) {
@@ -399,14 +390,42 @@ function listPages(pages) {
   }
 }
 
+let smallPages = [];
+
+// A small sign for each page. One shows its page alone, and does so until it is pressed again.
+function listStrip(pictures) {
+  const strip = byId("strip");
+  if (smallPages.length !== pictures.length) {
+    smallPages = pictures.map((picture) => smallSign(sign, picture));
+    strip.replaceChildren(...smallPages.map(({canvas: small}, page) => {
+      const element = button("", () => choose(view.value === String(page) ? "plays" : String(page)));
+      element.append(small, made("span", {}, `page ${page + 1}`));
+      return element;
+    }));
+    tellPage();
+  }
+  pictures.forEach((picture, page) => smallPages[page].draw(picture));
+  strip.hidden = pictures.length === 0;
+  tellChosen();
+}
+
+function tellChosen() {
+  [...byId("strip").children].forEach((element, page) => element.setAttribute("aria-pressed", String(view.value === String(page))));
+}
+
 function turn(plays) {
+  const film = filmOf();
   from = now();
   begun = performance.now();
   playing = plays;
   byId("play").textContent = playing ? "Pause" : "Play";
+  if (playing && film && film.page !== null && view.value === "plays") {
+    choose("plays");
+  }
 }
 
 async function copied() {
+  use();
   try {
     await navigator.clipboard.writeText(text.value);
     return "The message is copied.";
@@ -417,99 +436,28 @@ async function copied() {
   }
 }
 
-async function save() {
+// Saves what is shown as a file, and gives its name.
+async function save(kind) {
+  const {film, holds} = panels[0];
+  const reply = await ask(kind, {text: text.value, view: film && holds ? film.page : null, begin: now()});
+  const link = made("a", {href: URL.createObjectURL(await reply.blob()), download: `${sign.name}.${kind}`});
+  link.click();
+  setTimeout(() => URL.revokeObjectURL(link.href), 10000);
+  use();
+  return link.download;
+}
+
+async function saved(kind, more = async () => "") {
   try {
-    const chosen = film && holds ? film.page : null;
-    const reply = await ask("gif", {text: text.value, view: chosen, begin: now()});
-    const link = document.createElement("a");
-    link.href = URL.createObjectURL(await reply.blob());
-    link.download = `${sign.name}.gif`;
-    link.click();
-    setTimeout(() => URL.revokeObjectURL(link.href), 10000);
-    say(`${link.download} is saved. ${await copied()}`);
+    const name = await save(kind);
+    say(`${name} is saved. ${await more()}`.trim());
   } catch (fault) {
     say(`No picture: ${fault.message}`);
   }
 }
 
-// ---- Characters and templates.
-
-function cell({number, text: given, rows}) {
-  const button = document.createElement("button");
-  button.type = "button";
-  button.tabIndex = -1;
-  const words = given.length === 1 ? `${given}, character ${number}` : `character ${number}, ${given}`;
-  button.title = words;
-  button.setAttribute("aria-label", given === " " ? `space, character ${number}` : words);
-  if (rows.length) {
-    const small = document.createElement("canvas");
-    const drawn = new Dots(small, rows[0].length, rows.length, sign.classic);
-    drawn.fit(4 * rows[0].length, 3);
-    drawn.draw(rows.join(""));
-    button.append(small);
-  } else {
-    button.textContent = given === " " ? "\u2423" : given;
-  }
-  button.addEventListener("click", () => insert(given));
-  return button;
-}
-
-async function showFont() {
-  const number = byId("font").value;
-  byId("use-font").textContent = `Write [fo${number}]`;
-  const {characters} = await patiently("font", {font: Number(number)}, (why) => asking.lose(why));
-  if (number !== byId("font").value) {
-    return;
-  }
-  const cells = characters.map(cell);
-  if (cells.length) {
-    cells[0].tabIndex = 0;
-  }
-  byId("cells").replaceChildren(...cells);
-}
-
-// One stop of the tab key; the arrow keys go from button to button.
-function walk(event) {
-  const cells = [...byId("cells").children], here = cells.indexOf(document.activeElement);
-  if (here < 0) {
-    return;
-  }
-  const {offsetTop, offsetLeft} = cells[here];
-  const inRow = (rows, of) => rows.findLast((other) => other.offsetTop === of.offsetTop && other.offsetLeft <= offsetLeft) ?? of;
-  const below = cells.slice(here).find((other) => other.offsetTop > offsetTop);
-  const above = cells.slice(0, here).findLast((other) => other.offsetTop < offsetTop);
-  const next = {
-    ArrowRight: cells[here + 1], ArrowLeft: cells[here - 1], Home: cells[0], End: cells[cells.length - 1],
-    ArrowDown: below && inRow(cells, below), ArrowUp: above && inRow(cells, above),
-  };
-  if (event.key in next) {
-    event.preventDefault();
-    const to = next[event.key] ?? cells[here];
-    cells[here].tabIndex = -1;
-    to.tabIndex = 0;
-    to.focus();
-  }
-}
-
-function template(words) {
-  const item = document.createElement("li"), button = document.createElement("button");
-  button.type = "button";
-  button.textContent = words;
-  button.addEventListener("click", () => {
-    text.select();
-    insert(words);
-  });
-  item.append(button);
-  return item;
-}
-
 function fit() {
-  const was = dots.there, style = getComputedStyle(byId("case"));
-  const room = byId("case").clientWidth - parseFloat(style.paddingLeft) - parseFloat(style.paddingRight);
-  // On a phone it fills its panel, but leaves half of the height to the message.
-  const isPhone = window.matchMedia(PHONE).matches;
-  dots.fit(room, isPhone ? window.innerHeight / 2 / sign.height : LARGEST, isPhone);
-  dots.draw(was || "0".repeat(sign.width * sign.height));
+  panels.forEach((panel) => panel.fit());
 }
 
 function listen() {
@@ -529,27 +477,40 @@ function listen() {
       insert(pasted.trim().replace(/\s*[\r\n]\s*/g, "[nl]"));
     }
   });
-  document.addEventListener("selectionchange", () => {
-    const {wanted} = asking.judging, isNew = wanted.text !== text.value || wanted.caret !== text.selectionStart;
-    if (view.value === "caret" && isNew && document.activeElement === text) {
-      want(0, true);
-    }
-  });
-  view.addEventListener("change", () => want(0));
-  byId("time").addEventListener("input", () => want(Number(byId("time").value)));
+  text.addEventListener("scroll", () => { byId("marks").scrollTop = text.scrollTop; });
+  document.addEventListener("selectionchange", moved);
+  view.addEventListener("change", () => choose(view.value));
+  byId("time").addEventListener("input", () => choose(view.value, Number(byId("time").value)));
   byId("play").addEventListener("click", () => turn(!playing));
   byId("go").addEventListener("click", () => goTo(Number(byId("go").dataset.at)));
-  byId("new-line").addEventListener("click", () => insert("[nl]"));
-  byId("new-page").addEventListener("click", () => insert("[np]"));
-  byId("flash").addEventListener("click", () => wrap("[fl]", "[/fl]"));
   byId("copy").addEventListener("click", async () => say(await copied()));
-  byId("save").addEventListener("click", save);
+  byId("save").addEventListener("click", () => saved("gif", copied));
+  byId("save-png").addEventListener("click", () => saved("png"));
   byId("font").addEventListener("change", showFont);
-  byId("use-font").addEventListener("click", () => insert(`[fo${byId("font").value}]`));
+  byId("use-font").addEventListener("click", () => {
+    const number = byId("font").value;
+    writeTag({open: `[fo${number}]`, close: "[fo]", pairs: false, replaces: false});
+  });
+  byId("forget").addEventListener("click", () => changePast(() => past.forget()));
   byId("cells").addEventListener("keydown", walk);
   window.addEventListener("resize", fit);
   window.addEventListener("resize", grow);
   window.addEventListener("hashchange", follow);
+}
+
+// Lays out what the signs are like.
+function lay() {
+  const named = [sign, ...sign.others].map(({name}) => name), several = named.length > 1;
+  byId("name").textContent = `A message for ${named.join(" and ")}`;
+  document.title = byId("name").textContent;
+  byId("size").textContent = several ? "" : `${sizeOf(sign)}, at most ${sign.pages} pages`;
+  byId("first").textContent = `${sign.name}: ${sizeOf(sign)}`;
+  byId("first").hidden = !several;
+  byId("signs").classList.toggle("several", several);
+  const own = ["outcome", "reason", "code", "go", "warnings", "verdict", "case"].map((id) => [id, byId(id)]);
+  panels = [new Panel({...sign, several}, {canvas, ...Object.fromEntries(own)}, goTo),
+            ...sign.others.map((other) => otherPanel({...other, several}, goTo))];
+  byId("signs").append(...panels.slice(1).map(({parts}) => parts.section));
 }
 
 async function begin() {
@@ -557,27 +518,30 @@ async function begin() {
   byId("port").textContent = `--port ${location.port || 80}`;
   sign = await patiently("sign", undefined, tellLost);
   tellLost("");
-  byId("name").textContent = `A message for ${sign.name}`;
-  document.title = `A message for ${sign.name}`;
-  byId("size").textContent = `${sign.width} by ${sign.height} pixels, ${sign.classic ? "ten colours" : "one colour"}, at most ${sign.pages} pages`;
-  dots = new Dots(canvas, sign.width, sign.height, sign.classic);
+  lay();
   fit();
   listPages(1);
+  // Who wants nothing to move sees the page of the caret.
+  view.value = playing ? "plays" : "caret";
   turn(playing);
-  text.placeholder = sign.templates.length ? `For example ${sign.templates[0]}` : "";
-  byId("new-page").hidden = sign.pages === 1;
+  text.placeholder = sign.templates.length ? `For example ${sign.templates[0].text}` : "";
   if (!sign.draws_gif) {
     byId("save").disabled = true;
     byId("save").title = "signctl, which writes GIF, isn't there";
   }
+  listTags(sign.tags, writeTag);
   byId("list").replaceChildren(...sign.templates.map(template));
   byId("none").hidden = sign.templates.length > 0;
   byId("font").replaceChildren(...sign.fonts.map((number) => new Option(number, number)));
+  recall();
+  listPast();
   listen();
   requestAnimationFrame(play);
   grow();
   want(0);
   if (sign.fonts.length) {
+    fontAtCaret = sign.font;
+    byId("font").value = String(sign.font);
     await showFont();
   }
 }

@@ -10,7 +10,7 @@ from http.server import BaseHTTPRequestHandler, ThreadingHTTPServer
 from pathlib import Path
 from typing import Any, Callable, Optional
 
-from ..errors import LatsefurError, NotAnOctet
+from ..errors import LatsefurError, NoPage, NotAnOctet, TextRefused, TextTooLong
 from .answers import Answers, TooLong
 from .program import NotDrawn, Program
 
@@ -19,8 +19,10 @@ ADDRESS = "127.0.0.1"
 FILES = {
     "/": ("page.html", "text/html; charset=utf-8"),
     "/page.css": ("page.css", "text/css; charset=utf-8"),
-    "/page.js": ("page.js", "text/javascript; charset=utf-8"),
-    "/state.js": ("state.js", "text/javascript; charset=utf-8"),
+    **{
+        f"/{name}": (name, "text/javascript; charset=utf-8")
+        for name in ("state.js", "panels.js", "helps.js", "page.js")
+    },
     "/favicon.svg": ("favicon.svg", "image/svg+xml"),
 }
 
@@ -53,35 +55,21 @@ class Refused(Exception):
 
 
 @dataclass(frozen=True)
-class Page:
-    """What the page is about."""
+class OneSign:
+    """One of the signs that the page shows: its name, what is answered of it, and the program that is asked about it."""
 
     name: str
     answers: Answers
-    templates: list[str]
     program: Optional[Program]
 
-    def facts(self) -> dict[str, Any]:
-        """The sign, and what is there beside the library."""
-        return {
-            "name": self.name,
-            "draws_gif": self.program is not None,
-            **self.answers.facts(self.templates),
-        }
-
-    def judge(self, asked: dict[str, Any]) -> dict[str, Any]:
-        """All that is told of a text: what `message` says, and beside it `words` and the sign's `stamp`.
-
-        `words` are the reason and the warnings of `signctl explain`, or `None` if there are none or they are of another verdict than the
-        library's. A page that finds another `stamp` than it began with is about a sign that isn't served any more.
-        """
-        text = text_of(asked)
+    def judge(self, text: str, asked: dict[str, Any]) -> dict[str, Any]:
+        """What is told of a text on this sign: what `message` says, and beside it `words`."""
         # The program runs while the library draws.
         with ThreadPoolExecutor(1) as asking:
             explained = asking.submit(self.explained, text)
             told = self.message(text, asked)
             words = words_of(explained.result(), told)
-        return {**told, "words": words, "stamp": self.answers.stamp}
+        return {**told, "words": words}
 
     def message(self, text: str, asked: dict[str, Any]) -> dict[str, Any]:
         """The verdict on a text and what is shown of it, as `Answers.message` says them. A text that isn't judged is refused by name."""
@@ -115,14 +103,80 @@ class Page:
             return None
         return self.program.explained(octets) if self.program else None
 
+
+@dataclass(frozen=True)
+class Page:
+    """What the page is about: one sign, or several side by side, of which the first has all that is there for writing."""
+
+    signs: list[OneSign]
+    templates: list[str]
+
+    @property
+    def first(self) -> OneSign:
+        """The sign whose characters and files are given."""
+        return self.signs[0]
+
+    @property
+    def stamp(self) -> str:
+        """Tells these signs from others."""
+        return "-".join(sign.answers.stamp for sign in self.signs)
+
+    def facts(self) -> dict[str, Any]:
+        """The signs, the templates and tags that all of them take, and what is there beside the library."""
+        first, others = self.first.answers, self.signs[1:]
+        verdicts = zip(*(sign.answers.taken(self.templates) for sign in self.signs))
+        texts = [text for text, taken in zip(self.templates, verdicts) if all(taken)]
+        shared = [set(sign.answers.tags()) for sign in self.signs]
+        return {
+            "name": self.first.name,
+            "draws_gif": self.first.program is not None,
+            **first.facts(),
+            "stamp": self.stamp,
+            "templates": [
+                {"text": text, "picture": picture}
+                for text, picture in zip(texts, first.small(texts))
+            ],
+            "tags": [tag.facts() for tag in first.tags() if all(tag in one for one in shared)],
+            "others": [{"name": sign.name, **sign.answers.facts()} for sign in others],
+        }
+
+    def judge(self, asked: dict[str, Any]) -> dict[str, Any]:
+        """All that is told of a text: what `message` and `words` say of it on the first sign, the same of `others`, and of these signs the
+        `stamp`. `font` is the font at the caret, and `strip`, if it is asked for, has a picture of each page.
+
+        `words` are the reason and the warnings of `signctl explain`, or `None` if there are none or they are of another verdict than the
+        library's. A page that finds another `stamp` than it began with is about signs that aren't served any more.
+        """
+        text, caret = text_of(asked), number(asked, "caret", MOST_BODY)
+        with ThreadPoolExecutor(len(self.signs)) as asking:
+            told, *others = asking.map(lambda sign: sign.judge(text, asked), self.signs)
+        is_drawn = told["accepted"] and asked.get("strip") is True
+        return {
+            **told,
+            "others": others,
+            "stamp": self.stamp,
+            "font": self.first.answers.font_at(text, caret),
+            "strip": self.first.answers.strip(text) if is_drawn else [],
+        }
+
     def font(self, asked: dict[str, Any]) -> dict[str, Any]:
-        return {"characters": self.answers.font(number(asked, "font", 255))}
+        """The characters of a font of the first sign."""
+        return {"characters": self.first.answers.font(number(asked, "font", 255))}
+
+    def png(self, asked: dict[str, Any]) -> bytes:
+        """A file in PNG: of a page of the first sign at a phase, or of the message at a clock."""
+        text, time = text_of(asked), number(asked, "begin", MOST_TIME)
+        page = None if asked.get("view") is None else number(asked, "view", 254)
+        try:
+            return self.first.answers.picture(text, page, time).png(self.scale())
+        except (NotAnOctet, NoPage, TextRefused, TextTooLong) as fault:
+            raise Refused(HTTPStatus.CONFLICT, str(fault)) from fault
 
     def gif(self, asked: dict[str, Any]) -> bytes:
-        """A file in GIF: of a page at a phase, or of the message as it plays."""
-        if self.program is None:
+        """A file in GIF: of a page of the first sign at a phase, or of the message as it plays."""
+        if self.first.program is None:
             raise Refused(HTTPStatus.CONFLICT, "signctl, which writes GIF, isn't there")
-        words = ["--scale", str(max(2, min(16, 1200 // self.answers.sign.width)))]
+        words = ["--scale", str(self.scale())]
         if asked.get("view") is None:
             words += ["--all"]
         else:
@@ -133,9 +187,13 @@ class Page:
                 str(number(asked, "begin", 2**32 - 1)),
             ]
         try:
-            return self.program.gif(text_of(asked).encode("latin-1", "replace"), words)
+            return self.first.program.gif(text_of(asked).encode("latin-1", "replace"), words)
         except NotDrawn as fault:
             raise Refused(HTTPStatus.CONFLICT, str(fault)) from fault
+
+    def scale(self) -> int:
+        """How many points side by side a pixel has in a file."""
+        return max(2, min(16, 1200 // self.first.answers.sign.width))
 
 
 def words_of(record: Optional[dict[str, Any]], told: dict[str, Any]) -> Optional[dict[str, Any]]:
@@ -208,8 +266,10 @@ class Handler(BaseHTTPRequestHandler):
     def post(self) -> tuple[bytes, str]:
         asked = self.asked()
         page = self.server.page
-        if self.path == "/gif":
-            return page.gif(asked), "image/gif"
+        files = {"/gif": (page.gif, "image/gif"), "/png": (page.png, "image/png")}
+        if self.path in files:
+            draw, kind = files[self.path]
+            return draw(asked), kind
         calls = {"/judge": page.judge, "/font": page.font}
         if self.path not in calls:
             raise Refused(HTTPStatus.NOT_FOUND, "no such call")

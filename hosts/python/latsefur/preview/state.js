@@ -125,8 +125,14 @@ function kindOf({accepted, text, unfinished}) {
 
 // Whether an answer is one of the page's own server, as far as the page relies on it.
 function isAnswer(answer) {
-  const {accepted, name, frames} = answer ?? {};
-  return accepted === true ? Array.isArray(frames) && frames.length > 0 : accepted === false && typeof name === "string";
+  const {accepted, name, frames, others} = answer ?? {};
+  const isOwn = accepted === true ? Array.isArray(frames) && frames.length > 0 : accepted === false && typeof name === "string";
+  return isOwn && (others ?? []).every(isAnswer);
+}
+
+// What an answer says of each sign, of the first one first.
+function partsOf(answer) {
+  return [answer, ...(answer.others ?? []).map((other) => ({...other, text: answer.text}))];
 }
 
 // Asks what is wanted until it is answered. `ask(question, signal)` gives the promise of an answer; `answered(answer, question)` is told of each
@@ -189,6 +195,125 @@ class Asking {
   }
 }
 
+// ---- What is shown.
+
+// What is shown of an accepted message on a sign, from the time of its first frame up to `until`. A frame stands until the next one. `page` is the
+// page that is shown alone, and then times are its phases; or it is `null`, and the message plays.
+class Film {
+  constructor(answer) {
+    const {text, page, pages, cycle, until} = answer;
+    Object.assign(this, {text, page, pages, cycle, until, frames: framesOf(answer)});
+  }
+
+  at(time) {
+    return this.frames.findLast((frame) => frame.time <= time);
+  }
+
+  // Whether an answer goes on with the same message and page.
+  goesOnWith({accepted, text, page}) {
+    return accepted && this.text === text && this.page === page;
+  }
+
+  // Takes more, from `begin` on. What is over at `now` is forgotten, and so is all if there would be a gap.
+  extend(answer, begin, now) {
+    const isOver = (_, place, all) => all[place + 1] && all[place + 1].time <= now;
+    const kept = this.until === begin ? this.frames.filter((...frame) => !isOver(...frame)) : [];
+    this.frames = [...kept, ...framesOf(answer)];
+    this.until = answer.until;
+  }
+
+  // The time in its message: one of several pages begins anew.
+  clock(time) {
+    return this.repeats() ? time % this.cycle : time;
+  }
+
+  repeats() {
+    return this.page === null && this.pages > 1 && this.cycle > 0;
+  }
+}
+
+const framesOf = ({frames, pictures}) => frames.map(([time, page, place]) => ({time, page, picture: pictures[place]}));
+
+// How long after the last key a message plays again.
+const RESTED = 1500;
+
+// What is looked at: while one writes a message that plays, the page of the caret.
+class Looking {
+  constructor() {
+    this.writtenUntil = -Infinity;
+  }
+
+  write(now) {
+    this.writtenUntil = now + RESTED;
+  }
+
+  rest() {
+    this.writtenUntil = -Infinity;
+  }
+
+  isWriting(now) {
+    return now < this.writtenUntil;
+  }
+
+  // What is asked for: a page by its number, "caret", or `null` for the message as it plays. `chosen` is one of these, or "plays".
+  view(chosen, isPlaying, now) {
+    if (chosen === "plays") {
+      return isPlaying && this.isWriting(now) ? "caret" : null;
+    }
+    return chosen === "caret" ? "caret" : Number(chosen);
+  }
+}
+
+// ---- What was accepted, for this browser to go back to.
+
+const MOST_PAST = 30;
+
+// The newest text is the first one.
+class Past {
+  constructor(texts) {
+    Object.assign(this, {texts, growing: null});
+  }
+
+  // A text was accepted, and stood for a while. If it goes on with the last such one, it takes that one's place.
+  stand(text) {
+    const isMore = this.growing !== null && text.startsWith(this.growing);
+    this.add(text, isMore ? this.growing : null);
+    this.growing = text;
+  }
+
+  // A text was accepted, and used: copied, say. It stays beside what goes on with it.
+  use(text) {
+    this.add(text, null);
+    this.growing = null;
+  }
+
+  // Another text was begun.
+  leave() {
+    this.growing = null;
+  }
+
+  add(text, instead) {
+    if (text !== "") {
+      this.texts = [text, ...this.texts.filter((other) => other !== text && other !== instead)].slice(0, MOST_PAST);
+    }
+  }
+
+  forget() {
+    Object.assign(this, {texts: [], growing: null});
+  }
+}
+
+// The texts that were kept. What anyone else has left there isn't taken.
+function pastOf(kept) {
+  try {
+    const texts = JSON.parse(kept ?? "[]");
+    const isText = (text) => typeof text === "string" && text !== "" && text.length <= MOST_CHARACTERS && !/[\u0000-\u001f]/.test(text);
+    return Array.isArray(texts) ? [...new Set(texts.filter(isText))].slice(0, MOST_PAST) : [];
+  } catch {
+    return [];
+  }
+}
+
 // ---- What is said in words.
 
 const seconds = (tenths) => (tenths / 10).toFixed(1);
@@ -218,6 +343,25 @@ function unfinishedWords(answer) {
   const isTag = answer.text[answer.at] === "[";
   const outcome = isTag ? "Not finished: a tag is open, and ] closes it." : "Not finished: a ] that is to be shown is written ]].";
   return {outcome, code: codeOf(answer)};
+}
+
+// What is heard: the words of each sign, behind its name if there are several.
+function spokenOf(told) {
+  const said = told.map(({name, words: {outcome, reason, warnings}}) => {
+    const parts = [outcome, reason, ...warnings.map((one) => one.text)];
+    return (told.length > 1 ? [`${name}:`, ...parts] : parts).filter(Boolean).join(" ");
+  });
+  return said.join(" ");
+}
+
+// The slip in a text that is there, in three parts: what stands before the octet of the words, its character, and what stands after it. If no
+// octet is marked, or the words are of another text, there is no slip. A space stands where the text is over.
+function slipOf({text, at}, there) {
+  if (at === null || text !== there) {
+    return null;
+  }
+  const character = characterAt(text, at);
+  return {before: text.slice(0, at), at: character || " ", after: text.slice(at + character.length)};
 }
 
 // The character that stands at an octet: one above U+FFFF is two for the browser, of which neither stands alone. Nothing stands at the end.
@@ -270,6 +414,17 @@ function toSpell(text) {
   return {begin, end, words: spelled(text.slice(begin, end))};
 }
 
+// ---- Tags that are written by a button.
+
+// What is written for a tag in place of what is chosen, and which part of it is chosen then: from `begin` to `end`.
+function wrapped({open, close, pairs, replaces}, chosen) {
+  if (replaces) {
+    return {words: open, begin: open.length, end: open.length};
+  }
+  const last = chosen !== "" || pairs ? close : "";
+  return {words: `${open}${chosen}${last}`, begin: open.length, end: open.length + chosen.length};
+}
+
 // ---- The link of a text: it stands after the `#`.
 
 // What stands after the page's address. All but letters and digits is percent-encoded, so that no program that finds links in a letter cuts it.
@@ -307,7 +462,7 @@ function fitted(room, width, ratio, largest, fills) {
 // Node's tests take this file as a module; in the page it is a script.
 if (typeof module === "object") {
   module.exports = {
-    Asking, Judging, LOST, MOST_CHARACTERS, MOST_OPEN, PATIENCE, UNANSWERED,
-    characterAt, fitted, hashOf, kindOf, spelled, textOf, toSpell, wordsOf,
+    Asking, Film, Judging, LOST, Looking, MOST_CHARACTERS, MOST_OPEN, MOST_PAST, PATIENCE, Past, RESTED, UNANSWERED,
+    characterAt, fitted, hashOf, kindOf, partsOf, pastOf, slipOf, spelled, spokenOf, textOf, toSpell, wordsOf, wrapped,
   };
 }
