@@ -12,8 +12,8 @@ from .values import number_of
 if TYPE_CHECKING:
     import numpy
 
-# The points side by side for a pixel in a file, as `signctl picture` has them, and the most points of
-# a line that a notebook is shown.
+# The points side by side for a pixel in a file, as `signctl picture` has them, and the most points
+# of a line that a notebook is shown.
 SCALE = 8
 MOST_SHOWN = 1200
 
@@ -27,8 +27,9 @@ class Picture:
     `octets` has an octet for each pixel, 0 to 9, row by row from the top and each row from the left; 0 is black or dark, and on a sign of
     one colour a lit pixel is 1. `COLOURS` names them. `bytes(picture)` is `octets`.
 
-    `classic` says whether it is drawn in the ten colours; else all that is lit is amber. A simulated sign doesn't tell, and its pictures are
-    drawn in the ten. Pictures of the same pixels are equal.
+    `classic` says whether it is drawn in the ten colours; else all that is lit is amber. A
+    simulated sign doesn't tell, and its pictures are drawn in the ten. Pictures of the same pixels
+    are equal.
     """
 
     width: int
@@ -54,8 +55,9 @@ class Picture:
         return numpy.frombuffer(self.octets, numpy.uint8).reshape(self.height, self.width)
 
     def __array__(self, dtype: Any = None, copy: Optional[bool] = None) -> numpy.ndarray[Any, Any]:
-        """The same for `numpy.asarray(picture)`, in another type if one is named. Raises `ValueError`
-        if that takes a copy and `copy` is false."""
+        """The same for `numpy.asarray(picture)`, in another type if one is named.
+
+        Raises `ValueError` if that takes a copy and `copy` is false."""
         held = self.array()
         given = held.astype(held.dtype if dtype is None else dtype, copy=bool(copy))
         if copy is False and given is not held:
@@ -78,7 +80,7 @@ class Picture:
         return png_of(lines_of(self.rows(), scale_of(scale)), palette_of(self.classic))
 
     def save(self, path: PathLike, scale: SupportsIndex = SCALE) -> None:
-        """Writes the file in PNG. Raises `ValueError` if its name has another ending than `.png`, and
+        """Writes the file in PNG. Raises `ValueError` if its name doesn't end in `.png`, and
         `OSError` if it can't be written."""
         if Path(path).suffix.lower() != ".png":
             raise ValueError(f"{path} doesn't end in .png, and no other kind is written")

@@ -18,7 +18,8 @@ from .tags import Tag, font_at, tags
 MOST_OCTETS = 4096
 MOST_TENTHS = 100
 
-# Characters of a font that are drawn on their buttons, and the pixels of small signs that are drawn for one answer: at least one is.
+# Characters of a font that are drawn on their buttons, and the pixels of all small signs that are
+# drawn for one answer; one is always drawn.
 MOST_DRAWN = 1024
 MOST_SMALL = 1 << 20
 
@@ -44,7 +45,8 @@ class Answers:
         self.default_font = default_font(sign, self.fonts)
 
     def facts(self) -> dict[str, Any]:
-        """What the sign is like, and its fonts; `font` is the default one. `stamp` tells its sign file from others."""
+        """What the sign is like, and its fonts; `font` is the default one. `stamp` tells its sign
+        file from others."""
         return {
             "width": self.sign.width,
             "height": self.sign.height,
@@ -67,16 +69,18 @@ class Answers:
         return [tag for tag, is_taken in zip(offered, taken) if is_taken]
 
     def small(self, texts: Sequence[str]) -> list[str]:
-        """How each of these accepted texts begins, as pictures of digits. What isn't drawn is empty."""
+        """How each of these accepted texts begins, as a picture of digits. What isn't drawn is
+        empty."""
         most = self.most_small()
         drawn = [digits(self.sign.colours(text).octets) for text in texts[:most]]
         return drawn + [""] * (len(texts) - len(drawn))
 
     def strip(self, text: Text) -> list[str]:
-        """How each page of an accepted text begins, as pictures of digits, if it has several. Of very many pages not all are drawn."""
+        """How each page of an accepted text begins, as a picture of digits, if the text has several
+        pages. Of very many not all are drawn."""
         octets = octets_of(text)
         pages = self.sign.check(octets).pages
-        drawn = range(min(pages, self.most_small())) if pages > 1 else ()
+        drawn = range(min(pages, self.most_small()) if pages > 1 else 0)
         return [digits(self.sign.colours_of_page(octets, page).octets) for page in drawn]
 
     def most_small(self) -> int:
@@ -89,7 +93,8 @@ class Answers:
         return self.default_font if number not in self.fonts else number
 
     def picture(self, text: Text, page: Optional[int], time: int) -> Picture:
-        """What is shown of a text: of a page at a phase, or of the message at a clock. Raises what `Sign.colours_of_page` does."""
+        """What is shown of a text: of a page at a phase, or of the message at a clock. Raises what
+        `Sign.colours_of_page` does."""
         if page is None:
             return self.sign.colours(text, time)
         return self.sign.colours_of_page(text, page, time)
@@ -183,7 +188,8 @@ def fonts_of(sign: Sign) -> list[int]:
 
 
 def default_font(sign: Sign, fonts: Sequence[int]) -> Optional[int]:
-    """The font in force where no tag names one. A sign whose table has a fault isn't asked, and its first font is given."""
+    """The font in force where no tag names one. A sign whose table has a fault can't be asked: its
+    first font is given."""
     try:
         with Controller(sign) as controller:
             return controller.defaults().font

@@ -56,14 +56,17 @@ class Refused(Exception):
 
 @dataclass(frozen=True)
 class OneSign:
-    """One of the signs that the page shows: its name, what is answered of it, and the program that is asked about it."""
+    """One of the signs that the page shows: its name, what is answered of it, and the program that
+    is asked about it."""
 
     name: str
     answers: Answers
     program: Optional[Program]
 
     def judge(self, text: str, asked: dict[str, Any]) -> dict[str, Any]:
-        """What is told of a text on this sign: what `message` says, and beside it `words`."""
+        """What is told of a text on this sign: what `message` says, and beside it `words`, the
+        reason and the warnings of `signctl explain`. They are `None` if there are none, or if they
+        are of another verdict than the library's."""
         # The program runs while the library draws.
         with ThreadPoolExecutor(1) as asking:
             explained = asking.submit(self.explained, text)
@@ -106,7 +109,8 @@ class OneSign:
 
 @dataclass(frozen=True)
 class Page:
-    """What the page is about: one sign, or several side by side, of which the first has all that is there for writing."""
+    """What the page is about: one sign, or several side by side. Characters and files are those of
+    the first."""
 
     signs: list[OneSign]
     templates: list[str]
@@ -122,7 +126,8 @@ class Page:
         return "-".join(sign.answers.stamp for sign in self.signs)
 
     def facts(self) -> dict[str, Any]:
-        """The signs, the templates and tags that all of them take, and what is there beside the library."""
+        """The signs, the templates and tags that all of them take, and what is there beside the
+        library."""
         first, others = self.first.answers, self.signs[1:]
         verdicts = zip(*(sign.answers.taken(self.templates) for sign in self.signs))
         texts = [text for text, taken in zip(self.templates, verdicts) if all(taken)]
@@ -141,11 +146,12 @@ class Page:
         }
 
     def judge(self, asked: dict[str, Any]) -> dict[str, Any]:
-        """All that is told of a text: what `message` and `words` say of it on the first sign, the same of `others`, and of these signs the
-        `stamp`. `font` is the font at the caret, and `strip`, if it is asked for, has a picture of each page.
+        """All that is told of a text: what `OneSign.judge` says of it on the first sign, the same
+        on the `others`, and the `stamp` of these signs. `font` is the font at the caret, and
+        `strip`, if it is asked for, has a picture of each page.
 
-        `words` are the reason and the warnings of `signctl explain`, or `None` if there are none or they are of another verdict than the
-        library's. A page that finds another `stamp` than it began with is about signs that aren't served any more.
+        A page that finds another `stamp` than it began with is about signs that aren't served any
+        more.
         """
         text, caret = text_of(asked), number(asked, "caret", MOST_BODY)
         with ThreadPoolExecutor(len(self.signs)) as asking:

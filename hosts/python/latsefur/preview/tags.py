@@ -19,9 +19,9 @@ class Tag:
     """A tag that has a button.
 
     `group` and `name` are what the page calls it; a tag without a group stands alone. `open` is
-    written before what is chosen and `close` after it; `pairs` is whether both are written if nothing
-    is chosen, and `replaces` whether what is chosen is replaced. A sign has the tag if it accepts
-    `tried`.
+    written before what is chosen and `close` after it. `pairs` is whether both are written if
+    nothing is chosen, and `replaces` whether what is chosen is replaced. A sign has the tag if it
+    accepts `tried`, or if that is empty, both parts.
     """
 
     group: str
