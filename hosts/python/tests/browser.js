@@ -196,7 +196,7 @@ function elementsOf(page, html) {
 // A page of the folder that holds it, whose server is asked by `fetch(path, words)`.
 class Page {
   constructor(folder, fetch, {hash = "", kept = {}, still = false} = {}) {
-    Object.assign(this, {saved: [], blobs: [], copied: [], links: [], kept, listeners: {}});
+    Object.assign(this, {saved: [], blobs: [], copied: [], links: [], kept, listeners: {}, isGone: false});
     this.document = {
       activeElement: null, title: "", execCommand: () => false, createElement: (name) => new Element(this, name),
       getElementById: (id) => this.at(id), addEventListener: (kind, act) => { (this.listeners[kind] ??= []).push(act); },

@@ -10,7 +10,8 @@ const [folder, one, several] = process.argv.slice(2);
 const TWO_PAGES = "[pt9o2]ONE[np][pt9o2]TWO";
 
 const open = async (address, settings) => {
-  const page = new Page(folder, (path, words) => fetch(new URL(path, address), words), settings);
+  const asked = (path, words) => page.isGone ? Promise.reject(new TypeError("gone")) : fetch(new URL(path, address), words);
+  const page = new Page(folder, asked, settings);
   await page.until("a begin", () => page.at("sign").dataset.revision !== undefined && page.at("cells").children.length > 0);
   return page;
 };
@@ -138,6 +139,43 @@ const tests = {
     assert.deepStrictEqual(groups, ["Colour", "Font", "Line", "Page", "Page time"]);
   },
 
+  async "keys, and lines that are pasted"() {
+    const page = await open(one);
+    const text = page.at("text");
+    let stopped = 0;
+    const event = (type, more) => text.dispatchEvent({type, preventDefault: () => { stopped += 1; }, ...more});
+    await judged(page, "A");
+    event("keydown", {key: "Enter"});
+    event("keydown", {key: "Enter", ctrlKey: true});
+    event("keydown", {key: "Enter", isComposing: true});
+    event("keydown", {key: "B"});
+    assert.deepStrictEqual([text.value, stopped], ["A[nl][np]", 2]);
+    event("paste", {clipboardData: {getData: () => " ONE \n TWO\r\n"}});
+    assert.deepStrictEqual([text.value, stopped], ["A[nl][np]ONE[nl]TWO", 3]);
+    page.type("A\u00e9");
+    await page.until("a number", () => text.value === "A[hce9]");
+    assert.strictEqual(text.selectionStart, 7);
+  },
+
+  async "a link"() {
+    const page = await open(one, {hash: "#ROAD%20[nl]WORK"});
+    assert.deepStrictEqual([page.at("text").value, kind(page)], ["ROAD [nl]WORK", "accepted"]);
+    await judged(page, "A[nl]B");
+    await page.until("its link", () => page.links[page.links.length - 1] === "/#A%5Bnl%5DB");
+  },
+
+  async "a server that is gone"() {
+    const page = await open(one);
+    await judged(page, "ROAD");
+    page.isGone = true;
+    page.type("ROADS");
+    await page.until("a text that isn't judged", () => kind(page) === "gone");
+    assert.deepStrictEqual([page.at("lost").hidden, page.at("sign").classes.has("stale")], [false, true]);
+    page.isGone = false;
+    await page.until("a verdict", () => kind(page) === "accepted" && page.at("lost").hidden);
+    assert.strictEqual(page.at("sign").classes.has("stale"), false);
+  },
+
   async "the font at the caret"() {
     const page = await open(one);
     await judged(page, "A[fo1]B");
@@ -169,6 +207,18 @@ const tests = {
     page.at("save-png").click();
     await page.until("no file", () => page.at("status").textContent.startsWith("No picture: "));
     assert.strictEqual(page.blobs.length, 1);
+  },
+
+  async "a file in GIF, and a copy"() {
+    const page = await open(one);
+    await judged(page, TWO_PAGES);
+    if (page.at("save").disabled) {
+      return;
+    }
+    page.at("save").click();
+    await page.until("a file", () => page.at("status").textContent === "full-matrix.gif is saved. The message is copied.");
+    const octets = Buffer.from(await page.blobs[0].arrayBuffer());
+    assert.deepStrictEqual([octets.subarray(0, 6).toString(), page.copied], ["GIF89a", [TWO_PAGES]]);
   },
 
   async "what was accepted before"() {
@@ -206,6 +256,7 @@ const tests = {
     assert.deepStrictEqual([page.at("sign").classes.has("stale"), canvas.classes.has("stale")], [false, true]);
     await judged(page, "ROAD[nl]WORK");
     assert.deepStrictEqual([kind(page), ...said().slice(0, 2)], ["accepted", "Accepted: 1 page.", ""]);
+    assert.strictEqual(page.at("outcome").textContent, "full-matrix: Accepted: 1 page.");
     assert.deepStrictEqual([canvas.classes.has("stale"), canvas.dataset.page], [false, "0"]);
     await judged(page, "[cf1]ROAD[nl]WORK[x]");
     assert.deepStrictEqual([kind(page), said()[0]], ["refused", "Refused."]);

@@ -436,10 +436,10 @@ async function copied() {
   }
 }
 
-// Saves what is shown as a file, and gives its name.
+// Saves a file, and gives its name: what is shown as PNG; as GIF the message as it plays, or a page that is chosen to be seen alone.
 async function save(kind) {
-  const {film, holds} = panels[0];
-  const reply = await ask(kind, {text: text.value, view: film && holds ? film.page : null, begin: now()});
+  const {film, holds} = panels[0], isAlone = kind === "png" || view.value !== "plays";
+  const reply = await ask(kind, {text: text.value, view: film && holds && isAlone ? film.page : null, begin: now()});
   const link = made("a", {href: URL.createObjectURL(await reply.blob()), download: `${sign.name}.${kind}`});
   link.click();
   setTimeout(() => URL.revokeObjectURL(link.href), 10000);
@@ -507,6 +507,7 @@ function lay() {
   byId("first").textContent = `${sign.name}: ${sizeOf(sign)}`;
   byId("first").hidden = !several;
   byId("signs").classList.toggle("several", several);
+  byId("shown").setAttribute("aria-label", several ? `The sign ${sign.name}` : "The sign");
   const own = ["outcome", "reason", "code", "go", "warnings", "verdict", "case"].map((id) => [id, byId(id)]);
   panels = [new Panel({...sign, several}, {canvas, ...Object.fromEntries(own)}, goTo),
             ...sign.others.map((other) => otherPanel({...other, several}, goTo))];

@@ -146,6 +146,10 @@ class Panel {
       this.parts[name].textContent = words[name];
       this.parts[name].hidden = words[name] === "";
     }
+    // Below the field it isn't seen of which sign this is said.
+    if (this.sign.several && !this.parts.section) {
+      this.parts.outcome.textContent = `${this.sign.name}: ${words.outcome}`;
+    }
     this.parts.go.hidden = words.at === null;
     if (words.at !== null) {
       this.parts.go.textContent = `Go to octet ${words.at}`;
