@@ -196,7 +196,7 @@ function elementsOf(page, html) {
 // A page of the folder that holds it, whose server is asked by `fetch(path, words)`.
 class Page {
   constructor(folder, fetch, {hash = "", kept = {}, still = false} = {}) {
-    Object.assign(this, {saved: [], blobs: [], copied: [], links: [], kept, listeners: {}, isGone: false});
+    Object.assign(this, {saved: [], blobs: [], copied: [], links: [], kept, listeners: {}, isGone: false, isClosed: false});
     this.document = {
       activeElement: null, title: "", execCommand: () => false, createElement: (name) => new Element(this, name),
       getElementById: (id) => this.at(id), addEventListener: (kind, act) => { (this.listeners[kind] ??= []).push(act); },
@@ -210,8 +210,9 @@ class Page {
   globals(fetch, hash, still) {
     const page = this;
     const globals = {
-      document: this.document, performance, console, fetch, AbortController, AbortSignal, Event, setTimeout, clearTimeout,
-      requestAnimationFrame: (act) => { this.frame = setTimeout(act, 16); },
+      document: this.document, performance, console, AbortController, AbortSignal, Event, setTimeout, clearTimeout,
+      fetch: (...words) => this.isClosed ? new Promise(() => {}) : fetch(...words),
+      requestAnimationFrame: (act) => this.isClosed || setTimeout(act, 16),
       location: {hash, port: "1", pathname: "/", reload: () => { this.reloaded = true; }},
       history: {replaceState: (_, __, link) => this.links.push(link)},
       navigator: {clipboard: {writeText: async (words) => { this.copied.push(words); }}},
@@ -229,6 +230,11 @@ class Page {
       },
     };
     return Object.assign(globals, {window: globals});
+  }
+
+  // Nothing is drawn or asked any more.
+  close() {
+    this.isClosed = true;
   }
 
   at(id) {

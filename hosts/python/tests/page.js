@@ -9,9 +9,12 @@ const [folder, one, several] = process.argv.slice(2);
 
 const TWO_PAGES = "[pt9o2]ONE[np][pt9o2]TWO";
 
+const opened = [];
+
 const open = async (address, settings) => {
   const asked = (path, words) => page.isGone ? Promise.reject(new TypeError("gone")) : fetch(new URL(path, address), words);
   const page = new Page(folder, asked, settings);
+  opened.push(page);
   await page.until("a begin", () => page.at("sign").dataset.revision !== undefined && page.at("cells").children.length > 0);
   return page;
 };
@@ -271,22 +274,16 @@ const tests = {
 };
 
 async function main() {
+  // A test that waits for ever ends Node without a word.
   process.exitCode = 1;
-  // A page goes on for as long as it is there, so the tests end this program.
-  const results = await Promise.all(Object.entries(tests).map(async ([name, test]) => {
-    try {
-      await test();
-      return "";
-    } catch (fault) {
-      return `${name}: ${fault.stack}\n`;
-    }
-  }));
-  const faults = results.join("");
-  if (faults) {
-    console.error(faults);
-    process.exit(1);
+  for (const [name, test] of Object.entries(tests)) {
+    await test().catch((fault) => {
+      console.error(`${name}: ${fault.stack}`);
+      process.exit(1);
+    });
+    opened.splice(0).forEach((page) => page.close());
   }
-  console.log(`${results.length} tests of what the page does pass`);
+  console.log(`${Object.keys(tests).length} tests of what the page does pass`);
   process.exit(0);
 }
 
