@@ -28,6 +28,19 @@ async function judged(page, text, caret) {
 }
 
 const shown = (page) => page.at("sign").dataset.page;
+
+// The page that is shown while one still writes: a machine that is busy may answer only after the rest, and then it is typed again.
+async function shownWhile(page, text, caret) {
+  for (let turn = 0; turn < 20; turn++) {
+    const begun = performance.now();
+    await judged(page, text, caret);
+    if (performance.now() - begun < 1000) {
+      return shown(page);
+    }
+  }
+  throw new Error("no answer comes while one writes");
+}
+
 const strip = (page) => page.at("strip").children;
 const pressed = (page) => strip(page).map((it) => it.getAttribute("aria-pressed"));
 const texts = (page, id) => page.at(id).children.map((it) => it.textContent);
@@ -80,10 +93,8 @@ const tests = {
 
   async "the page of the caret while one writes, and then all"() {
     const page = await open(one);
-    await judged(page, TWO_PAGES);
-    assert.deepStrictEqual([shown(page), page.at("view").value], ["1", "plays"]);
-    await judged(page, TWO_PAGES, 8);
-    assert.strictEqual(shown(page), "0");
+    assert.deepStrictEqual([await shownWhile(page, TWO_PAGES), page.at("view").value], ["1", "plays"]);
+    assert.strictEqual(await shownWhile(page, TWO_PAGES, 8), "0");
     await page.until("the first page goes", () => shown(page) === "off", 5);
     await page.until("the second page", () => shown(page) === "1", 5);
     page.at("play").click();
@@ -263,8 +274,7 @@ const tests = {
     assert.deepStrictEqual([canvas.classes.has("stale"), canvas.dataset.page], [false, "0"]);
     await judged(page, "[cf1]ROAD[nl]WORK[x]");
     assert.deepStrictEqual([kind(page), said()[0]], ["refused", "Refused."]);
-    await judged(page, TWO_PAGES);
-    assert.deepStrictEqual([shown(page), canvas.dataset.page], ["1", "1"]);
+    assert.deepStrictEqual([await shownWhile(page, TWO_PAGES), canvas.dataset.page], ["1", "1"]);
     await page.until("both play", () => shown(page) === "0" && canvas.dataset.page === "0", 5);
     // Only what both have has a button.
     assert.strictEqual(buttonOf(page, "Colour: red"), undefined);
