@@ -20,7 +20,9 @@ pub enum OutsideChoice {
 
 /// The table of a font (own).
 #[derive(Drop)]
-pub struct FontRequest {
+pub struct FontRequest<'a> {
+    /// The name of the file that is read, if not the input.
+    pub file: Option<&'a str>,
     /// The font's number, 1 to 255.
     pub number: u8,
     /// The font's version.
@@ -65,14 +67,15 @@ fn characters_of(
 }
 
 /// The table that is asked for, or `None` if the words name no characters.
-pub(crate) fn font_asked(
+pub(crate) fn font_asked<'a>(
     alloc: Global,
-    font: &ArgMatches<'_>,
-) -> Result<Option<FontRequest>, AllocError> {
+    font: &ArgMatches<'a>,
+) -> Result<Option<FontRequest<'a>>, AllocError> {
     let Some(characters) = characters_of(alloc, font)? else {
         return Ok(None);
     };
     Ok(Some(FontRequest {
+        file: font.get_str("file"),
         number: octet_of(font, "number").unwrap_or(1),
         version: word_of(font, "version").unwrap_or(0),
         char_spacing: octet_of(font, "char-spacing"),

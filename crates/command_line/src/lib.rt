@@ -10,6 +10,7 @@ mod explain;
 mod font;
 mod picture;
 mod request;
+mod sign;
 mod source;
 mod table;
 
@@ -18,5 +19,6 @@ pub use characters::Characters;
 pub use explain::{ExplainRequest, Messages, ReportFormat};
 pub use font::{FontRequest, OutsideChoice};
 pub use picture::{PictureRequest, Shown};
-pub use request::{Request, SignRequest, request_of};
+pub use request::{Request, request_of};
+pub use sign::{SignFormat, SignRequest};
 pub use source::SignSource;

@@ -6,21 +6,11 @@ use crate::characters::NO_CHARACTERS;
 use crate::explain::{ExplainRequest, explain_asked, explain_refusal};
 use crate::font::{FontRequest, font_asked};
 use crate::picture::{PictureRequest, picture_asked};
+use crate::sign::{SignRequest, sign_asked};
 use crate::source::{SignSource, number_of, octet_of, sign_source};
 use clap::error::ErrorKind;
 use clap::{ArgMatches, Error};
 use std::alloc::Global;
-
-/// What a sign file describes, or the characters of one of its fonts (own).
-#[derive(Clone, Copy)]
-pub struct SignRequest {
-    /// The font whose characters are shown, 1 to 255, if one is asked for.
-    pub font: Option<u8>,
-    /// Whether the file is told of in JSON. No font is asked for then.
-    pub is_json: bool,
-    /// Whether warnings count as faults.
-    pub is_strict: bool,
-}
 
 /// What was asked for, a variant for each command (own).
 #[derive(Drop)]
@@ -48,25 +38,13 @@ pub enum Request<'a> {
     /// A message as a picture.
     Picture(PictureRequest<'a>),
     /// What a sign file describes, or the characters of one of its fonts.
-    Sign(SignRequest),
+    Sign(SignRequest<'a>),
     /// The table of a font.
-    Font(FontRequest),
+    Font(FontRequest<'a>),
 }
 
-/// What `signctl sign` is asked for.
-fn sign_asked(sign: &ArgMatches<'_>) -> SignRequest {
-    SignRequest {
-        font: octet_of(sign, "font"),
-        is_json: sign.get_str("format") == Some("json"),
-        is_strict: sign.get_flag("strict"),
-    }
-}
-
-/// What a command with this name is asked for. `font`, `picture` and `explain` are asked for apart, since they can be refused.
+/// What a command with this name is asked for. Those that can be refused are asked for apart.
 fn asked_of<'a>(name: &str, asked: &ArgMatches<'a>) -> Request<'a> {
-    if name == "sign" {
-        return Request::Sign(sign_asked(asked));
-    }
     let sign = sign_source(asked);
     match name {
         // both have a default
@@ -101,6 +79,12 @@ fn read_words<'a>(alloc: Global, words: &'a [&'a str]) -> Result<Request<'a>, Er
         return match explain_refusal(explain) {
             None => Ok(Request::Explain(explain_asked(alloc, explain)?)),
             Some(why) => Err(tool.error(ErrorKind::MissingRequiredArgument, why)?),
+        };
+    }
+    if let Some(sign) = matches.subcommand_matches("sign") {
+        return match sign_asked(sign) {
+            Ok(asked) => Ok(Request::Sign(asked)),
+            Err(why) => Err(tool.error(ErrorKind::ArgumentConflict, why)?),
         };
     }
     match matches.subcommand() {

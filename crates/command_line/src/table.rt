@@ -215,21 +215,31 @@ const PICTURE: [OptionRow; 8] = [
     },
 ];
 
+/// A file that is read in place of the input.
+const PLACE: [OptionRow; 1] = [OptionRow {
+    name: "file",
+    takes: Takes::Place,
+    help: "Reads this file in place of the input",
+    default: None,
+    conflicts: &[],
+    needs: &[],
+}];
+
 /// How a sign file is told of.
 const SIGN_FILE: [OptionRow; 3] = [
     OptionRow {
         name: "font",
         takes: Takes::Number(1, 255),
-        help: "Shows the characters of this font, 1 to 255",
+        help: "Shows the characters of this font, 1 to 255; with --format json their widths and bits",
         default: None,
-        conflicts: &["format"],
+        conflicts: &[],
         needs: &[],
     },
     OptionRow {
         name: "format",
-        takes: Takes::Word("FORMAT", &["text", "json"]),
-        help: "Tells of the file in words, or in JSON for programs",
-        default: None,
+        takes: Takes::Word("WHAT", &["text", "lines", "json"]),
+        help: "Tells of the file in words, or in lines as editors read them, or in JSON for programs",
+        default: Some("text"),
         conflicts: &[],
         needs: &[],
     },
@@ -362,11 +372,11 @@ pub(crate) const COMMANDS: [CommandRow; 8] = [
     CommandRow {
         name: "sign",
         about: "Reads a sign file, and says what it describes, or what is wrong with it",
-        options: &[&SIGN_FILE],
+        options: &[&SIGN_FILE, &PLACE],
     },
     CommandRow {
         name: "font",
         about: "Reads a font in BDF, and writes it as the [[font]] table of a sign file",
-        options: &[&FONT],
+        options: &[&FONT, &PLACE],
     },
 ];

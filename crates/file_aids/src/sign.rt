@@ -17,16 +17,15 @@ pub struct SignFound {
 }
 
 /// Reads a sign file to the end of the input, and writes what it describes, or the faults that it has, with the permanent messages that its
-/// sign refuses and with warnings. `view` says how: in words, by the characters of one of its fonts, or in JSON.
+/// sign refuses and with warnings. `view` says how: in words, by the characters of one of its fonts, in JSON, or in lines for editors.
 ///
-/// If the answer is that it is sound, the other modes take it too, if no line of it has more than
-/// 8,300 octets or is their mark `%%`, and the sign shows each of its permanent messages.
+/// If the answer is that it is sound, the other modes take it too, and the sign shows each of its permanent messages.
 ///
 /// The errors are `Read`, `InputTooLong`, `Memory` and `Write`. Before `Write` the writer has taken a beginning of what is told, and
 /// before the others nothing.
 pub fn run_sign<R: Read, W: Write>(
     alloc: Global,
-    view: SignView,
+    view: SignView<'_>,
     reader: &mut R,
     writer: &mut W,
 ) -> Result<SignFound, ToolFault>

@@ -9,22 +9,22 @@ use Rattle.sign_font.specs.declared.fault.SignFault.TheVariants as sign_faults
 use Rattle.message_store.specs.Limits.{can_be_made}
 use Rattle.message_store.specs.declared.fault.StoreMade.TheVariants as store_faults
 use Rattle.sign_file.specs.SignFile.{FileData, file_of_octets}
-use Rattle.sign_report.specs.Setup.{is_whole, is_taken}
+use Rattle.sign_report.specs.Setup.{is_whole, is_made}
 
--- octets that aren't read as a sign file aren't taken
-pub unread : (octets : List ℕ) → file_of_octets octets ≡ None → false ≡ is_taken octets
+-- octets that aren't read as a sign file aren't made into one
+pub unread : (octets : List ℕ) → file_of_octets octets ≡ None → false ≡ is_made octets
 unfolding is_whole
 unread octets is = rw is refl
 
--- a file whose sign and message table are made is taken
+-- a file whose sign and message table are made is such a file
 pub taken : (octets : List ℕ) (file : FileData) → file_of_octets octets ≡ Some file → first_fault file.sign ≡ None
-    → can_be_made file.limits file.permanents ≡ true → true ≡ is_taken octets
+    → can_be_made file.limits file.permanents ≡ true → true ≡ is_made octets
 unfolding is_whole
 taken octets file is none can = rw (is, none, can) refl
 
 -- a file whose message table isn't made isn't taken
 pub unmade : (octets : List ℕ) (file : FileData) → file_of_octets octets ≡ Some file → first_fault file.sign ≡ None
-    → (can_be_made file.limits file.permanents ≡ true → store_faults.BadLimit ≡ store_faults.Memory) → false ≡ is_taken octets
+    → (can_be_made file.limits file.permanents ≡ true → store_faults.BadLimit ≡ store_faults.Memory) → false ≡ is_made octets
 unfolding is_whole
 unmade octets file is none memory =
     elim (cases_Bool (can_be_made file.limits file.permanents)) [
@@ -40,6 +40,6 @@ refused_by file (Some f) fault faulty memory other = refl
 -- a file whose sign is refused isn't taken
 pub refused : (octets : List ℕ) (file : FileData) (fault : SignFault) → file_of_octets octets ≡ Some file
     → IfSome (first_fault file.sign) (λ f. let r : Result SignData SignFault = Err fault in r ≡ Err f) → (first_fault file.sign ≡ None → fault ≡ sign_faults.Memory)
-    → (fault ≡ sign_faults.Memory → ⊥) → false ≡ is_taken octets
+    → (fault ≡ sign_faults.Memory → ⊥) → false ≡ is_made octets
 unfolding is_whole
 refused octets file fault is faulty memory other = rw (is, refused_by file (first_fault file.sign) fault faulty memory other) refl

@@ -5,15 +5,20 @@ use Rattle.sign_font.specs.Sign.{SignData}
 use Rattle.message_store.specs.Limits.{IsKept, can_be_made}
 use Rattle.message_store.specs.Slot.{StoreData}
 use Rattle.sign_file.specs.SignFile.{FileData, file_of_octets}
+use Rattle.sign_report.specs.Lines.{has_file_lines}
 
 -- whether a file is there whose sign has no fault, and whose message table can be made (own)
 unfoldable pub is_whole : Option FileData → Bool
 is_whole None = false
 is_whole (Some file) = is_none (first_fault file.sign) && can_be_made file.limits file.permanents
 
--- whether octets are a sign file that the program takes (own)
+-- whether octets are a sign file whose sign has no fault, and whose message table can be made (own)
+abbrev pub is_made : List ℕ → Bool
+is_made octets = is_whole (file_of_octets octets)
+
+-- whether octets are a sign file that the program takes: they are such a file, and each of their lines may stand before a mark (own)
 abbrev pub is_taken : List ℕ → Bool
-is_taken octets = is_whole (file_of_octets octets)
+is_taken octets = is_made octets && has_file_lines octets
 
 -- octets are a sign file with this sign, and with the permanent messages of this store (own)
 pub record SetsUp (octets : List ℕ) (sign : SignData) (store : StoreData) : Type 0 where

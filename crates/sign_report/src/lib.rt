@@ -6,6 +6,7 @@
 
 mod explanations;
 mod judged;
+mod lines;
 mod permanents;
 mod report;
 mod setup;

@@ -6,7 +6,7 @@ ghost use Rattle.sign_report.specs.Setup.{is_taken};
 
 use crate::explanations::explanations_of;
 use crate::judged::{Judged, judged_of};
-use sign_words::{PermanentRefusal, SignView, SignWords, find_in};
+use sign_words::{PermanentRefusal, SignView, SignWords, add_refusals, find_in};
 use std::alloc::{AllocError, Global};
 
 /// What is told of a sign file (own).
@@ -16,7 +16,7 @@ pub struct SignReport {
     pub is_taken: bool,
     /// The permanent messages that its sign refuses, in the order of their numbers; none if the file isn't taken.
     pub refusals: Vec<PermanentRefusal>,
-    /// How many warnings there are: what is no fault, and its maker may not have meant.
+    /// How many warnings are told, 50 at most: what is no fault, and its maker may not have meant.
     pub warnings: usize,
     /// What it describes, or each fault that was found; the refusals and the warnings.
     pub text: String,
@@ -25,16 +25,22 @@ pub struct SignReport {
 /// Says of the octets of a sign file what they describe, or each fault that is found in them, and which of its permanent messages the
 /// sign refuses, and why.
 ///
-/// `view` says whether the description, the pictures of a font's characters, or a document in JSON is asked for. A refused permanent
+/// `view` says whether the description, the pictures of a font's characters, a document in JSON, or lines for editors are asked for. A
+/// file is taken if its sign and its message table are, and if each of its lines can stand before a mark. A refused permanent
 /// message is no fault of the file: the program takes it, but the sign never shows that message. The error says that memory was
 /// refused.
-pub fn sign_report(alloc: Global, octets: &[u8], view: SignView) -> Result<SignReport, AllocError>
+pub fn sign_report(
+    alloc: Global,
+    octets: &[u8],
+    view: SignView<'_>,
+) -> Result<SignReport, AllocError>
     ensures taken { IfOk result (λ report. report.is_taken ≡ is_taken octets.now) }
     ensures refusals { IfOk result (λ report. report.refusals.items ≡ refusals_of octets.now) }
 {
     let Judged { setup, refusals } = judged_of(alloc, octets)?;
-    let found = find_in(alloc, octets)?;
+    let mut found = find_in(alloc, octets)?;
     let explanations = explanations_of(alloc, octets, &refusals)?;
+    add_refusals(&mut found, octets, &refusals, &explanations)?;
     let words = SignWords {
         alloc,
         view,

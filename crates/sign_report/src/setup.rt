@@ -1,7 +1,7 @@
 //! What a sign file sets up.
 
 ghost use Rattle.std.specs.Prelude.{◌≡◌, ◌≢◌, IfOk, IfSome, OnOk, is_some};
-ghost use Rattle.sign_report.specs.Setup.{SetsUp, is_taken};
+ghost use Rattle.sign_report.specs.Setup.{SetsUp, is_made};
 
 use message_store::{Store, StoreMade};
 use sign_file::{FileFault, SignFile, read_sign_file};
@@ -19,9 +19,9 @@ fn unless_memory(fault: SignFault) -> Result<(), AllocError>
     }
 }
 
-/// What these octets set up, or `None` if they are no sign file that the program takes.
+/// What these octets set up, or `None` if they are no sign file whose sign and message table can be made.
 pub(crate) fn setup_of(alloc: Global, octets: &[u8]) -> Result<Option<Setup>, AllocError>
-    ensures taken { IfOk result (λ setup. is_some setup ≡ is_taken octets.now) }
+    ensures taken { IfOk result (λ setup. is_some setup ≡ is_made octets.now) }
     ensures set_up { IfOk result (λ setup. IfSome setup (λ s. SetsUp octets.now s.sign s.store)) }
 {
     let file = match read_sign_file(alloc, octets) {

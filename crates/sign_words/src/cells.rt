@@ -1,6 +1,5 @@
 //! The cells of a font, listed for their CRC.
 
-use message_store::message_crc;
 use multi_token::Source;
 use sign_font::{Cell, FontInfo, Sign};
 use std::alloc::{AllocError, Global};
@@ -32,6 +31,13 @@ fn push_pixels(octets: &mut Vec<u8>, cell: &Cell<'_>) -> Result<(), AllocError> 
     Ok(())
 }
 
+/// The pixels of a cell as a sign file has them.
+pub(crate) fn cell_octets(alloc: Global, cell: &Cell<'_>) -> Result<Vec<u8>, AllocError> {
+    let mut octets = Vec::new(alloc);
+    push_pixels(&mut octets, cell)?;
+    Ok(octets)
+}
+
 /// Appends a cell: its number in two octets, the high one first, its width, and its pixels.
 fn push_cell(octets: &mut Vec<u8>, number: u16, cell: &Cell<'_>) -> Result<(), AllocError> {
     for octet in number.to_be_bytes() {
@@ -39,6 +45,25 @@ fn push_cell(octets: &mut Vec<u8>, number: u16, cell: &Cell<'_>) -> Result<(), A
     }
     octets.push(cell.width())?;
     push_pixels(octets, cell)
+}
+
+/// What one more octet makes of the register of a CRC (ISO/IEC 3309).
+fn after(register: u16, octet: u8) -> u16 {
+    let mut register = register ^ u16::from(octet);
+    for _ in 0..8u8 {
+        let half = register / 2;
+        register = if register % 2 == 1 { half ^ 0x8408 } else { half };
+    }
+    register
+}
+
+/// The CRC of octets (ISO/IEC 3309). `message_crc` has at least two: a beacon and a pixel service.
+fn crc_of(octets: &[u8]) -> u16 {
+    let mut register: u16 = 0xffff;
+    for octet in octets {
+        register = after(register, *octet);
+    }
+    register ^ 0xffff
 }
 
 /// The CRC of a font's cells (ISO/IEC 3309; what it is over is own): over the height of the font, and then, in the order of their
@@ -53,9 +78,5 @@ pub(crate) fn cells_crc(alloc: Global, sign: &Sign, font: FontInfo) -> Result<u1
             push_cell(&mut octets, number, &cell)?;
         }
     }
-    Ok(match octets.as_slice() {
-        // the CRC of a message is that of its text, its beacon and its pixel service
-        [text @ .., beacon, pixel] => message_crc(text, *beacon, *pixel),
-        _ => 0,
-    })
+    Ok(crc_of(&octets))
 }

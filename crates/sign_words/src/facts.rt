@@ -1,14 +1,27 @@
 //! What a sign file says, for programs.
 
-use crate::cells::cells_crc;
+use crate::cells::{cell_octets, cells_crc};
 use crate::describe::Setup;
-use crate::find::Findings;
+use crate::findings::{Finding, Findings};
 use crate::json::Document;
+use crate::place::push_place;
 use crate::refusal::PermanentRefusal;
 use message_store::{Permanent, StoreLimits, message_crc};
 use multi_token::Source;
-use sign_font::{Defaults, FontInfo, LineFill, Sign};
+use sign_font::{Cell, Defaults, FontInfo, LineFill, Sign};
 use std::alloc::{AllocError, Global};
+use std::fmt::Write;
+
+/// What is told beside the facts of a sign, and where memory comes from.
+#[derive(Clone, Copy)]
+pub(crate) struct Facts<'a> {
+    pub(crate) alloc: Global,
+    pub(crate) found: &'a Findings,
+    pub(crate) refusals: &'a [PermanentRefusal],
+    pub(crate) explanations: &'a [String],
+    /// The font whose cells are told, if one is named.
+    pub(crate) font: Option<u8>,
+}
 
 /// `true` or `false`.
 fn truth(is_so: bool) -> &'static str {
@@ -33,12 +46,71 @@ fn push_defaults(document: &mut Document, defaults: Defaults) -> Result<(), Allo
     document.close('}')
 }
 
-/// Writes a font and the numbers of its characters.
+/// Writes a cell, with its pixels as a sign file has them.
+fn push_cell(
+    alloc: Global,
+    document: &mut Document,
+    number: u16,
+    cell: &Cell<'_>,
+) -> Result<(), AllocError> {
+    let mut bits = String::new(alloc);
+    let octets = cell_octets(alloc, cell)?;
+    for octet in octets.iter().copied() {
+        write!(bits, "{octet:02x}")?;
+    }
+    document.open("", '{')?;
+    let facts = [
+        ("number", u64::from(number)),
+        ("width", u64::from(cell.width())),
+    ];
+    document.numbers(&facts)?;
+    document.text("bits", &bits)?;
+    document.close('}')
+}
+
+/// Writes all cells of a font.
+fn push_cells(
+    alloc: Global,
+    document: &mut Document,
+    sign: &Sign,
+    font: FontInfo,
+) -> Result<(), AllocError> {
+    document.open("cells", '[')?;
+    let mut source = Source::new(b"");
+    for character in 1..=65535u16 {
+        if let Some(cell) = sign.cell(&mut source, font.number, character) {
+            push_cell(alloc, document, character, &cell)?;
+        }
+    }
+    document.close(']')
+}
+
+/// Writes the numbers of a font's characters.
+fn push_characters(
+    document: &mut Document,
+    sign: &Sign,
+    font: FontInfo,
+) -> Result<(), AllocError> {
+    document.open("characters", '[')?;
+    let mut source = Source::new(b"");
+    for character in 1..=65535u16 {
+        if sign
+            .cell_width(&mut source, font.number, character)
+            .is_some()
+        {
+            document.numbers(&[("", u64::from(character))])?;
+        }
+    }
+    document.close(']')
+}
+
+/// Writes a font and the numbers of its characters, and its cells if they are asked for.
 fn push_font(
     alloc: Global,
     document: &mut Document,
     sign: &Sign,
     font: FontInfo,
+    has_cells: bool,
 ) -> Result<(), AllocError> {
     document.open("", '{')?;
     let facts = [
@@ -50,49 +122,65 @@ fn push_font(
         ("cells_crc", u64::from(cells_crc(alloc, sign, font)?)),
     ];
     document.numbers(&facts)?;
-    document.open("characters", '[')?;
-    let mut source = Source::new(b"");
-    for character in 1..=65535u16 {
-        if sign
-            .cell_width(&mut source, font.number, character)
-            .is_some()
-        {
-            document.numbers(&[("", u64::from(character))])?;
-        }
+    push_characters(document, sign, font)?;
+    if has_cells {
+        push_cells(alloc, document, sign, font)?;
     }
-    document.close(']')?;
     document.close('}')
 }
 
 /// Writes all fonts.
-fn push_fonts(alloc: Global, document: &mut Document, sign: &Sign) -> Result<(), AllocError> {
+fn push_fonts(document: &mut Document, sign: &Sign, facts: &Facts<'_>) -> Result<(), AllocError> {
     document.open("fonts", '[')?;
     let mut source = Source::new(b"");
     for number in 1..=255u8 {
         if let Some(font) = sign.font(&mut source, number) {
-            push_font(alloc, document, sign, font)?;
+            push_font(facts.alloc, document, sign, font, facts.font == Some(number))?;
         }
     }
     document.close(']')
+}
+
+/// Writes where the first octet of a finding stands.
+fn push_position(document: &mut Document, finding: &Finding) -> Result<(), AllocError> {
+    let place = [
+        ("line", finding.line as u64),
+        ("column", finding.column as u64),
+    ];
+    document.numbers(&place)
+}
+
+/// Writes a refusal, which stands at this place among all.
+fn push_refusal(
+    document: &mut Document,
+    facts: &Facts<'_>,
+    place: usize,
+    refusal: PermanentRefusal,
+) -> Result<(), AllocError> {
+    document.open("refused", '{')?;
+    if let Some(finding) = facts.found.refusals.get(place) {
+        push_position(document, finding)?;
+    }
+    let numbers = [
+        ("code", u64::from(refusal.code)),
+        ("octet", refusal.at as u64),
+    ];
+    document.numbers(&numbers)?;
+    if let Some(explanation) = facts.explanations.get(place) {
+        document.text("explanation", explanation)?;
+    }
+    document.close('}')
 }
 
 /// Writes why the sign refuses the permanent message of a number, or nothing if it doesn't.
 fn push_refused(
     document: &mut Document,
     number: usize,
-    refusals: &[PermanentRefusal],
-    explanations: &[String],
+    facts: &Facts<'_>,
 ) -> Result<(), AllocError> {
-    for (refusal, explanation) in refusals.iter().zip(explanations) {
+    for (place, refusal) in facts.refusals.iter().enumerate() {
         if usize::from(refusal.number) == number {
-            document.open("refused", '{')?;
-            let place = [
-                ("code", u64::from(refusal.code)),
-                ("octet", refusal.at as u64),
-            ];
-            document.numbers(&place)?;
-            document.text("explanation", explanation)?;
-            return document.close('}');
+            return push_refusal(document, facts, place, *refusal);
         }
     }
     document.word("refused", "null")
@@ -121,14 +209,13 @@ fn push_permanent(
 fn push_permanents(
     document: &mut Document,
     permanents: &[Permanent],
-    refusals: &[PermanentRefusal],
-    explanations: &[String],
+    facts: &Facts<'_>,
 ) -> Result<(), AllocError> {
     document.open("permanents", '[')?;
     for (place, message) in permanents.iter().enumerate() {
         let number = place.saturating_add(1);
         push_permanent(document, number, message)?;
-        push_refused(document, number, refusals, explanations)?;
+        push_refused(document, number, facts)?;
         document.close('}')?;
     }
     document.close(']')
@@ -161,22 +248,51 @@ fn push_sign(document: &mut Document, sign: &Sign, limits: StoreLimits) -> Resul
     ])
 }
 
-/// Writes lines at a name.
-fn push_lines(document: &mut Document, name: &str, lines: &[String]) -> Result<(), AllocError> {
+/// Writes a finding.
+fn push_finding(
+    alloc: Global,
+    document: &mut Document,
+    finding: &Finding,
+) -> Result<(), AllocError> {
+    let mut table = String::new(alloc);
+    push_place(&mut table, finding.place)?;
+    document.open("", '{')?;
+    push_position(document, finding)?;
+    document.text("table", &table)?;
+    document.text("key", &finding.key)?;
+    document.text("code", finding.code.word())?;
+    document.text("sentence", &finding.sentence)?;
+    document.close('}')
+}
+
+/// Writes findings at a name.
+fn push_findings(
+    alloc: Global,
+    document: &mut Document,
+    name: &str,
+    findings: &[Finding],
+) -> Result<(), AllocError> {
     document.open(name, '[')?;
-    for line in lines {
-        document.text("", line)?;
+    for finding in findings {
+        push_finding(alloc, document, finding)?;
     }
     document.close(']')
 }
 
+/// Writes all that was found, and how much more there is.
+fn push_found(document: &mut Document, facts: &Facts<'_>) -> Result<(), AllocError> {
+    let found = facts.found;
+    push_findings(facts.alloc, document, "faults", &found.faults)?;
+    document.numbers(&[("more_faults", found.more_faults as u64)])?;
+    push_findings(facts.alloc, document, "warnings", &found.warnings)?;
+    document.numbers(&[("more_warnings", found.more_warnings as u64)])
+}
+
 /// Writes what a sign file sets up, or nothing if it isn't taken.
 fn push_setup(
-    alloc: Global,
     document: &mut Document,
     setup: Option<&Setup>,
-    refusals: &[PermanentRefusal],
-    explanations: &[String],
+    facts: &Facts<'_>,
 ) -> Result<(), AllocError> {
     let Some(Setup { sign, store }) = setup else {
         return document.word("sign", "null");
@@ -184,25 +300,18 @@ fn push_setup(
     document.open("sign", '{')?;
     push_sign(document, sign, store.limits())?;
     push_defaults(document, sign.defaults())?;
-    push_fonts(alloc, document, sign)?;
-    push_permanents(document, store.permanents(), refusals, explanations)?;
+    push_fonts(document, sign, facts)?;
+    push_permanents(document, store.permanents(), facts)?;
     document.close('}')
 }
 
 /// What a sign file says, in JSON (own). `taken` says whether the program takes it, and `sign` has its facts then.
-pub(crate) fn json_of(
-    alloc: Global,
-    found: &Findings,
-    setup: Option<&Setup>,
-    refusals: &[PermanentRefusal],
-    explanations: &[String],
-) -> Result<String, AllocError> {
-    let mut document = Document::new(alloc);
+pub(crate) fn json_of(facts: &Facts<'_>, setup: Option<&Setup>) -> Result<String, AllocError> {
+    let mut document = Document::new(facts.alloc);
     document.open("", '{')?;
     document.word("taken", truth(setup.is_some()))?;
-    push_lines(&mut document, "faults", &found.faults)?;
-    push_lines(&mut document, "warnings", &found.warnings)?;
-    push_setup(alloc, &mut document, setup, refusals, explanations)?;
+    push_found(&mut document, facts)?;
+    push_setup(&mut document, setup, facts)?;
     document.close('}')?;
     document.finish()
 }

@@ -1,65 +1,15 @@
-//! The faults that are found in a sign file.
+//! The faults that are found in a sign file, key by key.
 
-use crate::keys::{CELL, DEFAULTS, FONT, Key, Kind, PERMANENT, SIGN};
-use crate::order::look_at_order;
-use crate::part::{Part, tell};
-use crate::place::{Entry, Place, push_place};
-use std::alloc::{AllocError, Global};
-use strsim::levenshtein;
+use crate::code::Code;
+use crate::findings::Findings;
+use crate::keys::{Key, Kind};
+use crate::names::Home;
+use crate::order::{look_at_count, look_at_order};
+use crate::part::Part;
+use crate::place::{Entry, Place};
+use crate::unknown::{look_at_unknown, strays};
+use std::alloc::AllocError;
 use toml::{Table, Value};
-
-/// What is found in a sign file (own): lines without their ends.
-#[derive(Drop)]
-pub struct Findings {
-    pub(crate) alloc: Global,
-    /// Why the file isn't taken, as far as that was found.
-    pub faults: Vec<String>,
-    /// What its maker may not have meant.
-    pub warnings: Vec<String>,
-}
-
-impl Findings {
-    /// What is told of a key: a sentence, and what stands at its marks.
-    fn line(
-        &self,
-        place: Place,
-        key: Part<'_>,
-        sentence: &str,
-        parts: &[Part<'_>],
-    ) -> Result<String, AllocError> {
-        let mut line = String::new(self.alloc);
-        push_place(&mut line, place)?;
-        tell(&mut line, "@: ", &[key])?;
-        tell(&mut line, sentence, parts)?;
-        Ok(line)
-    }
-
-    /// Tells a fault of a key.
-    pub(crate) fn fault(
-        &mut self,
-        place: Place,
-        key: &str,
-        sentence: &str,
-        parts: &[Part<'_>],
-    ) -> Result<(), AllocError> {
-        let line = self.line(place, Part::Words(key), sentence, parts)?;
-        self.faults.push(line)?;
-        Ok(())
-    }
-
-    /// Tells what is no fault. The key is text of the file.
-    pub(crate) fn warn(
-        &mut self,
-        place: Place,
-        key: &str,
-        sentence: &str,
-        parts: &[Part<'_>],
-    ) -> Result<(), AllocError> {
-        let line = self.line(place, Part::Excerpt(key), sentence, parts)?;
-        self.warnings.push(line)?;
-        Ok(())
-    }
-}
 
 /// Whether a value is a whole number from a first to a last.
 fn is_from(value: &Value, first: i64, last: i64) -> bool {
@@ -69,13 +19,11 @@ fn is_from(value: &Value, first: i64, last: i64) -> bool {
     }
 }
 
-/// Whether a text is octets in hexadecimal.
-fn is_hexadecimal(text: &str) -> bool {
-    text.len() % 2 == 0
-        && text
-            .as_bytes()
-            .iter()
-            .all(|digit| digit.is_ascii_hexdigit())
+/// Whether a text is hexadecimal digits.
+pub(crate) fn is_hexadecimal(text: &str) -> bool {
+    text.as_bytes()
+        .iter()
+        .all(|digit| digit.is_ascii_hexdigit())
 }
 
 /// Whether a value may stand at a key of this kind.
@@ -143,78 +91,56 @@ fn look_at_value(
         return Ok(());
     }
     let (sentence, part) = wrong(value, kind);
-    match named(value, kind) {
-        Some(number) => {
+    match (named(value, kind), kind) {
+        (Some(number), _) => {
             let parts = [part, Part::Number(number)];
-            found.fault(place, name, "\"@\"; its number is @", &parts)
+            found.fault(Code::WrongValue, place, name, "\"@\"; its number is @", &parts)
         }
-        None => found.fault(place, name, sentence, &[part, Part::Kind(kind)]),
+        (None, Kind::Tables) if value.is_table() && matches!(place, Place::Sign) => {
+            let told = "one table; each stands under [[@]], with two brackets";
+            found.fault(Code::WrongValue, place, name, told, &[Part::Words(name)])
+        }
+        (None, _) => {
+            let parts = [part, Part::Kind(kind)];
+            found.fault(Code::WrongValue, place, name, sentence, &parts)
+        }
     }
 }
 
-/// Looks at a key of a table.
+/// Looks at a key of a table. A key of the sign isn't missing if it is told of where it stands in another table.
 fn look_at_key(
     found: &mut Findings,
+    document: &Table,
     place: Place,
     table: &Table,
     key: &Key,
 ) -> Result<(), AllocError> {
     let Key(name, kind, is_needed) = *key;
-    match table.get(name) {
-        Some(value) => look_at_value(found, place, name, kind, value),
-        None if is_needed => {
-            found.fault(place, name, "missing; it should be @", &[Part::Kind(kind)])
-        }
-        None => Ok(()),
+    if let Some(value) = table.get(name) {
+        return look_at_value(found, place, name, kind, value);
     }
-}
-
-/// The key whose name has the fewest changes from this one, if they are at most half its octets.
-fn nearest(alloc: Global, name: &str, keys: &[Key]) -> Result<Option<&'static str>, AllocError> {
-    let mut nearest = None;
-    let mut least = name.len() / 2 + 1;
-    for Key(key, _, _) in keys {
-        let Ok(changes) = levenshtein(alloc, name, key) else {
-            return Err(AllocError);
-        };
-        if changes < least {
-            nearest = Some(*key);
-            least = changes;
-        }
+    if !is_needed || (matches!(place, Place::Sign) && strays(document, name)) {
+        return Ok(());
     }
-    Ok(nearest)
-}
-
-/// Tells of a key that isn't known.
-fn look_at_unknown(
-    found: &mut Findings,
-    place: Place,
-    name: &str,
-    keys: &[Key],
-) -> Result<(), AllocError> {
-    match nearest(found.alloc, name, keys)? {
-        Some(nearest) => {
-            let nearest = Part::Words(nearest);
-            found.warn(place, name, "not known; the nearest key is @", &[nearest])
-        }
-        None => found.warn(place, name, "not known", &[]),
-    }
+    let parts = [Part::Kind(kind)];
+    found.fault(Code::Missing, place, name, "missing; it should be @", &parts)
 }
 
 /// Looks at all keys of a table, and at those that aren't known.
 fn look_at_table(
     found: &mut Findings,
+    document: &Table,
     place: Place,
     table: &Table,
-    keys: &[Key],
+    home: Home,
 ) -> Result<(), AllocError> {
-    for key in keys {
-        look_at_key(found, place, table, key)?;
+    for key in home.keys() {
+        look_at_key(found, document, place, table, key)?;
     }
     for name in table.keys() {
         let name = name.as_str();
-        if !keys.iter().any(|key| key.0 == name) {
-            look_at_unknown(found, place, name, keys)?;
+        if !home.has(name) {
+            look_at_unknown(found, document, place, home, name)?;
         }
     }
     Ok(())
@@ -255,32 +181,56 @@ pub(crate) fn entry(place: usize, table: &Table) -> Entry {
 }
 
 /// Looks at a font and its cells.
-fn look_at_font(found: &mut Findings, font: Entry, table: &Table) -> Result<(), AllocError> {
-    look_at_table(found, Place::Font(font), table, &FONT)?;
-    for (place, value) in tables_at(table, "cell").iter().enumerate() {
+fn look_at_font(
+    found: &mut Findings,
+    document: &Table,
+    font: Entry,
+    table: &Table,
+) -> Result<(), AllocError> {
+    let cells = tables_at(table, "cell");
+    look_at_count(found, Place::Font(font), "cell", cells.len(), 255)?;
+    look_at_table(found, document, Place::Font(font), table, Home::Font)?;
+    for (place, value) in cells.iter().enumerate() {
         if let Some(cell) = value.as_table() {
-            look_at_table(found, Place::Cell(font, entry(place, cell)), cell, &CELL)?;
+            let at = Place::Cell(font, entry(place, cell));
+            look_at_table(found, document, at, cell, Home::Cell)?;
         }
     }
     Ok(())
 }
 
-/// Looks at all keys of a sign file.
-pub(crate) fn look_at_file(found: &mut Findings, table: &Table) -> Result<(), AllocError> {
-    look_at_table(found, Place::Sign, table, &SIGN)?;
-    if let Some(defaults) = table_at(table, "defaults") {
-        look_at_table(found, Place::Defaults, defaults, &DEFAULTS)?;
-    }
-    for (place, value) in tables_at(table, "font").iter().enumerate() {
+/// Looks at the fonts.
+fn look_at_fonts(found: &mut Findings, document: &Table) -> Result<(), AllocError> {
+    for (place, value) in tables_at(document, "font").iter().enumerate() {
         if let Some(font) = value.as_table() {
-            look_at_font(found, entry(place, font), font)?;
+            look_at_font(found, document, entry(place, font), font)?;
         }
     }
-    for (place, value) in tables_at(table, "permanent").iter().enumerate() {
+    Ok(())
+}
+
+/// Looks at the permanent messages.
+fn look_at_permanents(found: &mut Findings, document: &Table) -> Result<(), AllocError> {
+    for (place, value) in tables_at(document, "permanent").iter().enumerate() {
         if let Some(message) = value.as_table() {
             let at = Place::Permanent(entry(place, message));
-            look_at_table(found, at, message, &PERMANENT)?;
+            look_at_table(found, document, at, message, Home::Permanent)?;
         }
     }
-    look_at_order(found, table)
+    Ok(())
+}
+
+/// Looks at all keys of a sign file. If there are too many of a thing, this is told before what is wrong with each.
+pub(crate) fn look_at_file(found: &mut Findings, document: &Table) -> Result<(), AllocError> {
+    let fonts = tables_at(document, "font").len();
+    look_at_count(found, Place::Sign, "font", fonts, 16)?;
+    let messages = tables_at(document, "permanent").len();
+    look_at_count(found, Place::Sign, "permanent", messages, 255)?;
+    look_at_table(found, document, Place::Sign, document, Home::Sign)?;
+    if let Some(defaults) = table_at(document, "defaults") {
+        look_at_table(found, document, Place::Defaults, defaults, Home::Defaults)?;
+    }
+    look_at_fonts(found, document)?;
+    look_at_permanents(found, document)?;
+    look_at_order(found, document)
 }

@@ -16,7 +16,7 @@ pub(crate) enum Kind {
     Word(&'static str, &'static str),
     /// Any text.
     Text,
-    /// Octets in hexadecimal.
+    /// Hexadecimal digits.
     Octets,
     /// A table.
     Table,
@@ -55,7 +55,7 @@ pub(crate) fn push_kind(text: &mut String, kind: Kind) -> Result<(), AllocError>
         Kind::Word(one, other) => write!(text, "\"{one}\" or \"{other}\""),
         Kind::Text => text.push_str("a text"),
         Kind::Octets => text.push_str("a text of hexadecimal digits, two for each octet"),
-        Kind::Table => text.push_str("a table"),
+        Kind::Table => text.push_str("a table, under [defaults]"),
         Kind::Tables => text.push_str("an array of tables"),
     }
 }
@@ -80,7 +80,7 @@ const MUST: bool = true;
 const MAY: bool = false;
 
 /// The keys of a sign and of its message table.
-pub(crate) const SIGN: [Key; 13] = [
+pub(crate) static SIGN: [Key; 13] = [
     Key("width", Kind::Number(1, 1024), MUST),
     Key("height", Kind::Number(1, 128), MUST),
     Key("scheme", Kind::Word("monochrome", "classic"), MUST),
@@ -97,7 +97,7 @@ pub(crate) const SIGN: [Key; 13] = [
 ];
 
 /// The keys of `[defaults]`.
-pub(crate) const DEFAULTS: [Key; 9] = [
+pub(crate) static DEFAULTS: [Key; 9] = [
     Key("font", Kind::Number(1, 255), MUST),
     Key("line", Kind::Named(2, &LINES), MUST),
     Key("page", Kind::Named(2, &GROUPS), MUST),
@@ -110,7 +110,7 @@ pub(crate) const DEFAULTS: [Key; 9] = [
 ];
 
 /// The keys of `[[font]]`.
-pub(crate) const FONT: [Key; 6] = [
+pub(crate) static FONT: [Key; 6] = [
     Key("number", Kind::Number(1, 255), MUST),
     Key("version", Kind::Number(0, 65535), MAY),
     Key("height", Kind::Number(1, 64), MUST),
@@ -120,14 +120,14 @@ pub(crate) const FONT: [Key; 6] = [
 ];
 
 /// The keys of a cell.
-pub(crate) const CELL: [Key; 3] = [
+pub(crate) static CELL: [Key; 3] = [
     Key("number", Kind::Number(1, 65535), MUST),
     Key("width", Kind::Number(1, 64), MUST),
     Key("bits", Kind::Octets, MUST),
 ];
 
 /// The keys of `[[permanent]]`.
-pub(crate) const PERMANENT: [Key; 4] = [
+pub(crate) static PERMANENT: [Key; 4] = [
     Key("multi", Kind::Text, MUST),
     Key("priority", Kind::Number(1, 255), MAY),
     Key("beacon", Kind::Number(0, 1), MAY),

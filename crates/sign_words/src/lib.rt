@@ -1,24 +1,37 @@
-//! What a sign file describes, or every fault that is found in it, in words or in JSON.
+//! What a sign file describes, or the faults that are found in it, each with its line, in words, in lines for editors, or in JSON.
 //!
 //! [`find_in`] and [`SignWords`] are for people who write sign files, and judge nothing. Whether a sign file is taken, and which of
 //! its permanent messages its sign refuses, says `sign_report::sign_report`, and `sign_file::read_sign_file` answers one fault to a
 //! program.
 #![tactic(auto)]
 
+mod address;
+mod bits;
 mod cells;
+mod code;
 mod describe;
 mod facts;
 mod find;
+mod findings;
 mod json;
 mod keys;
+mod meant;
+mod names;
 mod order;
 mod part;
+mod permanents;
 mod picture;
 mod place;
 mod refusal;
+mod scan;
+mod strings;
+mod syntax;
+mod unknown;
+mod view;
 mod words;
 
 pub use describe::{Characters, Setup};
-pub use find::Findings;
+pub use findings::{Finding, Findings};
 pub use refusal::PermanentRefusal;
-pub use words::{SignView, SignWords, find_in};
+pub use view::{SignView, SignWords};
+pub use words::{add_refusals, find_in};

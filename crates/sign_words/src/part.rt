@@ -22,6 +22,8 @@ pub(crate) enum Part<'a> {
     Crc(u16),
     /// What may stand at a key.
     Kind(Kind),
+    /// Binary digits, which are told as hexadecimal ones, two for each octet.
+    Binary(&'a str),
     /// Text of a sign file, which stays on its line: its first 40 octets, with `?` for each that is no printable sign of ASCII, and
     /// ` ..` behind them if it has more.
     Excerpt(&'a str),
@@ -40,6 +42,26 @@ fn push_excerpt(text: &mut String, excerpt: &str) -> Result<(), AllocError> {
     text.push_str(if excerpt.len() > MOST { " .." } else { "" })
 }
 
+/// What four binary digits from a place on are worth; one that isn't there is 0.
+fn nibble(digits: &[u8], place: usize) -> u8 {
+    let mut nibble = 0;
+    for bit in 0..4usize {
+        let digit = digits.get(place.saturating_add(bit)).copied();
+        nibble = nibble % 8 * 2 + u8::from(digit == Some(b'1')) % 2;
+    }
+    nibble
+}
+
+/// Appends binary digits as hexadecimal ones.
+fn push_binary(text: &mut String, digits: &[u8]) -> Result<(), AllocError> {
+    let octets = digits.len().saturating_add(7) / 8;
+    for place in 0..octets.saturating_mul(2) {
+        let nibble = nibble(digits, place.saturating_mul(4));
+        write!(text, "{nibble:x}")?;
+    }
+    Ok(())
+}
+
 /// Appends a part.
 fn push_part(text: &mut String, part: Part<'_>) -> Result<(), AllocError> {
     match part {
@@ -49,6 +71,7 @@ fn push_part(text: &mut String, part: Part<'_>) -> Result<(), AllocError> {
         Part::Version(version) => write!(text, "{version:X}"),
         Part::Crc(crc) => write!(text, "{crc:04x}"),
         Part::Kind(kind) => push_kind(text, kind),
+        Part::Binary(digits) => push_binary(text, digits.as_bytes()),
         Part::Excerpt(excerpt) => push_excerpt(text, excerpt),
     }
 }

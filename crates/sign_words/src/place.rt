@@ -1,5 +1,6 @@
 //! Where something stands in a sign file.
 
+use crate::address::{Address, Kind};
 use crate::part::{Part, tell};
 use std::alloc::AllocError;
 
@@ -13,6 +14,8 @@ pub(crate) struct Entry {
 /// A table of a sign file.
 #[derive(Clone, Copy)]
 pub(crate) enum Place {
+    /// None: the text itself.
+    Text,
     /// The document.
     Sign,
     /// `[defaults]`.
@@ -25,27 +28,55 @@ pub(crate) enum Place {
     Permanent(Entry),
 }
 
+/// The address of an entry.
+fn entry_at(kind: Kind, entry: usize, cell: usize) -> Address {
+    Address { kind, entry, cell }
+}
+
+impl Place {
+    /// Where it stands, as the text is read.
+    pub(crate) fn address(self) -> Address {
+        match self {
+            Place::Text => Address::of(Kind::Other),
+            Place::Sign => Address::of(Kind::Sign),
+            Place::Defaults => Address::of(Kind::Defaults),
+            Place::Font(font) => entry_at(Kind::Font, font.place, 0),
+            Place::Cell(font, cell) => entry_at(Kind::Cell, font.place, cell.place),
+            Place::Permanent(message) => entry_at(Kind::Permanent, message.place, 0),
+        }
+    }
+}
+
 /// Appends an entry: its number, or its place if it has none.
 fn push_entry(text: &mut String, name: &str, entry: Entry) -> Result<(), AllocError> {
     let name = Part::Words(name);
     match entry.number {
-        Some(number) => tell(text, "@ @, ", &[name, Part::Number(number)]),
-        None => tell(text, "@ at place @, ", &[name, Part::Count(entry.place)]),
+        Some(number) => tell(text, "@ @", &[name, Part::Number(number)]),
+        None => tell(text, "@ at place @", &[name, Part::Count(entry.place)]),
     }
 }
 
-/// Appends where a key stands.
+/// Appends the name of a table, which is empty for the document and for the text.
 pub(crate) fn push_place(text: &mut String, place: Place) -> Result<(), AllocError> {
     match place {
-        Place::Sign => Ok(()),
-        Place::Defaults => text.push_str("[defaults] "),
+        Place::Text | Place::Sign => Ok(()),
+        Place::Defaults => text.push_str("[defaults]"),
         Place::Font(font) => push_entry(text, "font", font),
         Place::Cell(font, cell) => {
             push_entry(text, "font", font)?;
-            push_entry(text, "cell", cell)
+            push_entry(text, ", cell", cell)
         }
         Place::Permanent(message) => {
-            tell(text, "permanent message @, ", &[Part::Count(message.place)])
+            tell(text, "permanent message @", &[Part::Count(message.place)])
         }
+    }
+}
+
+/// What stands between the name of a table and a key.
+pub(crate) fn before_key(place: Place) -> &'static str {
+    match place {
+        Place::Text | Place::Sign => "",
+        Place::Defaults => " ",
+        _ => ", ",
     }
 }

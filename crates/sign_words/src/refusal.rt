@@ -1,6 +1,9 @@
 //! A permanent message that its sign refuses.
 
-use crate::part::{Part, tell};
+use crate::code::Code;
+use crate::findings::{Finding, Findings};
+use crate::part::Part;
+use crate::place::{Entry, Place};
 use std::alloc::AllocError;
 
 /// That a sign refuses one of its permanent messages (own).
@@ -14,18 +17,17 @@ pub struct PermanentRefusal {
     pub at: usize,
 }
 
-/// Appends each refusal with its explanation, whose lines follow from its first line on.
-pub(crate) fn push_refusals(
-    text: &mut String,
-    refusals: &[PermanentRefusal],
-    explanations: &[String],
-) -> Result<(), AllocError> {
-    for (refusal, explanation) in refusals.iter().zip(explanations) {
-        let parts = [
-            Part::Number(i64::from(refusal.number)),
-            Part::Words(explanation),
-        ];
-        tell(text, "permanent message @, multi: @", &parts)?;
-    }
-    Ok(())
+/// A refusal with its explanation, whose lines follow from its first line on.
+pub(crate) fn refusal_found(
+    found: &Findings,
+    refusal: PermanentRefusal,
+    explanation: &str,
+) -> Result<Finding, AllocError> {
+    let place = Place::Permanent(Entry {
+        place: usize::from(refusal.number),
+        number: None,
+    });
+    let explanation = explanation.strip_suffix("\n").unwrap_or(explanation);
+    let parts = [Part::Words(explanation)];
+    found.finding(Code::Refused, place, "multi", "@", &parts)
 }

@@ -1,53 +1,43 @@
-//! The words on a sign file.
+//! What is found in the octets of a sign file.
 ghost use Rattle.std.specs.Prelude.{◌≡◌, [], true, false, IfOk, OnOk};
 ghost use Rattle.sign_file.specs.Nesting.{is_shallow};
 ghost use Rattle.sign_words.specs.Document.{IsDocument};
 
-use crate::describe::{Setup, describe};
-use crate::facts::json_of;
-use crate::find::{Findings, look_at_file};
-use crate::part::{Part, tell};
-use crate::picture::draw_font;
-use crate::refusal::{PermanentRefusal, push_refusals};
+use crate::code::Code;
+use crate::find::look_at_file;
+use crate::findings::Findings;
+use crate::refusal::{PermanentRefusal, refusal_found};
+use crate::scan::number_lines;
+use crate::syntax::syntax_fault;
 use sign_file::deep_at;
 use std::alloc::{AllocError, Global};
-use std::fmt;
-use std::fmt::{Display, Formatter, Write};
-
-/// The most octets of a line of a sign file that stands before a mark (own).
-const MOST: usize = 8_300;
+use toml::Table;
+use tool_streams::{MAX_LINE, is_mark, text_of};
 
 /// How deep a sign file may nest (own).
-const NESTING: &str = "at most 16 brackets may be open at once, and a name may have 4 parts";
+const NESTING: &str = "nested too deep; at most 16 brackets may be open at once, and a name may have 4 parts";
 
-/// The line in which an offset stands, counted from 1.
-fn line_of(text: &[u8], offset: usize) -> usize {
-    let before = &text[..offset.min(text.len())];
-    before
-        .iter()
-        .filter(|octet| **octet == b'\n')
-        .count()
-        .saturating_add(1)
+/// What is wrong with a line, if it can't stand in a sign file before a mark.
+fn wrong_line(line: &[u8]) -> Option<(Code, &'static str)> {
+    if is_mark(line) {
+        let told = "the mark %% ends the sign file for signctl; a host's library reads on";
+        Some((Code::MarkLine, told))
+    } else if text_of(line).len() > MAX_LINE {
+        let told = "signctl takes no line with more than 8300 octets; a host's library does";
+        Some((Code::LongLine, told))
+    } else {
+        None
+    }
 }
 
-/// Tells what no line of a sign file may be if it stands before a mark.
-fn look_at_lines(
-    alloc: Global,
-    warnings: &mut Vec<String>,
-    octets: &[u8],
-) -> Result<(), AllocError> {
-    for (place, line) in octets.split(|octet| *octet == b'\n').enumerate() {
-        let line = line.strip_suffix(b"\r").unwrap_or(line);
-        let what = if line == b"%%".as_slice() {
-            "the mark %% ends the sign file for the other commands"
-        } else if line.len() > MOST {
-            "the other commands take no line with more than 8300 octets"
-        } else {
-            continue;
-        };
-        let number = place.saturating_add(1);
-        let told = format!(in alloc; "line {number}: {what}")?;
-        warnings.push(told)?;
+/// Tells which lines can't stand in a sign file before a mark.
+fn look_at_lines(found: &mut Findings, octets: &[u8]) -> Result<(), AllocError> {
+    let mut at: usize = 0;
+    for line in octets.split(|octet| *octet == b'\n') {
+        if let Some((code, told)) = wrong_line(line) {
+            found.fault_of_line(code, octets, at, told)?;
+        }
+        at = at.saturating_add(line.len()).saturating_add(1);
     }
     Ok(())
 }
@@ -62,10 +52,15 @@ fn look_at_nesting(found: &mut Findings, text: &str) -> Result<bool, AllocError>
         Ok(None) => return Ok(false),
         Err(_) => return Err(AllocError),
     };
-    let number = line_of(text.as_bytes(), at);
-    let told = format!(in found.alloc; "line {number}: nested too deep; {NESTING}")?;
+    let told = found.at_octet(Code::TooDeep, text.as_bytes(), at, NESTING, &[])?;
     found.faults.push(told)?;
     Ok(true)
+}
+
+/// Tells each fault that is found in a document, and what its maker may not have meant, with their lines.
+fn look_at_document(found: &mut Findings, text: &str, table: &Table) -> Result<(), AllocError> {
+    look_at_file(found, table)?;
+    number_lines(text.as_bytes(), found)
 }
 
 /// Tells each fault that is found in a text, and what its maker may not have meant.
@@ -76,18 +71,16 @@ fn look_at_text(found: &mut Findings, text: &str) -> Result<(), AllocError>
         return Ok(());
     }
     let error = match toml::table_from_str(found.alloc, text) {
-        Ok(table) => return look_at_file(found, &table),
+        Ok(table) => return look_at_document(found, text, &table),
         Err(error) if error.is_memory() => return Err(AllocError),
         Err(error) => error,
     };
-    let line = match error.span() {
-        Some(span) => {
-            let number = line_of(text.as_bytes(), span.start);
-            format!(in found.alloc; "line {number}: {}", error.message())?
-        }
-        None => format!(in found.alloc; "{}", error.message())?,
+    let at = match error.span() {
+        Some(span) => span.start,
+        None => 0,
     };
-    found.faults.push(line)?;
+    let fault = syntax_fault(found, text.as_bytes(), at, error.message())?;
+    found.faults.push(fault)?;
     Ok(())
 }
 
@@ -96,103 +89,29 @@ fn look_at_text(found: &mut Findings, text: &str) -> Result<(), AllocError>
 pub fn find_in(alloc: Global, octets: &[u8]) -> Result<Findings, AllocError>
     ensures { IfOk result (λ found. found.faults.items ≡ [] → IsDocument octets.now) }
 {
-    let mut found = Findings {
-        alloc,
-        faults: Vec::new(alloc),
-        warnings: Vec::new(alloc),
-    };
+    let mut found = Findings::new(alloc);
+    look_at_lines(&mut found, octets)?;
     match str::from_utf8(octets) {
         Ok(text) => look_at_text(&mut found, text)?,
         Err(error) => {
-            let number = line_of(octets, error.valid_up_to());
-            let line = format!(in alloc; "line {number}: no text in UTF-8")?;
-            found.faults.push(line)?;
+            let told = "no text in UTF-8; the file must be saved as UTF-8";
+            let fault = found.at_octet(Code::NotText, octets, error.valid_up_to(), told, &[])?;
+            found.faults.push(fault)?;
         }
     }
-    look_at_lines(alloc, &mut found.warnings, octets)?;
     Ok(found)
 }
 
-/// How a sign file is told of (own).
-#[derive(Clone, Copy)]
-pub enum SignView {
-    /// What it describes.
-    Description,
-    /// The characters of one of its fonts.
-    Font(u8),
-    /// Its facts and all that was found, in JSON.
-    Json,
-}
-
-/// What is told of a sign file (own): each fault, each permanent message that the sign refuses, each warning, and what the file
-/// describes, or all of it in JSON. Written by `Display`, which takes memory.
-#[derive(Clone, Copy)]
-pub struct SignWords<'a> {
-    /// Where memory comes from.
-    pub alloc: Global,
-    /// How the file is told of.
-    pub view: SignView,
-    /// What was found in it.
-    pub found: &'a Findings,
-    /// What it sets up, or `None` if it isn't taken.
-    pub setup: Option<&'a Setup>,
-    /// The permanent messages that the sign refuses.
-    pub refusals: &'a [PermanentRefusal],
-    /// Why each of them is refused: lines.
-    pub explanations: &'a [String],
-}
-
-/// Appends lines, each in the place of the mark of this one.
-fn push_lines(text: &mut String, told: &str, lines: &[String]) -> Result<(), AllocError> {
-    for line in lines {
-        tell(text, told, &[Part::Words(line)])?;
+/// Adds the permanent messages of the octets that the sign refuses, each with why: lines.
+pub fn add_refusals(
+    found: &mut Findings,
+    octets: &[u8],
+    refusals: &[PermanentRefusal],
+    explanations: &[String],
+) -> Result<(), AllocError> {
+    for (refusal, explanation) in refusals.iter().zip(explanations) {
+        let finding = refusal_found(found, *refusal, explanation)?;
+        found.refusals.push(finding)?;
     }
-    Ok(())
-}
-
-impl SignWords<'_> {
-    /// Appends what was found.
-    fn push_found(&self, text: &mut String) -> Result<(), AllocError> {
-        let Findings {
-            faults,
-            warnings,
-            ..
-        } = self.found;
-        push_lines(text, "@\n", faults)?;
-        if self.setup.is_none() && faults.is_empty() {
-            text.push_str("the sign file isn't taken\n")?;
-        }
-        push_refusals(text, self.refusals, self.explanations)?;
-        push_lines(text, "warning: @\n", warnings)
-    }
-
-    /// The words.
-    fn words(&self) -> Result<String, AllocError> {
-        if let SignView::Json = self.view {
-            return json_of(
-                self.alloc,
-                self.found,
-                self.setup,
-                self.refusals,
-                self.explanations,
-            );
-        }
-        let mut text = String::new(self.alloc);
-        self.push_found(&mut text)?;
-        match (self.setup, self.view) {
-            (Some(setup), SignView::Font(font)) => draw_font(&mut text, &setup.sign, font)?,
-            (Some(setup), _) => describe(self.alloc, &mut text, setup)?,
-            (None, _) => {}
-        }
-        Ok(text)
-    }
-}
-
-impl Display for SignWords<'_> {
-    fn fmt<W: Write>(&self, f: &mut Formatter<W>) -> fmt::Result {
-        match self.words() {
-            Ok(words) => f.write_str(&words),
-            Err(_) => Err(fmt::Error),
-        }
-    }
+    number_lines(octets, found)
 }

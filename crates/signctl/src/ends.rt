@@ -45,13 +45,22 @@ pub(crate) fn say_of_file<F: Display, E: Write>(name: &str, fault: &F, errors: &
     let _ = writeln!(errors, "signctl: {name}: {fault}");
 }
 
+/// Says what is wrong with a sign file that is named, and which command says more of it.
+fn say_of_sign<E: Write>(name: &str, fault: ToolFault, errors: &mut E) {
+    if matches!(fault, ToolFault::BadSign | ToolFault::SignRefused { .. }) {
+        let _ = writeln!(errors, "signctl: {name}: {fault}; 'signctl sign {name}' says more");
+    } else {
+        say_of_file(name, &fault, errors);
+    }
+}
+
 /// Says the fault of a run.
 pub(crate) fn say_tool<E: Write>(front: &Front<'_>, fault: ToolFault, errors: &mut E) {
     match front.told(fault) {
         Told {
             name: Some(name),
             fault,
-        } => say_of_file(name, &fault, errors),
+        } => say_of_sign(name, fault, errors),
         Told { name: None, fault } => say(&fault, errors),
     }
 }

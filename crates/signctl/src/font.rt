@@ -22,7 +22,7 @@ fn ranges_of(alloc: Global, named: &[Characters]) -> Result<Vec<CharacterRange>,
 /// Writes the table of the font.
 pub(crate) fn answer_font<R: Read, W: Write>(
     alloc: Global,
-    asked: &FontRequest,
+    asked: &FontRequest<'_>,
     reader: &mut R,
     writer: &mut W,
 ) -> Result<(), FontFault> {

@@ -37,11 +37,12 @@
 //! `--scale` by `--scale` points, 8 by 8 if it isn't given. `--output` names a file that is written in place of standard output, and whose
 //! ending says the format.
 //!
-//! `signctl sign` reads a sign file alone, and writes what it describes, or all faults that it finds in it, the permanent messages that its
-//! sign refuses, and warnings. `--font` shows the characters of a font in place of the description, `--format json` all of it in JSON, and
-//! with `--strict` a warning counts as a fault.
+//! `signctl sign` reads a sign file alone, of the input or of the file that is named, and writes what it describes, or the faults that it
+//! finds in it, the permanent messages that its sign refuses, and warnings, each with its line. `--font` shows the characters of a font in
+//! place of the description, `--format lines` what was found as editors read it, `--format json` all of it in JSON, and with `--strict` a
+//! warning counts as a fault.
 //!
-//! `signctl font` reads a font in BDF, and writes it as the `[[font]]` table of a sign file. `--number`, `--version`, `--char-spacing` and
+//! `signctl font` reads a font in BDF, of the input or of the file that is named, and writes it as the `[[font]]` table of a sign file. `--number`, `--version`, `--char-spacing` and
 //! `--line-spacing` are the font's. `--first` and `--last`, or `--characters`, choose what is taken, and `--outside` says what is done with
 //! a character that reaches outside its cell. `--crop` takes off the rows at the top and at the bottom without a pixel, and `--height` adds
 //! such rows.
@@ -65,7 +66,7 @@
 //! | `no such page: the last is N` | the message has no such page |
 //! | `too long: ..`, `too large: ..` | the message plays for longer than a film lasts, or the film has too many octets |
 //! | `read failed`, `write failed`, `out of memory` | what they say |
-//! | `FILE: ` and what is wrong | the file that is named can't be opened or read, or the sign of a sign file has this fault |
+//! | `FILE: ` and what is wrong | the file that is named can't be opened or read, or the sign of a sign file has this fault, of which `signctl sign FILE` says more |
 //! | `line N: ` and what is wrong | the line of a font in BDF is wrong, as `font_bdf::BdfProblem` says |
 //!
 //! Lines are counted from 1, from the start of the sign file where the input has one.

@@ -5,14 +5,15 @@ use crate::ends::{
 };
 use crate::explain::answer_explain;
 use crate::font::answer_font;
-use crate::front::Front;
+use crate::front::{FileFault, Front};
 use crate::picture::answer_picture;
-use command_line::{Request, SignRequest, SignSource, request_of};
+use command_line::{Request, SignFormat, SignRequest, SignSource, request_of};
 use file_aids::{SignFound, run_sign};
 use sign_tool::{Mode, begin, run_tool, serve};
 use sign_words::SignView;
 use std::alloc::Global;
-use std::io::{Read, Write};
+use std::fs;
+use std::io::{BufReader, Read, Write};
 use std::rt::Files;
 use tool_streams::ToolFault;
 
@@ -57,14 +58,15 @@ fn answer_serve<R: Read, W: Write>(
 /// Tells of the sign file. The answer is whether it has no fault, and with `--strict` no warning.
 fn answer_sign<R: Read, W: Write>(
     alloc: Global,
-    asked: SignRequest,
+    asked: SignRequest<'_>,
     reader: &mut R,
     writer: &mut W,
 ) -> Result<bool, ToolFault> {
-    let view = match asked.font {
-        Some(font) => SignView::Font(font),
-        None if asked.is_json => SignView::Json,
-        None => SignView::Description,
+    let view = match asked.format {
+        SignFormat::Text => SignView::Description,
+        SignFormat::Font(font) => SignView::Font(font),
+        SignFormat::Lines => SignView::Lines(asked.file.unwrap_or("-")),
+        SignFormat::Json(font) => SignView::Json(font),
     };
     let SignFound { is_sound, is_clean } = run_sign(alloc, view, reader, writer)?;
     Ok(is_sound && (is_clean || !asked.is_strict))
@@ -104,6 +106,39 @@ fn answer_input<P: Files, R: Read, W: Write, E: Write>(
     answer_lines(alloc, mode, sign_of(request), front, input, writer, errors)
 }
 
+/// The file that a request names in place of the input, if it names one. That of `explain` is read elsewhere.
+fn file_of<'a>(request: &Request<'a>) -> Option<&'a str> {
+    match request {
+        Request::Sign(asked) => asked.file,
+        Request::Font(asked) => asked.file,
+        _ => None,
+    }
+}
+
+/// Answers a request over the file that it names. What is said of its end is its exit status.
+fn answer_file<P: Files, W: Write, E: Write>(
+    alloc: Global,
+    files: &P,
+    request: &Request<'_>,
+    name: &str,
+    front: &Front<'_>,
+    writer: &mut W,
+    errors: &mut E,
+) -> u8 {
+    let file = match fs::open(files, name) {
+        Ok(file) => file,
+        Err(refusal) => {
+            say_of_file(name, &FileFault::Unopened(refusal), errors);
+            return FAULTED;
+        }
+    };
+    let Ok(mut file) = BufReader::new(alloc, file) else {
+        say_of_file(name, &ToolFault::Memory, errors);
+        return FAULTED;
+    };
+    answer_input(alloc, files, request, front, &mut file, writer, errors)
+}
+
 /// Answers a request, whose sign file is read first if one is named. What is said of its end is its exit status.
 fn answer_request<P: Files, R: Read, W: Write, E: Write>(
     alloc: Global,
@@ -125,6 +160,9 @@ fn answer_request<P: Files, R: Read, W: Write, E: Write>(
     };
     if let Request::Explain(asked) = request {
         return answer_explain(alloc, files, asked, &front, reader, writer, errors);
+    }
+    if let Some(name) = file_of(request) {
+        return answer_file(alloc, files, request, name, &front, writer, errors);
     }
     let mut input = front.octets.as_slice().chain(reader);
     answer_input(alloc, files, request, &front, &mut input, writer, errors)

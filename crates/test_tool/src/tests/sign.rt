@@ -7,14 +7,14 @@ use tool_streams::ToolFault;
 
 const FAULTY: &str = "width = 12\nheight = 129\n";
 
-const FAULTS: &str = "height: 129; it should be a whole number from 1 to 128
-scheme: missing; it should be \"monochrome\" or \"classic\"
-max_pages: missing; it should be a whole number from 1 to 255
-slots: missing; it should be a whole number from 1 to 1000
-bytes: missing; it should be a whole number from 0 to 1000000
-max_string: missing; it should be a whole number from 1 to 4096
-defaults: missing; it should be a table
-font: there must be 1 to 16 fonts
+const FAULTS: &str = "line 2: height: 129; it should be a whole number from 1 to 128
+line 1: scheme: missing; it should be \"monochrome\" or \"classic\"
+line 1: max_pages: missing; it should be a whole number from 1 to 255
+line 1: slots: missing; it should be a whole number from 1 to 1000
+line 1: bytes: missing; it should be a whole number from 0 to 1000000
+line 1: max_string: missing; it should be a whole number from 1 to 4096
+line 1: defaults: missing; it should be a table, under [defaults]
+line 1: font: there must be 1 to 16 fonts, each under [[font]]
 ";
 
 /// A sign of one pixel.

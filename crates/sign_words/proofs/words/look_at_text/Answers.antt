@@ -9,5 +9,5 @@ always (Ok x) holds = holds
 always (Err e) holds = tt
 
 pub returns-in-Ok : goal.returns-in-Ok
-returns-in-Ok c = always c.look_at_file.result (λ none.
+returns-in-Ok c = always c.look_at_document.result (λ none.
     (is_utf8-from_IsUtf8 c.args.text.now c.utf8.text, c.in_ok-look_at_nesting.ensures.shallow c.if-branch.false, ap is_some c.in-Ok.ensures.ok))
