@@ -6,6 +6,7 @@
 #![tactic(auto)]
 
 mod characters;
+mod colours;
 mod excerpt;
 mod forms;
 mod names;

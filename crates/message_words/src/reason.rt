@@ -1,6 +1,7 @@
 //! Why a message is refused, in words with numbers.
 
 use crate::characters::FontCharacters;
+use crate::colours::{asked_behind_characters, asked_by_shares, write_nearest};
 use crate::forms::{form_of, left_out, nearest};
 use crate::names::{Named, known_of, meant};
 use crate::piece::{Item, item_at, tag_of};
@@ -22,6 +23,10 @@ const LINES: [&str; 6] = ["none", "other", "left", "centre", "right", "full"];
 
 /// The words for the numbers of page justifications (NTCIP 1203 v03, MULTI tag 'jp').
 const GROUPS: [&str; 5] = ["none", "other", "top", "middle", "bottom"];
+
+/// What is said of a colour of three numbers.
+const LEFT_OUT_SHARES: &str =
+    "the standard has such a tag for a colour by its red, green and blue, and this profile leaves it out";
 
 /// The word for a number.
 fn word<'a>(words: &[&'a str], number: u8) -> &'a str {
@@ -197,7 +202,17 @@ impl Refusal<'_> {
         write_body(text, body)?;
         if let Some(purpose) = left_out(body) {
             let sentence = "'; the standard has such a tag for {}, and this profile leaves it out";
-            return write_sentence(text, sentence, &[Words(purpose)]);
+            write_sentence(text, sentence, &[Words(purpose)])?;
+            return match asked_behind_characters(body) {
+                Some(shares) => write_nearest(
+                    text,
+                    self.sign,
+                    "pb",
+                    shares,
+                    ", for the whole page",
+                ),
+                None => Ok(()),
+            };
         }
         text.push_str("'; no tag of the standard begins so")?;
         let (sentence, word) = guess(body);
@@ -221,7 +236,12 @@ impl Refusal<'_> {
         if let Some(Tag::Rect { x, y, .. }) = self.tag() {
             return self.write_rectangle(text, x, y);
         }
-        let (sentence, form) = match form_of(self.body().unwrap_or(b"")) {
+        let body = self.body().unwrap_or(b"");
+        if let Some((tag, shares)) = asked_by_shares(body) {
+            text.push_str(LEFT_OUT_SHARES)?;
+            return write_nearest(text, self.sign, tag, shares, "");
+        }
+        let (sentence, form) = match form_of(body) {
             Some(form) => ("this tag is written {}", form),
             None => ("the tag has another form", ""),
         };

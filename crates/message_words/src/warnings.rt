@@ -67,6 +67,8 @@ struct Reading<'a> {
     is_begun: bool,
     /// Whether a font was asked for without its version.
     is_asked: bool,
+    /// Whether a monochrome sign was asked for a colour.
+    is_coloured: bool,
     /// Whether no tag so far can hide text, and each page before this one has a character that is no space.
     is_plain: bool,
     /// Whether this page has one.
@@ -99,6 +101,7 @@ impl<'a> Reading<'a> {
             space: None,
             is_begun: false,
             is_asked: false,
+            is_coloured: false,
             is_plain: is_seen_in(sign, defaults.fore),
             has_text: false,
             is_flashing: false,
@@ -204,6 +207,10 @@ impl<'a> Reading<'a> {
         ) else {
             return Ok(());
         };
+        if font.version == 0 {
+            // its maker gave it no version
+            return Ok(());
+        }
         self.is_asked = true;
         let number = Number(pick.number.into());
         let version = Hex(font.version.into());
@@ -211,6 +218,20 @@ impl<'a> Reading<'a> {
             at,
             "any version of font {} is taken; [fo{},{}] asks for this one",
             &[number, number, version],
+        )
+    }
+
+    /// Passes a colour of characters that is asked for.
+    #[inline(never)]
+    fn pass_colour(&mut self, colour: u8, at: usize) -> Result<(), AllocError> {
+        if colour == 0 || self.is_coloured || self.sign.classic() {
+            return Ok(());
+        }
+        self.is_coloured = true;
+        self.say(
+            at,
+            "this sign has no colours: after [cf{}] characters are lit, and after [cf0] dark",
+            &[Number(colour.into())],
         )
     }
 
@@ -286,6 +307,10 @@ impl<'a> Reading<'a> {
                 return self.pass_times(Times::of_tag(self.sign, on, off), self.offset(rest));
             }
             Tag::Font(Some(pick)) => return self.pass_font(pick, self.offset(rest)),
+            Tag::Fore(Some(colour)) => {
+                self.set(tag);
+                return self.pass_colour(colour, self.offset(rest));
+            }
             Tag::HexChar(number) => self.pass_character(number, self.offset(rest)),
             _ => self.set(tag),
         }
@@ -453,8 +478,8 @@ impl<'a> Reading<'a> {
 }
 
 /// The warnings on a message that a sign accepts (own): a text longer than the message table takes, an off time with one page, a page that
-/// is shown for less than half a second or on which nothing is lit, a space at the end of a line that moves it, a font whose version isn't
-/// asked for, and text that can't be seen. What the sign made of the message is handed in. The warning on a text that is too long for the
+/// is shown for less than half a second or on which nothing is lit, a space at the end of a line that moves it, a font with a version that
+/// isn't asked for, a colour of characters on a monochrome sign, and text that can't be seen. What the sign made of the message is handed in. The warning on a text that is too long for the
 /// message table stands at the first octet too many. The error says that memory was refused.
 pub fn warnings_on(
     alloc: Global,
