@@ -28,7 +28,9 @@ impl Size {
 
     /// How many bits of the last octet no pixel has.
     fn spare(self) -> usize {
-        self.digits().saturating_mul(4).saturating_sub(self.pixels())
+        self.digits()
+            .saturating_mul(4)
+            .saturating_sub(self.pixels())
     }
 }
 

@@ -52,7 +52,11 @@ fn after(register: u16, octet: u8) -> u16 {
     let mut register = register ^ u16::from(octet);
     for _ in 0..8u8 {
         let half = register / 2;
-        register = if register % 2 == 1 { half ^ 0x8408 } else { half };
+        register = if register % 2 == 1 {
+            half ^ 0x8408
+        } else {
+            half
+        };
     }
     register
 }

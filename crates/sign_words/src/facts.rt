@@ -86,11 +86,7 @@ fn push_cells(
 }
 
 /// Writes the numbers of a font's characters.
-fn push_characters(
-    document: &mut Document,
-    sign: &Sign,
-    font: FontInfo,
-) -> Result<(), AllocError> {
+fn push_characters(document: &mut Document, sign: &Sign, font: FontInfo) -> Result<(), AllocError> {
     document.open("characters", '[')?;
     let mut source = Source::new(b"");
     for character in 1..=65535u16 {
@@ -135,7 +131,13 @@ fn push_fonts(document: &mut Document, sign: &Sign, facts: &Facts<'_>) -> Result
     let mut source = Source::new(b"");
     for number in 1..=255u8 {
         if let Some(font) = sign.font(&mut source, number) {
-            push_font(facts.alloc, document, sign, font, facts.font == Some(number))?;
+            push_font(
+                facts.alloc,
+                document,
+                sign,
+                font,
+                facts.font == Some(number),
+            )?;
         }
     }
     document.close(']')

@@ -94,7 +94,13 @@ fn look_at_value(
     match (named(value, kind), kind) {
         (Some(number), _) => {
             let parts = [part, Part::Number(number)];
-            found.fault(Code::WrongValue, place, name, "\"@\"; its number is @", &parts)
+            found.fault(
+                Code::WrongValue,
+                place,
+                name,
+                "\"@\"; its number is @",
+                &parts,
+            )
         }
         (None, Kind::Tables) if value.is_table() && matches!(place, Place::Sign) => {
             let told = "one table; each stands under [[@]], with two brackets";
@@ -123,7 +129,13 @@ fn look_at_key(
         return Ok(());
     }
     let parts = [Part::Kind(kind)];
-    found.fault(Code::Missing, place, name, "missing; it should be @", &parts)
+    found.fault(
+        Code::Missing,
+        place,
+        name,
+        "missing; it should be @",
+        &parts,
+    )
 }
 
 /// Looks at all keys of a table, and at those that aren't known.

@@ -80,12 +80,7 @@ fn sought_of(findings: &[Finding]) -> usize {
 }
 
 /// Places those of these that are looked for here, and says how many they are.
-fn place_here(
-    findings: &mut [Finding],
-    table: Address,
-    key: Option<&[u8]>,
-    at: usize,
-) -> usize {
+fn place_here(findings: &mut [Finding], table: Address, key: Option<&[u8]>, at: usize) -> usize {
     let mut count: usize = 0;
     for finding in findings.iter_mut() {
         if is_here(finding, table, key) {

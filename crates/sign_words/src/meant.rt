@@ -36,7 +36,8 @@ fn look_at_colours(
 /// Looks whether pages are shown for some time, and whether flashing text flashes.
 fn look_at_times(found: &mut Findings, defaults: &Table) -> Result<(), AllocError> {
     if number_at(defaults, "page_on") == Some(0) {
-        let told = "0; a page that has no other time isn't shown, unless all times of its message are 0";
+        let told =
+            "0; a page that has no other time isn't shown, unless all times of its message are 0";
         found.warn(Code::NoTime, Place::Defaults, "page_on", told, &[])?;
     }
     let flash_off = number_at(defaults, "flash_off");
@@ -62,11 +63,7 @@ fn look_at_bytes(found: &mut Findings, table: &Table) -> Result<(), AllocError> 
 }
 
 /// Looks at the characters of the default font.
-fn look_at_characters(
-    found: &mut Findings,
-    font: Entry,
-    table: &Table,
-) -> Result<(), AllocError> {
+fn look_at_characters(found: &mut Findings, font: Entry, table: &Table) -> Result<(), AllocError> {
     let cells = tables_at(table, "cell");
     let at = Place::Font(font);
     if cells.is_empty() {

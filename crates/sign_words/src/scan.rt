@@ -124,7 +124,10 @@ impl Scan {
     fn open_array(&mut self, at: usize) -> Result<(), AllocError> {
         if self.is_name && self.open.is_empty() {
             let (brackets, first) = self.header;
-            self.header = (brackets.saturating_add(1), if brackets == 0 { at } else { first });
+            self.header = (
+                brackets.saturating_add(1),
+                if brackets == 0 { at } else { first },
+            );
             self.begin_name(Address::of(Kind::Sign));
             return Ok(());
         }

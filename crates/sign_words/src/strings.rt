@@ -27,7 +27,8 @@ pub(crate) fn line_start(octets: &[u8], at: usize) -> usize {
 /// Whether three quotes stand at a place.
 fn is_long(octets: &[u8], at: usize) -> bool {
     let quote = octet_at(octets, at);
-    octet_at(octets, at.saturating_add(1)) == quote && octet_at(octets, at.saturating_add(2)) == quote
+    octet_at(octets, at.saturating_add(1)) == quote
+        && octet_at(octets, at.saturating_add(2)) == quote
 }
 
 /// Whether a text between these quotes has escapes.
@@ -63,7 +64,11 @@ fn long_end(octets: &[u8], at: usize) -> usize {
         if quotes > 2 && !is_quote {
             return place;
         }
-        quotes = if is_quote { quotes.saturating_add(1) } else { 0 };
+        quotes = if is_quote {
+            quotes.saturating_add(1)
+        } else {
+            0
+        };
         is_escaped = escapes(quote, octet) && !is_escaped;
     }
     octets.len()
@@ -80,5 +85,9 @@ pub(crate) fn text_end(octets: &[u8], at: usize) -> usize {
 
 /// How many octets stand at the front that only say how the others are ordered.
 pub(crate) fn mark_len(octets: &[u8]) -> usize {
-    if octets.starts_with(b"\xef\xbb\xbf") { 3 } else { 0 }
+    if octets.starts_with(b"\xef\xbb\xbf") {
+        3
+    } else {
+        0
+    }
 }

@@ -57,7 +57,10 @@ fn word_at(octets: &[u8], at: usize) -> &[u8] {
 fn first_of_line(octets: &[u8], at: usize) -> usize {
     let start = line_start(octets, at);
     let line = octets.get(start..line_end(octets, start)).unwrap_or(b"");
-    let blanks = line.iter().take_while(|octet| **octet == b' ' || **octet == b'\t').count();
+    let blanks = line
+        .iter()
+        .take_while(|octet| **octet == b' ' || **octet == b'\t')
+        .count();
     start.saturating_add(blanks)
 }
 
@@ -207,7 +210,10 @@ fn hint(octets: &[u8], at: usize, words: &str) -> Option<&'static str> {
 /// What stands where a comma or a bracket is missing: the last octet before a place that is no blank.
 fn end_before(octets: &[u8], at: usize) -> usize {
     let before = octets.get(..at).unwrap_or(octets);
-    before.iter().rposition(|octet| !octet.is_ascii_whitespace()).unwrap_or(at)
+    before
+        .iter()
+        .rposition(|octet| !octet.is_ascii_whitespace())
+        .unwrap_or(at)
 }
 
 /// What is told of a text that is no TOML: the place at which the kit finds it, and what it says.

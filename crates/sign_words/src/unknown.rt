@@ -77,7 +77,13 @@ fn tell_misplaced(
     if home == Home::Sign && lacks(document, name) {
         return found.fault(Code::Misplaced, place, name, "belongs @", &parts);
     }
-    found.warn(Code::Misplaced, place, name, "not known here; it belongs @", &parts)
+    found.warn(
+        Code::Misplaced,
+        place,
+        name,
+        "not known here; it belongs @",
+        &parts,
+    )
 }
 
 /// Tells of a name that stands elsewhere for a key.
@@ -96,7 +102,13 @@ fn tell_named(
         }
         None => {
             let parts = [Part::Words(key)];
-            found.warn(Code::Unknown, place, name, "not known; its key is @", &parts)
+            found.warn(
+                Code::Unknown,
+                place,
+                name,
+                "not known; its key is @",
+                &parts,
+            )
         }
     }
 }

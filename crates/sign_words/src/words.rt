@@ -15,7 +15,8 @@ use toml::Table;
 use tool_streams::{MAX_LINE, is_mark, text_of};
 
 /// How deep a sign file may nest (own).
-const NESTING: &str = "nested too deep; at most 16 brackets may be open at once, and a name may have 4 parts";
+const NESTING: &str =
+    "nested too deep; at most 16 brackets may be open at once, and a name may have 4 parts";
 
 /// What is wrong with a line, if it can't stand in a sign file before a mark.
 fn wrong_line(line: &[u8]) -> Option<(Code, &'static str)> {

@@ -48,7 +48,10 @@ pub(crate) fn say_of_file<F: Display, E: Write>(name: &str, fault: &F, errors: &
 /// Says what is wrong with a sign file that is named, and which command says more of it.
 fn say_of_sign<E: Write>(name: &str, fault: ToolFault, errors: &mut E) {
     if matches!(fault, ToolFault::BadSign | ToolFault::SignRefused { .. }) {
-        let _ = writeln!(errors, "signctl: {name}: {fault}; 'signctl sign {name}' says more");
+        let _ = writeln!(
+            errors,
+            "signctl: {name}: {fault}; 'signctl sign {name}' says more"
+        );
     } else {
         say_of_file(name, &fault, errors);
     }

@@ -63,7 +63,8 @@ multi = 'AAAA'
 ";
 
 /// What is told of it to editors.
-const TOLD: &str = "my.toml:32:1: error: permanent message 2, multi: refused: textTooBig (5) at octet 3: \
+const TOLD: &str =
+    "my.toml:32:1: error: permanent message 2, multi: refused: textTooBig (5) at octet 3: \
     the line needs 15 pixels, the rectangle has 12\n";
 
 /// A line at which the program ends the file, in a text of several lines.
