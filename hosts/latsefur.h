@@ -44,10 +44,11 @@ extern "C" {
 
 /* The version of this header. It rises with each change of it. `latsefur_version` tells that of the library, so a host that loads the
  * library while it runs can compare the two. */
-#define LATSEFUR_VERSION 2
+#define LATSEFUR_VERSION 3
 uint32_t latsefur_version(void);
 
-/* How a call ended. With an outcome other than LATSEFUR_DONE what the host lent is left as it was, but for verdicts, as said there. */
+/* How a call ended. With an outcome other than LATSEFUR_DONE what the host lent is left as it was, but for verdicts, and for the count of a record
+ * or a film that is larger than its buffer, as said there. */
 enum {
     LATSEFUR_DONE = 0,         /* all is done; in a verdict: the text is accepted */
     LATSEFUR_REFUSED = 1,      /* the sign refuses the text */
@@ -61,7 +62,10 @@ enum {
     LATSEFUR_NO_CONTROLLER = 9, /* the handle holds no controller */
     LATSEFUR_BAD_LENGTH = 10,  /* a code hasn't the length that it must have */
     LATSEFUR_NO_DEFAULT = 11,  /* the number names no default */
-    LATSEFUR_NO_FONT = 12      /* the sign has no font of this number */
+    LATSEFUR_NO_FONT = 12,     /* the sign has no font of this number */
+    LATSEFUR_BAD_VALUE = 13,   /* a number of a film is outside its range, or a number has no sentence */
+    LATSEFUR_LARGE_FILM = 14,  /* the film would have more than 64,000,000 octets */
+    LATSEFUR_LONG_FILM = 15    /* the text begins anew after more than ten minutes */
 };
 
 /* Why a text is refused: the numbers of dmsMultiSyntaxError. docs/multi.md says when each comes. */
@@ -170,6 +174,40 @@ uint8_t latsefur_colours_at(const uint8_t *sign_file, size_t sign_file_len, cons
 /* The same of a page, at a phase. Another outcome: NO_PAGE. */
 uint8_t latsefur_colours_of_page(const uint8_t *sign_file, size_t sign_file_len, const uint8_t *text, size_t text_len, uint8_t page,
                                  uint64_t phase, uint8_t *colours, size_t colours_len);
+
+/* Tells what the sign says to a text and why, in a record: the line of JSON that `signctl explain --format json` writes of it, which
+ * docs/explain.schema.json describes. With `pictures` other than 0 each page has its picture. The record stands at the front of a buffer, and `count`
+ * is how many octets it has; a text that is refused has a record too. The record of a text of more than 4,096 octets says that it is too long.
+ *
+ * Other outcomes: NO_MEMORY, NO_SIGN_FILE, SIGN_FAULT; and TOO_SMALL, where `count` is written too, so that the next call may have the room. */
+uint8_t latsefur_explain(const uint8_t *sign_file, size_t sign_file_len, const uint8_t *text, size_t text_len, uint8_t pictures,
+                         uint8_t *told, size_t told_len, size_t *count);
+
+/* Draws a text as it plays, over and over, as a file in GIF: what `signctl picture --all --gif` writes. A pixel is a square of `side` by `side` points,
+ * 1 to 16. The film lasts until the text begins anew, or for its first `seconds`, 1 to 600, if these aren't 0. It stands at the front of a buffer,
+ * and `count` is how many octets it has.
+ *
+ * Other outcomes: REFUSED, TOO_LONG; BAD_VALUE, if `side` or `seconds` is outside its range; LARGE_FILM; LONG_FILM, if `seconds` is 0; and
+ * TOO_SMALL, where `count` is written too. */
+uint8_t latsefur_film(const uint8_t *sign_file, size_t sign_file_len, const uint8_t *text, size_t text_len, uint8_t side, uint16_t seconds,
+                      uint8_t *film, size_t film_len, size_t *count);
+
+/* The kinds of numbers that have a sentence. */
+enum {
+    LATSEFUR_WHY_TABLE = 1,    /* the code of LATSEFUR_REPLY_REFUSED, or of a message that there isn't */
+    LATSEFUR_WHY_VALIDATE = 2, /* dmsValidateMessageError */
+    LATSEFUR_WHY_ACTIVATE = 3, /* dmsActivateMsgError, the code of LATSEFUR_REPLY_NOT_SHOWN */
+    LATSEFUR_WHY_MULTI = 4,    /* dmsMultiSyntaxError */
+    LATSEFUR_WHY_DEFAULT = 5,  /* the code of LATSEFUR_REPLY_NOT_SET */
+    LATSEFUR_WHY_STATE = 6,    /* the fault of `latsefur_restore` */
+    LATSEFUR_WHY_OUTCOME = 7   /* the outcome of a call */
+};
+
+/* Tells a sentence for a number of a kind, as 'there is no such memory type': in ASCII, with no full stop, no line feed and no zero after it. It
+ * stands at the front of a buffer, and `count` is how many octets it has, at most 64.
+ *
+ * Other outcomes: BAD_VALUE, if the kind has no such number; and TOO_SMALL, where `count` is written too. */
+uint8_t latsefur_sentence(uint8_t kind, uint8_t number, uint8_t *told, size_t told_len, size_t *count);
 
 /* ---- A controller that the host holds ----
  *
@@ -374,6 +412,30 @@ LATSEFUR_HAS_SIZE(latsefur_default_facts, 9);
 LATSEFUR_HAS_SIZE(latsefur_message, 24);
 LATSEFUR_HAS_SIZE(latsefur_table_facts, 12);
 LATSEFUR_HAS_SIZE(latsefur_font_facts, 6);
+
+/* The state of a controller as octets, for a host that survives a loss of power. Another outcome of each: NO_CONTROLLER.
+ *
+ * `latsefur_save` writes the messages, the display with its clock, the defaults, the registers and the message that follows a duration at the
+ * front of a buffer, and tells in `count` how many octets that are. The buffer has as many as `latsefur_save_size` tells, which depends on the
+ * sign file alone. Another outcome: TOO_SMALL. A version, a length and a CRC-32 are among the octets, and the host keeps them as they are. */
+uint8_t latsefur_save_size(latsefur_controller *handle, size_t *size);
+uint8_t latsefur_save(latsefur_controller *handle, uint8_t *octets, size_t octets_len, size_t *count);
+
+/* Restores what was saved, by a controller of the same sign file: it then answers each call as the one that was saved, but for the counts of
+ * steps and revisions. `fault` is 0 then.
+ *
+ * Another outcome: REFUSED. Nothing but the count of steps changes then, and `fault` is the first reason: 1 there are fewer or more octets than
+ * there should be, 2 they are of another version, 3 their CRC-32 isn't theirs, 4 a number is outside its range, 5 a text is too long,
+ * 6 the texts would pass the budget, 7 the table has another number of messages, 8 the sign refuses the defaults, 9 it refuses the text of the
+ * display. */
+uint8_t latsefur_restore(latsefur_controller *handle, const uint8_t *octets, size_t octets_len, uint8_t *fault);
+
+/* Tells a number that rises with each command that is done, judges a message, shows one or doesn't, or ends a duration, and with each restore.
+ * While it stays, only time may have passed, so a host saves when it has risen. */
+uint8_t latsefur_revision(latsefur_controller *handle, uint64_t *revision);
+
+/* Tells the message that follows a duration, in the 5 octets of `latsefur_set_end`. Another outcome: TOO_SMALL. */
+uint8_t latsefur_end(latsefur_controller *handle, uint8_t *code, size_t code_len);
 
 #ifdef __cplusplus
 }

@@ -14,7 +14,7 @@ from importlib import import_module
 from pathlib import Path
 from typing import Any, Callable, Optional
 
-from harness import PROGRAM, fail
+from harness import fail
 
 # The colour in the middle of each dot, a row of the sign after the other.
 DOTS = """
@@ -34,19 +34,30 @@ return [canvas.dataset.time, canvas.dataset.page, found.join(' ')];
 # Keeps how long it takes from each key to its picture.
 WATCH = """
 window.took = [];
-let key = null;
-document.getElementById('text').addEventListener('keydown', (event) => {
-  key = event.timeStamp;
-}, true);
-new MutationObserver(() => {
-  if (key !== null) {
-    const begun = key;
-    key = null;
-    requestAnimationFrame(() => window.took.push(performance.now() - begun));
-  }
-}).observe(document.getElementById('sign'), {attributes: true, attributeFilter: ['data-revision']});
+if (!window.isWatched) {
+  window.isWatched = true;
+  let key = null;
+  document.getElementById('text').addEventListener('keydown', (event) => {
+    key = event.timeStamp;
+  }, true);
+  new MutationObserver(() => {
+    if (key !== null) {
+      const begun = key;
+      key = null;
+      requestAnimationFrame(() => window.took.push(performance.now() - begun));
+    }
+  }).observe(document.getElementById('sign'), {attributeFilter: ['data-revision']});
+}
 """
 
+
+# Keeps the page of each picture that is drawn from now on.
+PAGES = """
+const canvas = document.getElementById('sign');
+window.pages = [];
+new MutationObserver(() => window.pages.push(canvas.dataset.page)).observe(canvas, {
+  attributeFilter: ['data-page']});
+"""
 
 # Writes a message, as if it was pasted.
 PUT = """
@@ -71,16 +82,18 @@ const names = document.getElementById('text').getAttribute('aria-describedby').s
 return names.map((name) => document.getElementById(name).textContent);
 """
 
-# Has answers on some texts "held" until others are named, or "lost" for ever.
+# Has answers on some texts "held" until others are named, or "lost" for ever, and all of them come
+# some milliseconds later.
 LATE = """
 window.answers ??= window.fetch;
-window.late = arguments[0];
+[window.late, window.delay] = arguments;
 window.fetch = async (path, words) => {
   const text = words && words.body ? JSON.parse(words.body).text : '';
   if (window.late[text] === 'lost') {
     return new Promise(() => {});
   }
   const reply = await window.answers(path, words);
+  await new Promise((resolve) => setTimeout(resolve, window.delay));
   while (window.late[text] === 'held') {
     await new Promise((resolve) => setTimeout(resolve, 50));
   }
@@ -99,13 +112,15 @@ text.dispatchEvent(new Event('input'));
 """
 
 # Which part of its panel the sign fills, how many labels are away from their fields, by how much
-# the page is too wide and the field too low, and by how much sign and field are out of sight.
+# the page is too wide and the field too low, and by how much the sign, the field and what is said
+# of its text are out of sight.
 FITS = """
 window.scrollTo(0, 0);
 const at = (id) => document.getElementById(id), text = at('text'), panel = at('case');
 const {paddingLeft, paddingRight} = getComputedStyle(panel);
 const room = panel.clientWidth - parseFloat(paddingLeft) - parseFloat(paddingRight);
-const boxes = [at('sign'), text].map((it) => it.getBoundingClientRect());
+const seen = ['sign', 'text', 'outcome', 'reason'].map(at).filter((it) => !it.hidden);
+const boxes = seen.map((it) => it.getBoundingClientRect());
 const away = [...document.querySelectorAll('.pair')].filter((pair) => {
   const [label, field] = [...pair.children].map((it) => it.getBoundingClientRect());
   return label.bottom < field.top || field.bottom < label.top;
@@ -127,6 +142,12 @@ const strip = [...document.getElementById('strip').children];
 return strip.map((page) => [page.textContent, page.getAttribute('aria-pressed')]);
 """
 
+# Where the panel of each sign stands, from the left and from the top.
+CASES = """
+const boxes = [...document.querySelectorAll('.case')].map((it) => it.getBoundingClientRect());
+return boxes.map(({left, top}) => [left, Math.round(top)]);
+"""
+
 # What is said of each other sign, and whether its picture is dim.
 OTHERS = """
 return [...document.querySelectorAll('.other')].map((other) => [
@@ -134,8 +155,8 @@ return [...document.querySelectorAll('.other')].map((other) => [
   other.querySelector('canvas').classList.contains('stale')]);
 """
 
-# The elements whose text has less than a contrast, with that of each.
-FAINT = """
+# How light a colour is, the contrast of two, and the colour that is seen behind an element.
+CONTRAST = """
 const numbers = (colour) => colour.match(/[\\d.]+/g).map(Number);
 const light = (colour) => {
   const shares = numbers(colour).slice(0, 3).map((share) => share / 255);
@@ -147,21 +168,71 @@ const behind = (element) => {
   const colour = getComputedStyle(element).backgroundColor, above = element.parentElement;
   return numbers(colour)[3] !== 0 ? colour : above ? behind(above) : 'rgb(255, 255, 255)';
 };
+const contrast = (...colours) => {
+  const pair = colours.map(light);
+  return (Math.max(...pair) + 0.05) / (Math.min(...pair) + 0.05);
+};
+"""
+
+# The elements whose text has less than a contrast, with that of each.
+FAINT = f"""{CONTRAST}
 const faint = [];
-for (const element of document.querySelectorAll('body *:not(option)')) {
+for (const element of document.querySelectorAll('body *:not(option)')) {{
   const words = [...element.childNodes].filter((node) => node.nodeType === 3 && node.data.trim());
   const has = words.length || element.matches('textarea, select');
-  if (has && element.checkVisibility() && !element.disabled) {
+  if (has && element.checkVisibility() && !element.disabled) {{
     const seen = element.closest('#marks') ? document.getElementById('text') : element;
-    const pair = [getComputedStyle(seen).color, behind(element)].map(light);
-    const contrast = (Math.max(...pair) + 0.05) / (Math.min(...pair) + 0.05);
-    if (contrast < arguments[0]) {
-      faint.push(`${element.localName}#${element.id} ${contrast.toFixed(2)}`);
-    }
-  }
-}
+    const found = contrast(getComputedStyle(seen).color, behind(element));
+    if (found < arguments[0]) {{
+      faint.push(`${{element.localName}}#${{element.id}} ${{found.toFixed(2)}}`);
+    }}
+  }}
+}}
 return faint;
 """
+
+# Of the element that has the focus: what it is called here, how wide its outline is, the contrast
+# of that, and whether the element is in sight. Nothing, if none has the focus.
+FOCUS = f"""{CONTRAST}
+const it = document.activeElement;
+if (!it || it === document.body) {{
+  return null;
+}}
+const {{outlineStyle, outlineWidth, outlineColor}} = getComputedStyle(it);
+const box = it.getBoundingClientRect();
+const seen = document.elementFromPoint(box.left + box.width / 2, box.top + box.height / 2);
+return [`${{it.localName}}#${{it.id}} ${{it.textContent}}`,
+        outlineStyle === 'none' ? 0 : parseFloat(outlineWidth),
+        contrast(outlineColor, behind(it.parentElement)), it.contains(seen)];
+"""
+
+# What is wrong with the page's elements: ids that aren't one element's, a name of an element that
+# isn't there, an order of the tab key of its own, no title, language or first heading, and buttons
+# and fields with fewer than 24 pixels to hit.
+FAULTS = """
+const all = (what) => [...document.querySelectorAll(what)], found = [];
+const ids = all('[id]').map(({id}) => id);
+found.push(...ids.filter((id, place) => ids.indexOf(id) !== place).map((id) => `${id} is twice`));
+for (const name of ['for', 'aria-describedby', 'aria-labelledby', 'aria-controls']) {
+  for (const element of all(`[${name}]`)) {
+    const missing = element.getAttribute(name).split(' ').filter((id) => !ids.includes(id));
+    found.push(...missing.map((id) => `${name} ${id} isn't there`));
+  }
+}
+found.push(...all('[tabindex]').filter((it) => it.tabIndex > 0).map((it) => `${it.id} is first`));
+found.push(...(document.title && document.documentElement.lang ? [] : ['no title or language']));
+found.push(...(all('h1').length === 1 ? [] : ['no one first heading']));
+for (const element of all('button, select, textarea')) {
+  const {width, height} = element.getBoundingClientRect();
+  if (element.checkVisibility() && Math.min(width, height) < 24) {
+    found.push(`${element.id} ${element.textContent} has ${width} by ${height} pixels`);
+  }
+}
+return found;
+"""
+
+# How large the letters of an element are.
+LETTERS = "return parseFloat(getComputedStyle(document.getElementById(arguments[0])).fontSize);"
 
 
 def selenium() -> Optional[Any]:
@@ -176,6 +247,13 @@ def selenium() -> Optional[Any]:
         return None
 
 
+# Where the pictures of the page are left.
+PICTURES = Path("out/hosts/preview")
+
+# The sizes of the page in CSS pixels; those of phones are touched with a finger.
+SIZES = {"wide": (1280, 800), "phone": (390, 844), "landscape": (844, 390)}
+
+
 class Served:
     """The server of the page of these signs. Once it has a port, it keeps that."""
 
@@ -186,7 +264,7 @@ class Served:
     def start(self) -> None:
         words = [sys.executable, "-m", "latsefur.preview"]
         words += [word for sign in self.signs for word in ("--sign", str(sign))]
-        words += ["--signctl", PROGRAM, "--port", str(self.port)]
+        words += ["--port", str(self.port)]
         settings = {**os.environ, "PYTHONPATH": "hosts/python"}
         self.process = subprocess.Popen(words, env=settings, stdout=subprocess.PIPE, text=True)
         self.url = self.process.stdout.readline().strip() if self.process.stdout else ""
@@ -205,7 +283,7 @@ class Browser:
 
     def __init__(self, webdriver: Any, url: str, folder: Path) -> None:
         options = webdriver.ChromeOptions()
-        for word in ("--headless=new", "--no-sandbox", "--disable-gpu", "--window-size=1280,1400"):
+        for word in ("--headless=new", "--no-sandbox", "--disable-gpu", "--window-size=1280,800"):
             options.add_argument(word)
         options.add_argument(f"--user-data-dir={folder}/profile")
         options.add_experimental_option("prefs", {"download.default_directory": str(folder)})
@@ -229,10 +307,19 @@ class Browser:
         self.wait("a begin", lambda: self.revision() and self.cells())
         self.text = self.at("text")
         if self.at("play").text == "Pause":
-            self.at("play").click()
+            self.press(self.at("play"))
 
     def at(self, name: str) -> Any:
         return self.driver.find_element("id", name)
+
+    def first(self, what: str) -> Any:
+        """The first element that a selector names."""
+        return self.driver.find_element("css selector", what)
+
+    def press(self, element: Any) -> None:
+        """Clicks an element, where it can be seen: on a phone the sign stands before others."""
+        self.run("arguments[0].scrollIntoView({block: 'center'});", element)
+        element.click()
 
     def cells(self) -> Any:
         return self.driver.find_elements("css selector", "#cells button")
@@ -271,16 +358,41 @@ class Browser:
         log = self.driver.get_log("browser")
         return [line["message"] for line in log if line["level"] == "SEVERE"]
 
-    def look(self, name: str, scheme: str, width: int, height: int) -> None:
-        """Gives the page a size, and light or dark."""
-        words = {"width": width, "height": height, "deviceScaleFactor": 2, "mobile": False}
+    def size(self, name: str) -> None:
+        """Gives the page a size of `SIZES`. One that is wider than its screen never comes to it."""
+        width, height = SIZES[name]
+        is_phone = name != "wide"
+        words = {"width": width, "height": height, "mobile": is_phone}
+        words["deviceScaleFactor"] = 2 if is_phone else 1
         self.driver.execute_cdp_cmd("Emulation.setDeviceMetricsOverride", words)
-        feature = {"name": "prefers-color-scheme", "value": scheme}
-        self.driver.execute_cdp_cmd("Emulation.setEmulatedMedia", {"features": [feature]})
-        what = f"a page of {width} pixels"
+        self.driver.execute_cdp_cmd("Emulation.setTouchEmulationEnabled", {"enabled": is_phone})
+        what = f"a page of {width} by {height} pixels"
         self.wait(what, lambda: self.run("return [innerWidth, innerHeight]") == [width, height])
         self.driver.execute_async_script(DRAWN)
-        self.driver.save_screenshot(f"out/hosts/preview-{name}-{scheme}.png")
+
+    def paint(self, scheme: str) -> None:
+        """Makes the page light or dark."""
+        feature = {"name": "prefers-color-scheme", "value": scheme}
+        self.driver.execute_cdp_cmd("Emulation.setEmulatedMedia", {"features": [feature]})
+        self.driver.execute_async_script(DRAWN)
+
+    def picture(self, name: str) -> None:
+        """Leaves a picture of what is in sight."""
+        PICTURES.mkdir(parents=True, exist_ok=True)
+        self.driver.execute_async_script(DRAWN)
+        self.driver.save_screenshot(str(PICTURES / f"{name}.png"))
+
+    def tab(self) -> Any:
+        """Presses the tab key, and gives what `FOCUS` says of the element that has the focus."""
+        keys = import_module("selenium.webdriver.common.keys").Keys
+        chains = import_module("selenium.webdriver.common.action_chains")
+        chains.ActionChains(self.driver).send_keys(keys.TAB).perform()
+        return self.run(FOCUS)
+
+    def labels(self, within: str) -> list[str]:
+        """The words of each button of an element."""
+        found = self.driver.find_elements("css selector", f"#{within} button")
+        return [str(it.get_attribute("textContent")) for it in found]
 
     def do(self, what: Callable[[], object]) -> None:
         """Does something that asks for another picture, and waits for it."""

@@ -20,7 +20,8 @@ TYPES: dict[str, Callable[[Any], bool]] = {
     "string": lambda value: isinstance(value, str),
     "boolean": lambda value: isinstance(value, bool),
     "null": lambda value: value is None,
-    "integer": lambda value: isinstance(value, int) and not isinstance(value, bool),
+    "integer": lambda value: not isinstance(value, bool)
+    and (isinstance(value, int) or isinstance(value, float) and value.is_integer()),
 }
 # The words that say nothing of a value.
 NOTES = {"$schema", "$defs", "title", "description"}
@@ -34,13 +35,14 @@ class Schema:
         self.words: dict[str, Callable[[Any, Any, dict[str, Any]], bool]] = {
             "$ref": lambda value, name, _: self.takes(value, self.named(name)),
             "type": lambda value, types, _: any(TYPES[one](value) for one in listed(types)),
-            "enum": lambda value, known, _: value in known,
-            "const": lambda value, known, _: bool(value == known),
+            "enum": lambda value, known, _: any(are_same(value, one) for one in known),
+            "const": lambda value, known, _: are_same(value, known),
             "anyOf": lambda value, schemas, _: any(self.takes(value, one) for one in schemas),
             "minimum": lambda value, least, _: bool(value >= least),
             "maximum": lambda value, most, _: bool(value <= most),
             "pattern": lambda value, pattern, _: bool(re.search(pattern, value)),
             "items": lambda value, schema, _: all(self.takes(one, schema) for one in value),
+            "maxItems": lambda value, most, _: bool(len(value) <= most),
             "required": lambda value, names, _: all(name in value for name in names),
             "properties": lambda value, schemas, _: all(
                 self.takes(value[name], schemas[name]) for name in value if name in schemas
@@ -59,6 +61,11 @@ class Schema:
             return False
         words = [word for word in schema if word not in NOTES]
         return all(self.words[word](value, schema[word], schema) for word in words)
+
+
+def are_same(value: Any, known: Any) -> bool:
+    """Whether two values are the same; for Python 1 is true, and for JSON it isn't."""
+    return isinstance(value, bool) == isinstance(known, bool) and bool(value == known)
 
 
 def listed(types: Any) -> list[str]:

@@ -3,12 +3,12 @@
  *   arena < SIGN_FILE           in an area of AREA octets
  *   arena OCTETS < SIGN_FILE    in the first OCTETS of it
  *
- * It makes the controller of the sign, shows a message for a minute, draws all that is shown, and frees the controller; all of this twice.
- * Then it writes how many octets of the area were needed, and how many the controller keeps. An area of as many octets is enough, and
- * a smaller one isn't. The status is 1 if something fails, as in an area that is too small, and 2 without a sign file or after other words.
+ * It writes how many octets of the area the controller of the sign needs, and how many it keeps: an area of as many octets is enough, and
+ * a smaller one isn't. Before that it makes the controller, shows a message for a minute, draws all that is shown, and frees the controller; all
+ * of this twice. The status is 1 if something fails, as in an area that is too small, and 2 without a sign file or after other words.
  *
- * malloc, realloc and free stand first, and may be copied whole. They serve one thread. The rest uses no stream, since the C library of
- * a larger machine takes the memory of its streams by the same functions. */
+ * malloc, realloc, free and `area_for`, which tells the two numbers of a sign file, stand first, and may be copied whole. They serve one thread.
+ * The rest uses no stream, since the C library of a larger machine takes the memory of its streams by the same functions. */
 #define _POSIX_C_SOURCE 200112L
 #include "latsefur.h"
 
@@ -132,6 +132,20 @@ static size_t taken(void) {
     return units * sizeof(unit);
 }
 
+/* Tells how many octets of the area the controller of a sign file needs, beside those that are taken, and how many of these it keeps. The
+ * controller is made, and freed again; the outcome is that of `latsefur_controller_new`. */
+static uint8_t area_for(const uint8_t *sign, size_t length, size_t *needs, size_t *keeps) {
+    latsefur_controller held = {0};
+    const size_t from = place_for(AREA), before = taken(); /* no block is so large, so the place is the end */
+    uint8_t outcome;
+    highest = from;
+    outcome = latsefur_controller_new(sign, length, &held);
+    *needs = (highest - from) * sizeof(unit);
+    *keeps = taken() - before;
+    latsefur_controller_free(&held);
+    return outcome;
+}
+
 static void fail(int status, const char *why) {
     if (write(STDERR_FILENO, why, strlen(why)) < 0)
         status = 1;
@@ -169,8 +183,9 @@ int main(int count, char **words) {
     static uint8_t sign[1 << 20];
     static char told[100];
     const size_t before = taken(); /* by the C library, if it takes any */
-    size_t length = 0, kept = 0, made;
+    size_t length = 0, needs = 0, keeps = 0, made;
     ssize_t more;
+    uint8_t outcome;
     int i;
     if (count > 2 || (count == 2 && (words[1][0] < '0' || words[1][0] > '9')))
         fail(2, "usage: arena [OCTETS] < SIGN_FILE\n");
@@ -180,19 +195,20 @@ int main(int count, char **words) {
         length += (size_t)more;
     if (length == 0 || length == sizeof sign)
         fail(2, "arena: no sign file of less than 1 MiB is there\n");
+    outcome = area_for(sign, length, &needs, &keeps);
+    expect(taken() == before, "arena: memory isn't given back\n");
+    expect(outcome != LATSEFUR_NO_MEMORY, "arena: the area is too small\n");
+    expect(outcome == LATSEFUR_DONE, "arena: the sign file is wrong\n");
     for (i = 0; i < 2; i++) {
         latsefur_controller held = {0};
-        uint8_t outcome = latsefur_controller_new(sign, length, &held);
-        expect(outcome == LATSEFUR_DONE || taken() == before, "arena: memory isn't given back after a refusal\n");
-        expect(outcome != LATSEFUR_NO_MEMORY, "arena: the area is too small\n");
-        expect(outcome == LATSEFUR_DONE, "arena: the sign file is wrong\n");
-        kept = taken() - before;
+        expect(latsefur_controller_new(sign, length, &held) == LATSEFUR_DONE, "arena: the area is too small a second time\n");
         made = requests;
         show(&held);
-        expect(requests == made && taken() == before + kept, "arena: a call other than `new` takes memory\n");
+        expect(requests == made && taken() == before + keeps, "arena: a call other than `new` takes memory\n");
         latsefur_controller_free(&held);
         expect(taken() == before, "arena: memory isn't given back\n");
     }
-    i = snprintf(told, sizeof told, "needs %zu octets, keeps %zu\n", highest * sizeof(unit) - before, kept);
+    expect((highest - place_for(AREA)) * sizeof(unit) == needs, "arena: a later controller needs more\n");
+    i = snprintf(told, sizeof told, "needs %zu octets, keeps %zu\n", needs, keeps);
     return write(STDOUT_FILENO, told, (size_t)i) == (ssize_t)i ? 0 : 1;
 }

@@ -114,11 +114,13 @@ typedef struct {
     latsefur_shown shown;
     uint8_t plane[LATSEFUR_PLANE_SIZE(LATSEFUR_MAX_WIDTH, LATSEFUR_MAX_HEIGHT) + BEHIND];
     uint8_t colours[LATSEFUR_COLOURS_SIZE(LATSEFUR_MAX_WIDTH, LATSEFUR_MAX_HEIGHT) + BEHIND];
+    uint8_t told[1 << 18];
+    size_t count;
 } outputs;
 
 static outputs out, marked;
 
-typedef enum { SIGN, CHECK, CHECK_ALL, SHOWN_AT, PLANE_AT, PLANE_OF_PAGE, COLOURS_AT, COLOURS_OF_PAGE, EXPORTS } export;
+typedef enum { SIGN, CHECK, CHECK_ALL, EXPLAIN, SHOWN_AT, PLANE_AT, PLANE_OF_PAGE, COLOURS_AT, COLOURS_OF_PAGE, FILM, EXPORTS } export;
 
 static uint8_t call(export which, const uint8_t *sign, size_t sign_len, const uint8_t *text, size_t text_len) {
     latsefur_text texts[1];
@@ -140,6 +142,10 @@ static uint8_t call(export which, const uint8_t *sign, size_t sign_len, const ui
         return latsefur_plane_of_page(sign, sign_len, text, text_len, 0, 0, 1, out.plane, sizeof out.plane);
     case COLOURS_AT:
         return latsefur_colours_at(sign, sign_len, text, text_len, 0, out.colours, sizeof out.colours);
+    case EXPLAIN:
+        return latsefur_explain(sign, sign_len, text, text_len, 1, out.told, sizeof out.told, &out.count);
+    case FILM:
+        return latsefur_film(sign, sign_len, text, text_len, 1, 0, out.told, sizeof out.told, &out.count);
     default:
         return latsefur_colours_of_page(sign, sign_len, text, text_len, 0, 0, out.colours, sizeof out.colours);
     }
@@ -155,6 +161,8 @@ static uint8_t call_small(export which, const uint8_t *text, size_t text_len) {
         return latsefur_plane_of_page(file, file_len, text, text_len, 0, 0, 1, out.plane, 0);
     case COLOURS_AT:
         return latsefur_colours_at(file, file_len, text, text_len, 0, out.colours, 0);
+    case FILM:
+        return latsefur_film(file, file_len, text, text_len, 1, 0, out.told, 0, &out.count);
     default:
         return latsefur_colours_of_page(file, file_len, text, text_len, 0, 0, out.colours, 0);
     }
@@ -263,6 +271,60 @@ static void test_check_all(void) {
     EXPECT(verdicts[1].outcome == LATSEFUR_REFUSED && verdicts[1].code == LATSEFUR_UNSUPPORTED_TAG && verdicts[1].at == 6);
     EXPECT(verdicts[2].outcome == LATSEFUR_DONE && verdicts[2].pages == 1);
     EXPECT(is_marked((uint8_t *)&verdicts[3], sizeof verdicts[3]));
+}
+
+/* Each number of a kind has one sentence, of at most 64 octets, and no other number has one. */
+static void test_sentences(void) {
+    static const int many[8] = {0, 7, 5, 8, 10, 2, 9, 16};
+    int kind, number, found;
+    for (kind = 0; kind < 256; kind++) {
+        found = 0;
+        for (number = 0; number < 256; number++) {
+            uint8_t outcome;
+            out.count = 0;
+            memset(out.told, MARK, 65);
+            outcome = latsefur_sentence((uint8_t)kind, (uint8_t)number, out.told, 64, &out.count);
+            EXPECT(outcome == LATSEFUR_DONE ? out.count > 0 && out.count <= 64 : outcome == LATSEFUR_BAD_VALUE && out.count == 0);
+            EXPECT(is_marked(out.told + out.count, 65 - out.count));
+            found += outcome == LATSEFUR_DONE;
+            if (outcome == LATSEFUR_DONE)
+                EXPECT(latsefur_sentence((uint8_t)kind, (uint8_t)number, out.told, out.count - 1, &out.count) == LATSEFUR_TOO_SMALL);
+        }
+        EXPECT(found == (kind < 8 ? many[kind] : 0));
+    }
+}
+
+/* A record and a film say how much room they need, and stand at the front of a buffer that has it. */
+static void test_told(void) {
+    static const char *const refused_text = "A[zz]";
+    static uint8_t marks[sizeof out.told];
+    size_t count;
+    int which;
+    memset(marks, MARK, sizeof marks);
+    for (which = 0; which < 2; which++) {
+        uint8_t outcome = which ? call(FILM, file, file_len, octets_of("A[np]A"), 6) : call(EXPLAIN, file, file_len, octets_of(refused_text), 5);
+        EXPECT(outcome == LATSEFUR_DONE);
+        count = out.count;
+        EXPECT(count > 6 && memcmp(out.told, which ? "GIF89a" : "{\"code", 6) == 0);
+        EXPECT(is_marked(out.told + count, sizeof out.told - count));
+        EXPECT(which || (out.told[count - 1] == '\n' && memchr(out.told, '\n', count) == out.told + count - 1));
+        memset(&out, MARK, sizeof out);
+        outcome = which ? latsefur_film(file, file_len, octets_of("A[np]A"), 6, 1, 0, out.told, count - 1, &out.count)
+                        : latsefur_explain(file, file_len, octets_of(refused_text), 5, 1, out.told, count - 1, &out.count);
+        EXPECT(outcome == LATSEFUR_TOO_SMALL && out.count == count && is_marked(out.told, sizeof out.told));
+        outcome = which ? latsefur_film(file, file_len, octets_of("A[np]A"), 6, 1, 0, out.told, count, &out.count)
+                        : latsefur_explain(file, file_len, octets_of(refused_text), 5, 1, out.told, count, &out.count);
+        EXPECT(outcome == LATSEFUR_DONE && out.count == count && is_marked(out.told + count, sizeof out.told - count));
+    }
+    memset(&out, MARK, sizeof out);
+    EXPECT(latsefur_film(file, file_len, octets_of("A"), 1, 0, 0, out.told, sizeof out.told, &out.count) == LATSEFUR_BAD_VALUE);
+    EXPECT(latsefur_film(file, file_len, octets_of("A"), 1, 17, 0, out.told, sizeof out.told, &out.count) == LATSEFUR_BAD_VALUE);
+    EXPECT(latsefur_film(file, file_len, octets_of("A"), 1, 1, 601, out.told, sizeof out.told, &out.count) == LATSEFUR_BAD_VALUE);
+    EXPECT(latsefur_film(octets_of(""), 0, octets_of("A"), 1, 0, 0, out.told, 0, &out.count) == LATSEFUR_BAD_VALUE);
+    EXPECT(latsefur_film(file, file_len, octets_of("A["), 2, 1, 1, out.told, 0, &out.count) == LATSEFUR_REFUSED);
+    EXPECT(is_untouched());
+    EXPECT(latsefur_explain(file, file_len, marks, 4097, 0, out.told, sizeof out.told, &out.count) == LATSEFUR_DONE);
+    EXPECT(out.count > 10 && memchr(out.told, '\n', out.count) == out.told + out.count - 1);
 }
 
 static void expect_shown(uint64_t clock, latsefur_shown wanted) {
@@ -654,8 +716,8 @@ static void expect_on_stack(const uint8_t *sign, size_t sign_len, uint8_t outcom
 typedef enum {
     FRAME, COLOURS, HELD_PLANE, HELD_COLOURS, DRAWINGS,
     REQUEST = DRAWINGS, SET_MULTI, SET_OWNER, SET_PRIORITY, SET_BEACON, SET_PIXEL_SERVICE, VALIDATE, WORK, ACTIVATE, SET_END, SET_DEFAULT, TICK,
-    CLEAR, NEXT_CHANGE, HELD_CHECK, JUDGINGS,
-    REPORT = JUDGINGS, DEFAULTS, STEPS, ROW, HELD_SIGN, HELD_TABLE, HELD_FONT, MESSAGE_CRC, LIBRARY_VERSION, FREE, HELD_CALLS
+    CLEAR, NEXT_CHANGE, RESTORE, HELD_CHECK, JUDGINGS,
+    REPORT = JUDGINGS, DEFAULTS, STEPS, REVISION, SAVE_SIZE, SAVE, END, ROW, HELD_SIGN, HELD_TABLE, HELD_FONT, MESSAGE_CRC, LIBRARY_VERSION, FREE, HELD_CALLS
 } held_call;
 
 static struct {
@@ -672,8 +734,12 @@ static struct {
     latsefur_font_facts font;
     uint64_t steps;
     uint32_t tenths;
-    uint8_t octets[4096], owner[127];
+    uint8_t octets[4096], owner[127], fault;
+    size_t size, count;
 } there;
+
+/* A saved state: there is room for that of the largest table. */
+static uint8_t saved[1100000];
 
 /* A text with tags of each kind; it is only judged and drawn, since a small table may have no room for it. */
 static const char tagged[] = "[jl3][jp3][cf1][pb0][fo1][sc1]A[/sc][pt20o5][hc41][nl1]A[np][tr1,1,5,5][flt2o2]A[/fl][[";
@@ -724,6 +790,9 @@ static uint8_t judge_held(void) {
         return latsefur_clear(held, &there.reply);
     case NEXT_CHANGE:
         return latsefur_next_change(held, UINT32_MAX, &there.tenths);
+    case RESTORE:
+        EXPECT(latsefur_save(held, saved, sizeof saved, &there.count) == LATSEFUR_DONE);
+        return latsefur_restore(held, saved, there.count, &there.fault);
     default:
         latsefur_held_check(held, octets_of(tagged), sizeof tagged - 1, &out.verdict);
         return LATSEFUR_DONE;
@@ -739,6 +808,14 @@ static uint8_t tell_held(void) {
         return latsefur_defaults(held, &there.defaults);
     case STEPS:
         return latsefur_steps(held, &there.steps);
+    case REVISION:
+        return latsefur_revision(held, &there.steps);
+    case SAVE_SIZE:
+        return latsefur_save_size(held, &there.size);
+    case SAVE:
+        return latsefur_save(held, saved, sizeof saved, &there.count);
+    case END:
+        return latsefur_end(held, there.code, 5);
     case ROW:
         return latsefur_row(held, 3, 1, &there.row, there.octets, sizeof there.octets, there.owner, sizeof there.owner);
     case HELD_SIGN:
@@ -986,6 +1063,38 @@ static void use_controller(latsefur_controller *held) {
     EXPECT(latsefur_tick(held, 1, &reply) == LATSEFUR_DONE && reply.kind == LATSEFUR_REPLY_ENDED);
 }
 
+static int is_same_report(const latsefur_report_facts *one, const latsefur_report_facts *other) {
+    return one->clock == other->clock && one->used == other->used && one->free == other->free && one->crc == other->crc && one->mode == other->mode &&
+           one->shown_number == other->shown_number && one->remaining == other->remaining && one->activate == other->activate;
+}
+
+/* A state that is saved is restored, as it was. What is cut off is refused, and changes nothing. */
+static void use_saved(latsefur_controller *held) {
+    latsefur_reply reply = {0};
+    latsefur_report_facts before = {0}, after = {0};
+    uint64_t first = 0, second = 0;
+    size_t size = 0, count = 0, cut;
+    uint8_t fault = MARK, code[5] = {0};
+    EXPECT(latsefur_save_size(held, &size) == LATSEFUR_DONE && size <= sizeof saved);
+    memset(saved, MARK, sizeof saved);
+    EXPECT(latsefur_save(held, saved, size - 1, &count) == LATSEFUR_TOO_SMALL && count == 0 && is_marked(saved, size));
+    EXPECT(latsefur_save(held, saved, size, &count) == LATSEFUR_DONE && count > 0 && count <= size);
+    EXPECT(is_marked(saved + count, sizeof saved - count));
+    EXPECT(latsefur_report(held, &before) == LATSEFUR_DONE && latsefur_revision(held, &first) == LATSEFUR_DONE);
+    for (cut = 0; cut < count && cut < 200; cut++)
+        EXPECT(latsefur_restore(held, saved, cut, &fault) == LATSEFUR_REFUSED && fault == 1);
+    saved[count - 1] ^= 1;
+    EXPECT(latsefur_restore(held, saved, count, &fault) == LATSEFUR_REFUSED && fault == 3);
+    saved[count - 1] ^= 1;
+    EXPECT(latsefur_report(held, &after) == LATSEFUR_DONE && is_same_report(&before, &after));
+    EXPECT(latsefur_tick(held, 3, &reply) == LATSEFUR_DONE && latsefur_revision(held, &second) == LATSEFUR_DONE && second == first);
+    EXPECT(latsefur_clear(held, &reply) == LATSEFUR_DONE && latsefur_revision(held, &second) == LATSEFUR_DONE && second == first + 1);
+    EXPECT(latsefur_restore(held, saved, count, &fault) == LATSEFUR_DONE && fault == 0);
+    EXPECT(latsefur_report(held, &after) == LATSEFUR_DONE && is_same_report(&before, &after));
+    EXPECT(latsefur_end(held, code, 4) == LATSEFUR_TOO_SMALL && code[0] == 0);
+    EXPECT(latsefur_end(held, code, 5) == LATSEFUR_DONE && code[0] == 3);
+}
+
 /* A handle without a controller answers so, and changes nothing. */
 static void expect_no_controller(latsefur_controller *held) {
     latsefur_reply reply = {0};
@@ -994,7 +1103,9 @@ static void expect_no_controller(latsefur_controller *held) {
     latsefur_table_facts table = {0};
     latsefur_font_facts font = {0};
     uint32_t tenths = 7;
-    uint8_t code[12] = {0};
+    uint64_t steps = 7;
+    size_t count = 7;
+    uint8_t code[12] = {0}, fault = 7;
     memset(&out, MARK, sizeof out);
     EXPECT(latsefur_work(held, &reply) == LATSEFUR_NO_CONTROLLER && latsefur_tick(held, 1, &reply) == LATSEFUR_NO_CONTROLLER);
     EXPECT(latsefur_activate(held, code, 12, &reply) == LATSEFUR_NO_CONTROLLER && reply.kind == 0);
@@ -1006,6 +1117,9 @@ static void expect_no_controller(latsefur_controller *held) {
     EXPECT(latsefur_held_sign(held, &out.facts) == LATSEFUR_NO_CONTROLLER && latsefur_held_table(held, &table) == LATSEFUR_NO_CONTROLLER);
     EXPECT(latsefur_held_font(held, 1, &font) == LATSEFUR_NO_CONTROLLER && font.number == 0 && table.slots == 0);
     EXPECT(latsefur_held_check(held, code, 1, &out.verdict) == LATSEFUR_NO_CONTROLLER);
+    EXPECT(latsefur_save(held, code, 12, &count) == LATSEFUR_NO_CONTROLLER && latsefur_save_size(held, &count) == LATSEFUR_NO_CONTROLLER);
+    EXPECT(latsefur_restore(held, code, 12, &fault) == LATSEFUR_NO_CONTROLLER && latsefur_revision(held, &steps) == LATSEFUR_NO_CONTROLLER);
+    EXPECT(latsefur_end(held, code, 5) == LATSEFUR_NO_CONTROLLER && count == 7 && fault == 7 && steps == 7);
     EXPECT(latsefur_held_plane_of_page(held, code, 0, 0, 0, 1, out.plane, sizeof out.plane) == LATSEFUR_NO_CONTROLLER);
     EXPECT(latsefur_held_colours_of_page(held, code, 0, 0, 0, out.colours, sizeof out.colours) == LATSEFUR_NO_CONTROLLER);
     EXPECT(is_untouched());
@@ -1040,6 +1154,7 @@ static void test_controller(void) {
         use_next_change(&held);
     use_controller(&held);
     use_controller(&held);
+    use_saved(&held);
     EXPECT(requests == 0 && blocks == kept);
     /* A controller that can't be made leaves the one that there is. */
     left = 0;
@@ -1086,6 +1201,8 @@ int main(int count, char **paths) {
         test_verdicts();
         test_refused();
         test_check_all();
+        test_told();
+        test_sentences();
         test_clocks();
         test_order();
         test_sizes();

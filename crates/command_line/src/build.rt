@@ -1,6 +1,6 @@
 //! The command line that the tool takes, made of its tables.
 
-use crate::table::{COMMANDS, CommandRow, OptionRow, Takes};
+use crate::table::{COMMANDS, CommandRow, OptionRow, SHELLS, Takes};
 use clap::builder::ValueParser;
 use clap::{Arg, ArgAction, Command};
 use std::alloc::{AllocError, Global};
@@ -8,27 +8,54 @@ use std::alloc::{AllocError, Global};
 /// The version of the program, and the toolchain that it is proved with, as `rt version` prints it.
 const VERSION: &str = "0.1.0 (rattle-kit-13f logic dac8208d650f15bf)";
 
+/// The letter of an option with this name, if it has one.
+pub(crate) fn letter_of(name: &str) -> Option<&'static str> {
+    match name {
+        "message" => Some("m"),
+        "output" => Some("o"),
+        "quiet" => Some("q"),
+        "sign" => Some("s"),
+        _ => None,
+    }
+}
+
+/// An argument that is given by its name, or by its letter.
+fn named<'a>(arg: Arg<'a>, name: &'a str) -> Arg<'a> {
+    let arg = arg.long(name);
+    let Some(letter) = letter_of(name) else {
+        return arg;
+    };
+    match letter.chars().next() {
+        Some(letter) => arg.short(letter),
+        None => arg,
+    }
+}
+
 /// An option.
 fn arg_of<'a>(alloc: Global, row: &OptionRow) -> Result<Arg<'a>, AllocError> {
     let arg = Arg::new(alloc, row.name).help(row.help);
     let mut arg = match row.takes {
-        Takes::Nothing => arg.long(row.name).action(ArgAction::SetTrue),
-        Takes::Number(least, most) => arg
-            .long(row.name)
+        Takes::Nothing => named(arg, row.name).action(ArgAction::SetTrue),
+        Takes::Number(least, most) => named(arg, row.name)
             .value_name("N")
             .value_parser(ValueParser::Signed(least, most)),
-        Takes::Word(what, words) => arg
-            .long(row.name)
+        Takes::Word(what, words) => named(arg, row.name)
             .value_name(what)
             .value_parser(ValueParser::Names(words)),
-        Takes::Text(what) => arg.long(row.name).value_name(what),
-        Takes::Messages => arg
-            .short('m')
-            .long(row.name)
+        Takes::Text(what) => named(arg, row.name).value_name(what),
+        Takes::Messages => named(arg, row.name)
             .value_name("TEXT")
             .action(ArgAction::Append)
             .allow_hyphen_values(true),
         Takes::Place => arg.value_name("FILE"),
+        Takes::Places => arg
+            .value_name("FILE")
+            .num_args(0..)
+            .action(ArgAction::Append),
+        Takes::Shell => arg
+            .value_name("SHELL")
+            .required(true)
+            .value_parser(ValueParser::Names(&SHELLS)),
     };
     if let Some(default) = row.default {
         arg = arg.default_value(default);
@@ -39,7 +66,9 @@ fn arg_of<'a>(alloc: Global, row: &OptionRow) -> Result<Arg<'a>, AllocError> {
 
 /// A command with its options.
 fn command_of<'a>(alloc: Global, row: &CommandRow) -> Result<Command<'a>, AllocError> {
-    let mut command = Command::new(alloc, row.name).about(row.about);
+    let mut command = Command::new(alloc, row.name)
+        .about(row.about)
+        .after_help(row.examples);
     for options in row.options {
         for option in *options {
             command = command.arg(arg_of(alloc, option)?)?;

@@ -1,19 +1,9 @@
 //! `signctl explain`, which says of each message why it is refused, or draws its pages.
 
-use crate::source::{SignSource, number_of, sign_source};
+use crate::messages::{ManyMessages, many_messages_of};
+use crate::source::{SignSource, Surroundings, number_of};
 use clap::ArgMatches;
 use std::alloc::{AllocError, Global};
-
-/// Where the messages come from (own).
-#[derive(Drop)]
-pub enum Messages<'a> {
-    /// The input.
-    Input,
-    /// The file of this name.
-    File(&'a str),
-    /// These octets, each message with its line feed.
-    Given(Vec<u8>),
-}
 
 /// What an explanation is written as (own).
 #[derive(Clone, Copy)]
@@ -24,8 +14,14 @@ pub enum ReportFormat {
     Ansi,
     /// Lines as editors read them.
     Lines,
+    /// The same as annotations of a workflow of GitHub.
+    Annotations,
     /// A record in JSON for each message.
     Json,
+    /// The messages alone, mended.
+    Mended,
+    /// What is changed where they are mended, as a unified diff.
+    Changed,
 }
 
 /// Each message in words and pictures (own).
@@ -34,7 +30,7 @@ pub struct ExplainRequest<'a> {
     /// Where the sign comes from. It isn't the input if the messages are given.
     pub sign: SignSource<'a>,
     /// Where the messages come from.
-    pub messages: Messages<'a>,
+    pub messages: ManyMessages<'a>,
     /// What an explanation is written as.
     pub format: ReportFormat,
     /// When pages are drawn, in tenths of a second since each began.
@@ -45,34 +41,18 @@ pub struct ExplainRequest<'a> {
     pub has_pictures: bool,
     /// Whether warnings count as refusals.
     pub is_strict: bool,
-}
-
-/// Messages as lines.
-fn lines_of(alloc: Global, messages: &[&str]) -> Result<Vec<u8>, AllocError> {
-    let mut lines = Vec::new(alloc);
-    for message in messages {
-        lines.extend_from_slice(message.as_bytes())?;
-        lines.push(b'\n')?;
-    }
-    Ok(lines)
-}
-
-/// Where the messages come from.
-fn messages_of<'a>(alloc: Global, explain: &ArgMatches<'a>) -> Result<Messages<'a>, AllocError> {
-    if let Some(messages) = explain.get_strs("message") {
-        return Ok(Messages::Given(lines_of(alloc, messages)?));
-    }
-    Ok(match explain.get_str("file") {
-        Some(name) => Messages::File(name),
-        None => Messages::Input,
-    })
+    /// Whether nothing is said but what went wrong.
+    pub is_quiet: bool,
 }
 
 /// What an explanation is written as.
 fn format_of(explain: &ArgMatches<'_>) -> ReportFormat {
     match explain.get_str("format") {
         Some("lines") => ReportFormat::Lines,
+        Some("github") => ReportFormat::Annotations,
         Some("json") => ReportFormat::Json,
+        _ if explain.get_flag("fix") => ReportFormat::Mended,
+        _ if explain.get_flag("diff") => ReportFormat::Changed,
         _ if explain.get_flag("ansi") => ReportFormat::Ansi,
         _ => ReportFormat::Text,
     }
@@ -83,25 +63,38 @@ pub(crate) fn explain_refusal(explain: &ArgMatches<'_>) -> Option<&'static str> 
     if explain.get_flag("ansi") && !matches!(format_of(explain), ReportFormat::Ansi) {
         return Some("--ansi goes with --format text");
     }
-    match (explain.get_strs("message"), sign_source(explain)) {
-        (Some(_), SignSource::Input) => Some("--message goes with --sign FILE or --sample"),
-        _ => None,
+    if explain.get_flag("fix") && !matches!(format_of(explain), ReportFormat::Mended) {
+        return Some("--fix goes with --format text");
     }
+    if explain.get_flag("diff") && !matches!(format_of(explain), ReportFormat::Changed) {
+        return Some("--diff goes with --format text");
+    }
+    let has_several = matches!(explain.get_strs("file"), Some(names) if names.len() > 1);
+    if has_several && matches!(format_of(explain), ReportFormat::Json) {
+        return Some("--format json goes with one FILE, since a record doesn't name its file");
+    }
+    None
 }
 
 /// What `signctl explain` is asked for.
 pub(crate) fn explain_asked<'a>(
     alloc: Global,
     explain: &ArgMatches<'a>,
+    sign: SignSource<'a>,
+    around: Surroundings<'a>,
 ) -> Result<ExplainRequest<'a>, AllocError> {
     Ok(ExplainRequest {
-        sign: sign_source(explain),
-        messages: messages_of(alloc, explain)?,
-        format: format_of(explain),
+        sign,
+        messages: many_messages_of(alloc, explain)?,
+        format: match format_of(explain) {
+            ReportFormat::Text if around.has_colours => ReportFormat::Ansi,
+            format => format,
+        },
         // it has a default
         phase: number_of(explain, "phase").unwrap_or(0),
         refused_only: explain.get_flag("refused"),
         has_pictures: explain.get_flag("pages"),
         is_strict: explain.get_flag("strict"),
+        is_quiet: explain.get_flag("quiet"),
     })
 }

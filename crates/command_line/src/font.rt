@@ -29,6 +29,8 @@ pub struct FontRequest<'a> {
     pub version: u16,
     /// Columns between characters, if the command line says how many.
     pub char_spacing: Option<u8>,
+    /// The columns between characters that are written in place of these, if the command line says how many.
+    pub written_spacing: Option<u8>,
     /// Rows between lines.
     pub line_spacing: u8,
     /// The characters that are taken.
@@ -39,6 +41,8 @@ pub struct FontRequest<'a> {
     pub crop: bool,
     /// How many rows there are at least, 1 to 64, if the command line says so.
     pub height: Option<u8>,
+    /// Whether a font table of NTCIP 1203 is read. It says all of this itself.
+    pub is_table: bool,
 }
 
 /// What is done with a character that doesn't fit its cell.
@@ -79,10 +83,12 @@ pub(crate) fn font_asked<'a>(
         number: octet_of(font, "number").unwrap_or(1),
         version: word_of(font, "version").unwrap_or(0),
         char_spacing: octet_of(font, "char-spacing"),
+        written_spacing: octet_of(font, "spacing"),
         line_spacing: octet_of(font, "line-spacing").unwrap_or(1),
         characters,
         outside: outside_of(font),
         crop: font.get_flag("crop"),
         height: octet_of(font, "height"),
+        is_table: font.get_flag("table"),
     }))
 }

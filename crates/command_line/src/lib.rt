@@ -6,8 +6,10 @@
 mod answer;
 mod build;
 mod characters;
+mod completions;
 mod explain;
 mod font;
+mod messages;
 mod picture;
 mod request;
 mod sign;
@@ -16,9 +18,10 @@ mod table;
 
 pub use answer::Answer;
 pub use characters::Characters;
-pub use explain::{ExplainRequest, Messages, ReportFormat};
+pub use explain::{ExplainRequest, ReportFormat};
 pub use font::{FontRequest, OutsideChoice};
-pub use picture::{PictureRequest, Shown};
+pub use messages::{ManyMessages, Messages};
+pub use picture::{LitChoice, PictureRequest, Shown};
 pub use request::{Request, request_of};
 pub use sign::{SignFormat, SignRequest};
-pub use source::SignSource;
+pub use source::{SignSource, Surroundings};

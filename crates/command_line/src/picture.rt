@@ -1,6 +1,7 @@
 //! `signctl picture`, which writes a message as a picture.
 
-use crate::source::{SignSource, number_of, octet_of, sign_source, word_of};
+use crate::messages::Messages;
+use crate::source::{SignSource, number_of, octet_of, word_of};
 use clap::ArgMatches;
 
 /// What is drawn of a message (own).
@@ -14,8 +15,21 @@ pub enum Shown {
     Film { seconds: Option<u16> },
 }
 
-/// A message as a picture (own).
+/// The colour of the lit pixels of a sign of one colour (own).
 #[derive(Clone, Copy)]
+pub enum LitChoice {
+    /// Amber.
+    Amber,
+    /// White.
+    White,
+    /// Red.
+    Red,
+    /// Green.
+    Green,
+}
+
+/// A message as a picture (own).
+#[derive(Drop)]
 pub struct PictureRequest<'a> {
     /// Where the sign comes from.
     pub sign: SignSource<'a>,
@@ -25,6 +39,10 @@ pub struct PictureRequest<'a> {
     pub is_gif: bool,
     /// How many points side by side a pixel has, 1 to 16.
     pub side: u8,
+    /// The colour of lit pixels, if the command line says it. The sign has one colour then.
+    pub lit: Option<LitChoice>,
+    /// Where the message comes from.
+    pub messages: Messages<'a>,
     /// The name of the file that is written, if not the output.
     pub file: Option<&'a str>,
 }
@@ -63,20 +81,32 @@ fn shown_of(picture: &ArgMatches<'_>) -> Shown {
     }
 }
 
-/// The picture that is asked for, or why it is none.
+/// The colour of lit pixels, if one is asked for.
+fn lit_of(picture: &ArgMatches<'_>) -> Option<LitChoice> {
+    match picture.get_str("lit") {
+        Some("white") => Some(LitChoice::White),
+        Some("red") => Some(LitChoice::Red),
+        Some("green") => Some(LitChoice::Green),
+        Some(_) => Some(LitChoice::Amber),
+        None => None,
+    }
+}
+
+/// The picture that is asked for of a message, or why it is none.
 pub(crate) fn picture_asked<'a>(
     picture: &ArgMatches<'a>,
+    sign: SignSource<'a>,
+    messages: Messages<'a>,
 ) -> Result<PictureRequest<'a>, &'static str> {
     let file = picture.get_str("output");
-    let is_gif = is_gif(file, picture.get_flag("gif"))?;
-    if picture.get_flag("all") && !is_gif {
-        return Err("--all writes GIF: it goes with --gif, or with a file whose name ends in .gif");
-    }
+    let is_gif = is_gif(file, picture.get_flag("gif") || picture.get_flag("all"))?;
     Ok(PictureRequest {
-        sign: sign_source(picture),
+        sign,
         shown: shown_of(picture),
         is_gif,
         side: octet_of(picture, "scale").unwrap_or(8),
+        lit: lit_of(picture),
+        messages,
         file,
     })
 }

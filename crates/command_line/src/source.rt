@@ -20,14 +20,32 @@ impl SignSource<'_> {
     }
 }
 
+/// What is around the program (own).
+#[derive(Clone, Copy)]
+pub struct Surroundings<'a> {
+    /// The sign file that is taken where the command line names no sign.
+    pub sign: Option<&'a str>,
+    /// Whether a person reads the output, on a terminal with 24-bit colours.
+    pub has_colours: bool,
+}
+
 /// Where the sign comes from.
-pub(crate) fn sign_source<'a>(asked: &ArgMatches<'a>) -> SignSource<'a> {
+pub(crate) fn sign_source<'a>(asked: &ArgMatches<'a>, around: Surroundings<'a>) -> SignSource<'a> {
     if asked.get_flag("sample") {
         return SignSource::Sample;
     }
-    match asked.get_str("sign") {
-        Some(name) => SignSource::File(name),
-        None => SignSource::Input,
+    match (asked.get_str("sign"), around.sign) {
+        (Some(name), _) => SignSource::File(name),
+        (None, Some(name)) => SignSource::File(name),
+        (None, None) => SignSource::Input,
+    }
+}
+
+/// The file that is read in place of the input, if one is named. A hyphen stands for the input.
+pub(crate) fn file_of<'a>(asked: &ArgMatches<'a>) -> Option<&'a str> {
+    match asked.get_str("file") {
+        Some("-") | None => None,
+        Some(name) => Some(name),
     }
 }
 

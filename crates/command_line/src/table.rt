@@ -15,7 +15,14 @@ pub(crate) enum Takes {
     Messages,
     /// The name of a file, which stands alone, without the option's name.
     Place,
+    /// The names of files, which stand alone.
+    Places,
+    /// The name of a shell, which stands alone and must be there.
+    Shell,
 }
+
+/// The shells that complete command lines.
+pub(crate) const SHELLS: [&str; 3] = ["bash", "fish", "zsh"];
 
 /// An option of a command.
 #[derive(Clone, Copy)]
@@ -36,6 +43,8 @@ pub(crate) struct OptionRow {
 pub(crate) struct CommandRow {
     pub(crate) name: &'static str,
     pub(crate) about: &'static str,
+    /// What its help ends with.
+    pub(crate) examples: &'static str,
     pub(crate) options: &'static [&'static [OptionRow]],
 }
 
@@ -80,7 +89,7 @@ const SHOW: [OptionRow; 2] = [
 ];
 
 /// How messages are explained.
-const EXPLAIN: [OptionRow; 8] = [
+const EXPLAIN: [OptionRow; 9] = [
     OptionRow {
         name: "phase",
         takes: Takes::Number(0, 4294967295),
@@ -91,8 +100,8 @@ const EXPLAIN: [OptionRow; 8] = [
     },
     OptionRow {
         name: "format",
-        takes: Takes::Word("WHAT", &["text", "lines", "json"]),
-        help: "Writes words and pictures, or lines as editors read them, or a record in JSON for each message",
+        takes: Takes::Word("WHAT", &["text", "lines", "json", "github"]),
+        help: "Writes words and pictures, or lines as editors or a workflow of GitHub read them, or a record in JSON for each message",
         default: Some("text"),
         conflicts: &[],
         needs: &[],
@@ -130,25 +139,33 @@ const EXPLAIN: [OptionRow; 8] = [
         needs: &[],
     },
     OptionRow {
-        name: "message",
-        takes: Takes::Messages,
-        help: "Explains this message, with --sign or --sample, and reads no input; it can be given more than once",
+        name: "quiet",
+        takes: Takes::Nothing,
+        help: "Says nothing on standard error but what went wrong",
         default: None,
-        conflicts: &["file"],
+        conflicts: &[],
         needs: &[],
     },
     OptionRow {
-        name: "file",
-        takes: Takes::Place,
-        help: "Reads this file in place of the input",
+        name: "fix",
+        takes: Takes::Nothing,
+        help: "Writes the messages alone, and in place of those that the sign refuses what it takes, where that is known",
         default: None,
-        conflicts: &[],
+        conflicts: &["ansi", "refused", "pages", "strict"],
+        needs: &[],
+    },
+    OptionRow {
+        name: "diff",
+        takes: Takes::Nothing,
+        help: "Writes what --fix would change, as a unified diff",
+        default: None,
+        conflicts: &["fix", "ansi", "refused", "pages", "strict"],
         needs: &[],
     },
 ];
 
 /// How a message is drawn.
-const PICTURE: [OptionRow; 8] = [
+const PICTURE: [OptionRow; 9] = [
     OptionRow {
         name: "page",
         takes: Takes::Number(1, 255),
@@ -206,6 +223,14 @@ const PICTURE: [OptionRow; 8] = [
         needs: &[],
     },
     OptionRow {
+        name: "lit",
+        takes: Takes::Word("COLOUR", &["amber", "white", "red", "green"]),
+        help: "On a sign of one colour: draws lit pixels in this colour, and not in amber",
+        default: None,
+        conflicts: &[],
+        needs: &[],
+    },
+    OptionRow {
         name: "output",
         takes: Takes::Text("FILE"),
         help: "Writes this file, in the format of its ending, .gif or .ppm",
@@ -215,11 +240,31 @@ const PICTURE: [OptionRow; 8] = [
     },
 ];
 
+/// Messages that are taken in place of the input.
+const GIVEN: [OptionRow; 1] = [OptionRow {
+    name: "message",
+    takes: Takes::Messages,
+    help: "Takes this message, with --sign or --sample, and reads no input; it can be given more than once",
+    default: None,
+    conflicts: &["file"],
+    needs: &[],
+}];
+
 /// A file that is read in place of the input.
 const PLACE: [OptionRow; 1] = [OptionRow {
     name: "file",
     takes: Takes::Place,
     help: "Reads this file in place of the input",
+    default: None,
+    conflicts: &[],
+    needs: &[],
+}];
+
+/// Files that are read in place of the input.
+const PLACES: [OptionRow; 1] = [OptionRow {
+    name: "file",
+    takes: Takes::Places,
+    help: "Reads these files in place of the input",
     default: None,
     conflicts: &[],
     needs: &[],
@@ -337,46 +382,102 @@ const FONT: [OptionRow; 10] = [
     },
 ];
 
+/// How a font is written, and whether it is a table of NTCIP 1203.
+const FONT_TABLE: [OptionRow; 2] = [
+    OptionRow {
+        name: "spacing",
+        takes: Takes::Number(0, 255),
+        help: "Columns between characters that the table says, 0 to 255, with the same cells",
+        default: None,
+        conflicts: &[],
+        needs: &[],
+    },
+    OptionRow {
+        name: "table",
+        takes: Takes::Nothing,
+        help: "Reads a font table of NTCIP 1203 in CSV in place of a font in BDF, and takes all that it says",
+        default: None,
+        conflicts: &[
+            "number",
+            "version",
+            "char-spacing",
+            "line-spacing",
+            "spacing",
+            "first",
+            "last",
+            "characters",
+            "outside",
+            "crop",
+            "height",
+        ],
+        needs: &[],
+    },
+];
+
+/// For which shell completions are written.
+const SHELL: [OptionRow; 1] = [OptionRow {
+    name: "shell",
+    takes: Takes::Shell,
+    help: "The shell that completes command lines",
+    default: None,
+    conflicts: &[],
+    needs: &[],
+}];
+
 /// The commands of the tool.
-pub(crate) const COMMANDS: [CommandRow; 8] = [
+pub(crate) const COMMANDS: [CommandRow; 9] = [
     CommandRow {
         name: "check",
         about: "Reads a sign file, a line %% and messages, and says of each message whether the sign accepts it",
-        options: &[&SIGN],
+        examples: "Examples:\n  signctl check --sign sign.toml messages.txt\n  signctl check --sample -m 'A[np]I'",
+        options: &[&SIGN, &GIVEN, &PLACE],
     },
     CommandRow {
         name: "show",
         about: "Reads a sign file, a line %% and messages, and shows a page of each message that the sign accepts",
-        options: &[&SIGN, &SHOW],
+        examples: "Examples:\n  signctl show --sign sign.toml --clock 35 -m 'ROAD[np]WORK'",
+        options: &[&SIGN, &SHOW, &GIVEN, &PLACE],
     },
     CommandRow {
         name: "run",
         about: "Reads a sign file, a line %% and a script, and writes the reply to each of its lines",
+        examples: "Examples:\n  signctl run --sign sign.toml < day.script",
         options: &[&SIGN],
     },
     CommandRow {
         name: "serve",
         about: "Serves a sign: answers each line that is asked of it by one reply, for as long as they come",
+        examples: "Examples:\n  signctl serve --sign sign.toml",
         options: &[&SIGN],
     },
     CommandRow {
         name: "explain",
         about: "Reads a sign file, a line %% and messages, and says of each why it is refused, or draws its pages",
-        options: &[&SIGN, &EXPLAIN],
+        examples: "Examples:\n  signctl explain --sign sign.toml -m 'ROAD CLOSED'\n  signctl explain --sign sign.toml --format lines messages.txt\n  signctl explain --sign sign.toml --fix messages.txt > mended.txt",
+        options: &[&SIGN, &EXPLAIN, &GIVEN, &PLACES],
     },
     CommandRow {
         name: "picture",
         about: "Reads a sign file, a line %% and one message, and writes it as a picture in PPM or GIF",
-        options: &[&SIGN, &PICTURE],
+        examples: "Examples:\n  signctl picture --sign sign.toml --all --output message.gif -m 'ROAD[np]WORK'",
+        options: &[&SIGN, &PICTURE, &GIVEN, &PLACE],
     },
     CommandRow {
         name: "sign",
         about: "Reads a sign file, and says what it describes, or what is wrong with it",
+        examples: "Examples:\n  signctl sign sign.toml\n  signctl sign --strict --format lines sign.toml",
         options: &[&SIGN_FILE, &PLACE],
     },
     CommandRow {
         name: "font",
-        about: "Reads a font in BDF, and writes it as the [[font]] table of a sign file",
-        options: &[&FONT, &PLACE],
+        about: "Reads a font in BDF or a font table of NTCIP 1203, and writes it as the [[font]] table of a sign file",
+        examples: "Examples:\n  signctl font --number 2 font.bdf >> sign.toml",
+        options: &[&FONT, &FONT_TABLE, &PLACE],
+    },
+    CommandRow {
+        name: "completions",
+        about: "Writes a script by which a shell completes the words of signctl",
+        examples: "Examples:\n  signctl completions bash > ~/.local/share/bash-completion/completions/signctl",
+        options: &[&SHELL],
     },
 ];

@@ -1,6 +1,5 @@
 //! A font in BDF, written as the table of a sign file.
-ghost use Rattle.std.specs.Prelude.{◌≡◌};
-ghost use Rattle.file_aids.specs.Fonts.{WritesTable, end_of};
+ghost use Rattle.file_aids.specs.Fonts.{WritesTable};
 
 use font_bdf::{BdfFault, BdfProblem, FontSetting, font_tables};
 use std::alloc::Global;
@@ -14,19 +13,9 @@ pub enum FontFault {
     /// The reader or the writer failed, the input is too long, or memory was refused.
     #[error("{0}")]
     Tool(ToolFault),
-    /// The input isn't a font in BDF that a sign takes.
+    /// The input isn't a font in BDF, or a font table of NTCIP 1203, that a sign takes.
     #[error("{0}")]
     Font(BdfFault),
-}
-
-/// How a run ends whose input isn't taken.
-fn end_of(fault: BdfFault) -> FontFault
-    ensures { result ≡ end_of fault }
-{
-    match fault.problem {
-        BdfProblem::Memory => FontFault::Tool(ToolFault::Memory),
-        _ => FontFault::Font(fault),
-    }
 }
 
 /// Reads a font in BDF to the end of the input, and writes it as the `[[font]]` table of a sign file.
@@ -47,7 +36,10 @@ pub fn run_font<R: Read, W: Write>(
     };
     let table = match font_tables(alloc, &octets, setting) {
         Ok(table) => table,
-        Err(fault) => return Err(end_of(fault)),
+        Err(fault) => match fault.problem {
+            BdfProblem::Memory => return Err(FontFault::Tool(ToolFault::Memory)),
+            _ => return Err(FontFault::Font(fault)),
+        },
     };
     match write_whole(writer, &table) {
         Ok(()) => Ok(()),

@@ -27,6 +27,7 @@ setting = record {
   number = 7;
   version = 0;
   char_spacing = Some 1;
+  written_spacing = None;
   line_spacing = 2;
   characters = record { ref_ptr = (0, 0); now = record { first = 70; last = 73 } ∷ [] };
   outside = Refuse;
@@ -53,6 +54,10 @@ a_font_has_its_cell = refl
 a_dark_last_column_is_the_spacing : font_of_bdf (record setting { char_spacing = None }) within_its_cell ≡ font 2 (record { number = 73; width = 2; bits = 64 ∷ [] })
 unfolding bits_value is_bit is_inside is_lit is_row is_set_at is_whole is_within octets_of advance_in after all_cells before cells_in cells_of cells_of_block chosen cropped drawing_in fitting font_of_bdf font_of_lines font_spaced head_of if_apart in_order placed put rows_in begins lines words box_in box_of number_in number_of dark_rows
 a_dark_last_column_is_the_spacing = refl
+
+a_spacing_is_written : font_of_bdf (record setting { written_spacing = Some 3 }) within_its_cell ≡ Some (record { number = 7; version = 0; height = 2; char_spacing = 3; line_spacing = 2; cells = record { number = 73; width = 2; bits = 64 ∷ [] } ∷ [] })
+unfolding bits_value is_bit is_inside is_lit is_row is_set_at is_whole is_within octets_of advance_in after all_cells before cells_in cells_of cells_of_block chosen cropped drawing_in fitting font_of_bdf font_of_lines font_spaced head_of if_apart in_order placed put rows_in begins lines words box_in box_of number_in number_of dark_rows
+a_spacing_is_written = refl
 
 a_dark_row_is_taken_off : font_of_bdf (record setting { crop = true }) within_its_cell ≡ font 1 (record { number = 73; width = 2; bits = 64 ∷ [] })
 unfolding bits_value is_bit is_inside is_lit is_row is_set_at is_whole is_within octets_of advance_in after all_cells before cells_in cells_of cells_of_block chosen cropped drawing_in fitting font_of_bdf font_of_lines font_spaced head_of if_apart in_order placed put rows_in begins lines words box_in box_of number_in number_of dark_rows

@@ -3,6 +3,7 @@ pub mod BitmapLemmas
 pub mod CellLemmas
 pub mod BlockLemmas
 pub mod TableLemmas
+pub mod ListedLemmas
 pub mod FontRows
 pub mod RowLemmas
 pub mod PlacedLemmas

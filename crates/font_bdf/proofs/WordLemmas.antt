@@ -42,7 +42,7 @@ parted_some text at is = one_passes is_blank text 0 at is
 pub parted_none : (text : List ℕ) → position is_blank text ≡ None → slice_split is_blank text ≡ text ∷ []
 parted_none text is = none_passes is_blank text is
 
-prefix_len_texts : (p : List ℕ → Bool) (lines : List (Bor (List ℕ))) → prefix_len p (texts lines) ≡ prefix_len (λ line. p line.now) lines
+pub prefix_len_texts : (p : List ℕ → Bool) (lines : List (Bor (List ℕ))) → prefix_len p (texts lines) ≡ prefix_len (λ line. p line.now) lines
 prefix_len_texts p [] = refl
 prefix_len_texts p (line ∷ lines) = ap (λ n. cond (p line.now) (1 + n) 0) (prefix_len_texts p lines)
 

@@ -18,7 +18,7 @@ is_chosen ranges number = list_any (λ range. has range number) ranges
 unfoldable pub chosen : FontSetting → ℤ → Option ℕ
 chosen setting number = within 1 65535 number >>= λ count. if is_chosen setting.characters.now count then Some count else None
 
--- the columns between two characters, 0 where none are told (NTCIP 1203 v03, object fontCharSpacing)
+-- the columns by which each cell is narrower than its character's advance, 0 where none are told (own)
 abbrev pub spacing_of : FontSetting → ℕ
 spacing_of setting = of setting.char_spacing
   where
@@ -26,6 +26,15 @@ spacing_of setting = of setting.char_spacing
     of None = 0
     of (Some columns) = columns
 
--- the columns of the cell of a character: its advance less the spacing between characters (BDF, DWIDTH)
+-- the columns between two characters that are written: those that are asked for, or else those by which each cell is narrower
+-- (NTCIP 1203 v03, object fontCharSpacing)
+abbrev pub spacing_written : FontSetting → ℕ
+spacing_written setting = of setting.written_spacing
+  where
+    of : Option ℕ → ℕ
+    of None = spacing_of setting
+    of (Some columns) = columns
+
+-- the columns of the cell of a character: its advance less those by which it is narrower (BDF, DWIDTH)
 abbrev pub width_of : FontSetting → ℤ → ℤ
 width_of setting advance = advance -ℤ pos (spacing_of setting)

@@ -9,7 +9,7 @@ use Rattle.font_bdf.specs.declared.setting.Outside.TheVariants.{Refuse}
 use Rattle.font_bdf.specs.Rows.{without_dark_rows}
 use Rattle.font_bdf.specs.Lines.{◌>>=◌, before, begins, lines}
 use Rattle.font_bdf.specs.Numbers.{box_in, number_in, within}
-use Rattle.font_bdf.specs.Chosen.{spacing_of}
+use Rattle.font_bdf.specs.Chosen.{spacing_written}
 use Rattle.font_bdf.specs.Order.{all_cells, in_order}
 
 -- the box of a font without the rows at its top and at its bottom in which no cell has a pixel, where those are to be taken off (own)
@@ -36,7 +36,7 @@ font_with setting height (cell ∷ cells) = Some (record {
   number = setting.number;
   version = setting.version;
   height = height;
-  char_spacing = spacing_of setting;
+  char_spacing = spacing_written setting;
   line_spacing = setting.line_spacing;
   cells = in_order (cell ∷ cells);
 })
@@ -63,7 +63,7 @@ font_of_lines setting lines =
     if begins (codes "STARTFONT") (slice_index_or lines 0 []) then font_of_parts setting (slice_split (begins (codes "STARTCHAR")) lines)
     else None
 
--- the setting with one column between characters, of which each must fit its cell (own)
+-- the setting with cells one column narrower than their advances, each of which must fit (own)
 abbrev pub narrow : FontSetting → FontSetting
 narrow setting = record setting { char_spacing = Some 1; outside = Refuse }
 
@@ -72,7 +72,7 @@ abbrev pub or_else : {X : Type 0} → Option X → Option X → Option X
 or_else None other = other
 or_else (Some x) other = Some x
 
--- the font of the lines before ENDFONT: where no spacing is told, that with one column between characters, or else that without one (own)
+-- the font of the lines before ENDFONT: where it isn't told by how much cells are narrower, that by one column, or else that by none (own)
 unfoldable pub font_spaced : FontSetting → List (List ℕ) → Option FontData
 font_spaced setting lines = of setting.char_spacing
   where

@@ -3,6 +3,7 @@ pub mod Character
 pub mod Chosen
 pub mod Font
 pub mod Lines
+pub mod Listed
 pub mod Numbers
 pub mod Order
 pub mod Parts

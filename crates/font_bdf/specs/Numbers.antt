@@ -26,7 +26,7 @@ within low high (negsuc below) = None
 abbrev pub number_at : ℕ → List ℕ → Option ℤ
 number_at place line = number_of (word_at place line)
 
--- the box of four numbers behind the first word: columns, rows, and how far it is to the right of the origin and above the base
+-- the box of four numbers after the first word: columns, rows, and how far it is to the right of the origin and above the base
 -- line (BDF, FONTBOUNDINGBOX and BBX)
 unfoldable pub box_of : List ℕ → Option PixelBox
 box_of line = do

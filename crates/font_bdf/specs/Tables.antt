@@ -6,6 +6,7 @@ use Rattle.sign_font.specs.Sign.{FontData, SignData}
 use Rattle.sign_file.specs.SignFile.{FileData, file_of_octets}
 use Rattle.font_bdf.specs.declared.setting.FontSetting.{FontSetting}
 use Rattle.font_bdf.specs.Font.{font_of_bdf}
+use Rattle.font_bdf.specs.Listed.{font_listed}
 
 -- the keys of a sign file before its fonts (own)
 unfoldable pub front : List ℕ
@@ -18,12 +19,20 @@ abbrev pub is_spaced : Option ℕ → ℕ → Bool
 is_spaced None spacing = nat_le spacing 1
 is_spaced (Some told) spacing = spacing == told
 
+-- whether a spacing is the one that is asked for, or where none is, by as much as cells may be narrower (own)
+abbrev pub is_told : FontSetting → ℕ → Bool
+is_told setting spacing = of setting.written_spacing
+  where
+    of : Option ℕ → Bool
+    of None = is_spaced setting.char_spacing spacing
+    of (Some columns) = spacing == columns
+
 -- whether there is one font, and it has the numbers of a setting (own)
 abbrev pub is_one_font : FontSetting → List FontData → Bool
 is_one_font setting [] = false
 is_one_font setting (font ∷ []) =
     (font.number == setting.number) && ((font.version == setting.version)
-    && (is_spaced setting.char_spacing font.char_spacing && (font.line_spacing == setting.line_spacing)))
+    && (is_told setting font.char_spacing && (font.line_spacing == setting.line_spacing)))
 is_one_font setting (font ∷ other ∷ fonts) = false
 
 -- the sign whose default font has this number (own)
@@ -53,3 +62,19 @@ pub record IsTableOf (setting : FontSetting) (font : FontData) (text : List ℕ)
 -- a text is the table of the font that octets are in BDF, by a setting (own)
 abbrev pub IsFontTable : FontSetting → List ℕ → List ℕ → Type 0
 IsFontTable setting octets text = (font : FontData) × (font_of_bdf setting octets ≡ Some font) × IsTableOf setting font text
+
+-- whether there is a sign file whose sign has no fault where its default font has this number (own)
+unfoldable pub is_sound : ℕ → Option FileData → Bool
+is_sound number None = false
+is_sound number (Some file) = is_none (first_fault (with_font file.sign number))
+
+-- a text is the table of this font and nothing else: the octets of a sign file that ends with it are read so, signs take the font, and
+-- there is no permanent message (own)
+pub record IsTable (font : FontData) (text : List ℕ) : Type 0 where
+  pub sound : is_sound font.number (file_of_octets (front ++ text)) ≡ true
+  pub same : fonts_read (file_of_octets (front ++ text)) ≡ Some (font ∷ [])
+  pub alone : messages_read (file_of_octets (front ++ text)) ≡ Some 0
+
+-- a text is the table of the font that octets are as a table of NTCIP 1203 (own)
+abbrev pub IsListedTable : List ℕ → List ℕ → Type 0
+IsListedTable octets text = (font : FontData) × (font_listed octets ≡ Some font) × IsTable font text

@@ -68,13 +68,13 @@ pub(crate) fn within(low: u16, high: u16, number: i64) -> Option<u16>
 }
 
 /// The number that the word of a line at a place writes.
-fn number_at(line: &[u8], place: usize) -> Option<i32>
+pub(crate) fn number_at(line: &[u8], place: usize) -> Option<i32>
     ensures { result ≡ number_at place line.now }
 {
     number_of(word_at(line, place))
 }
 
-/// The box of the four numbers behind the first word of a line.
+/// The box of the four numbers after the first word of a line.
 #[tactic(auto, unfolding(crate::specs::Numbers::box_of))]
 fn box_of(line: &[u8]) -> Option<PixelBox>
     ensures { result ≡ box_of line.now }

@@ -99,7 +99,7 @@ fn begin_of(bitmap: &Bitmap<'_>) -> i64
     i64::from(bitmap.left.min(bitmap.pixels.x))
 }
 
-/// The column behind the cell.
+/// The column after the cell.
 fn end_of(bitmap: &Bitmap<'_>, wide: i64) -> i64
     requires low { negsuc 8589934592 ≤ℤ wide }
     requires high { wide ≤ℤ pos 8589934592 }
@@ -110,7 +110,7 @@ fn end_of(bitmap: &Bitmap<'_>, wide: i64) -> i64
     i64::from(bitmap.left) + wide
 }
 
-/// The column behind the box of the character.
+/// The column after the box of the character.
 fn edge_of(bitmap: &Bitmap<'_>) -> i64
     ensures edge { result ≡ bitmap.now.pixels.x +ℤ pos bitmap.now.columns }
     ensures low { negsuc 17179869184 ≤ℤ result }

@@ -13,7 +13,8 @@ use crate::character::parted_at;
 use crate::fault::{BdfFault, BdfProblem, fault_at};
 use crate::numbers::{box_in, number_found, within};
 use crate::rows::{FontBox, padded, without_dark_rows};
-use crate::setting::{FontSetting, Outside, spacing_of};
+use crate::setting::{FontSetting, Outside, spacing_written};
+use crate::start::start_problem;
 use crate::words::{begins, line_with, lines_of, place_with};
 use sign_font::{CellPart, FontPart};
 use std::alloc::{AllocError, Global};
@@ -110,7 +111,7 @@ fn font_with(
         number: setting.number,
         version: setting.version,
         height,
-        char_spacing: spacing_of(setting),
+        char_spacing: spacing_written(setting),
         line_spacing: setting.line_spacing,
         cells,
     })
@@ -169,8 +170,9 @@ fn font_of_lines(
 ) -> Result<FontPart, BdfFault>
     ensures { Gives font_of result (font_of_lines setting.now (texts lines.now)) }
 {
-    if !begins(first_line(lines), b"STARTFONT") {
-        return Err(fault_at(1, 0, BdfProblem::NoStart));
+    let start = first_line(lines);
+    if !begins(start, b"STARTFONT") {
+        return Err(fault_at(1, 0, start_problem(start)));
     }
     let Ok(parts) = parts_of(alloc, lines) else {
         return Err(fault_at(0, 0, BdfProblem::Memory));
@@ -179,7 +181,7 @@ fn font_of_lines(
 }
 
 /// How many lines there are, without an empty one at the end.
-fn last_line(lines: &[&[u8]]) -> usize {
+pub(crate) fn last_line(lines: &[&[u8]]) -> usize {
     match lines {
         [.., last] if last.is_empty() => (lines.len() - 1).max(1),
         _ => lines.len(),
@@ -197,8 +199,8 @@ fn unless_memory(fault: BdfFault) -> Result<(), BdfFault>
     }
 }
 
-/// The font of the lines before ENDFONT: where no spacing is told, that with one column between characters, of which each must fit its
-/// cell, or else that without one.
+/// The font of the lines before ENDFONT: where it isn't told by how much cells are narrower, that by one column, of which each character
+/// must fit its cell, or else that by none.
 #[tactic(auto, unfolding(crate::specs::Font::font_spaced))]
 fn font_spaced(
     alloc: Global,

@@ -26,7 +26,7 @@ pub(crate) struct FontBox {
 }
 
 /// Whether the bit at a place among the bits of these octets is set.
-fn is_set(octets: &[u8], place: usize) -> bool
+pub(crate) fn is_set(octets: &[u8], place: usize) -> bool
     ensures { result ≡ is_set octets.now place }
 {
     let octet = match octets.get(place / 8) {
@@ -82,7 +82,7 @@ fn row_from(height: u8, row: u8, below: bool) -> u8
 
 /// How many rows of so many have no pixel, before one that has: from the top, or from the bottom.
 #[tactic(auto, unfolding(crate::specs::Rows::dark_rows))]
-fn dark_rows(cells: &[CellPart], height: u8, below: bool) -> u8
+pub(crate) fn dark_rows(cells: &[CellPart], height: u8, below: bool) -> u8
     ensures { result ≡ dark_rows (map cell_of cells.now) height below }
 {
     for row in 0..height {

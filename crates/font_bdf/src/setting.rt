@@ -1,7 +1,7 @@
 //! What a font in BDF doesn't say, and what is taken of it.
 
 ghost use Rattle.std.specs.Prelude.{◌≡◌};
-ghost use Rattle.font_bdf.specs.Chosen.{chosen, has, is_chosen, spacing_of};
+ghost use Rattle.font_bdf.specs.Chosen.{chosen, has, is_chosen, spacing_of, spacing_written};
 
 use crate::numbers::within;
 
@@ -38,6 +38,9 @@ pub struct FontSetting<'a> {
     /// Columns between two characters, in pixels: 0 to 255. Each cell is narrower by as much than its character's advance. `None`
     /// is 1 if each character fits its cell so, and 0 if one doesn't.
     pub char_spacing: Option<u8>,
+    /// The columns between two characters that are written in place of these, 0 to 255. It changes no cell. `None` writes those by
+    /// which each cell is narrower.
+    pub written_spacing: Option<u8>,
     /// Rows between two lines, in pixels: 0 to 255.
     pub line_spacing: u8,
     /// Which characters are taken, of those from 1 to 65,535.
@@ -78,9 +81,19 @@ pub(crate) fn chosen(setting: &FontSetting<'_>, number: i64) -> Option<u16>
     }
 }
 
-/// Columns between two characters.
+/// By how many columns each cell is narrower than its character's advance.
 pub(crate) fn spacing_of(setting: &FontSetting<'_>) -> u8
     ensures { result ≡ spacing_of setting.now }
 {
     setting.char_spacing.unwrap_or(0)
+}
+
+/// Columns between two characters that are written.
+pub(crate) fn spacing_written(setting: &FontSetting<'_>) -> u8
+    ensures { result ≡ spacing_written setting.now }
+{
+    match setting.written_spacing {
+        Some(columns) => columns,
+        None => spacing_of(setting),
+    }
 }

@@ -78,7 +78,7 @@ pub(crate) fn line_with(lines: &[&[u8]], word: &[u8]) -> Option<usize>
     lines.iter().position(|line| begins(line, word))
 }
 
-/// Which of these lines is the first that begins with a word, counted from 0; where none does, the one behind the last.
+/// Which of these lines is the first that begins with a word, counted from 0; where none does, the one after the last.
 pub(crate) fn place_with(lines: &[&[u8]], word: &[u8]) -> usize {
     match line_with(lines, word) {
         Some(place) => place,

@@ -5,13 +5,13 @@ ghost use Rattle.sign_font.specs.Limits.{first_fault};
 ghost use Rattle.sign_font.specs.Sign.{font_of, sign_of};
 ghost use Rattle.font_bdf.specs.Font.{font_of_bdf};
 ghost use Rattle.font_bdf.specs.Reading.{IsLater};
-ghost use Rattle.font_bdf.specs.Tables.{IsFontTable, IsTableOf, front, is_one_font, is_spaced, with_font};
+ghost use Rattle.font_bdf.specs.Tables.{IsFontTable, IsTable, IsTableOf, front, is_one_font, is_spaced, is_told, with_font};
 
 use crate::fault::{BdfFault, BdfProblem};
 use crate::read::read_font;
 use crate::same::is_same_font;
-use crate::setting::FontSetting;
-use crate::told::{not_fitting, word_of};
+use crate::setting::{FontSetting, Outside};
+use crate::told::{not_fitting, unused_rows, word_of};
 use itoa::Buffer;
 use sign_file::{FileFault, read_sign_file};
 use sign_font::{CellPart, Defaults, FontPart, Sign, SignFault, SignParts};
@@ -50,7 +50,7 @@ fn push_parts(text: &mut Vec<u8>, marked: &[u8], parts: &[Part<'_>]) -> Result<(
     Ok(())
 }
 
-/// Appends the line of a cell, with the character behind it where ASCII has a sign for it.
+/// Appends the line of a cell, with the character after it where ASCII has a sign for it.
 fn push_cell(alloc: Global, text: &mut Vec<u8>, cell: &CellPart) -> Result<(), AllocError> {
     let bits = hex::encode(alloc, cell.bits.as_slice())?;
     let parts = [
@@ -69,6 +69,7 @@ fn push_cell(alloc: Global, text: &mut Vec<u8>, cell: &CellPart) -> Result<(), A
 fn spacing_source(font: &FontPart, setting: &FontSetting<'_>) -> &'static [u8] {
     match setting.char_spacing {
         Some(_) => b"",
+        None if setting.written_spacing.is_some() => b"",
         None if font.char_spacing == 0 => b" # not every cell had a dark last column",
         None => b" # each cell had a dark last column",
     }
@@ -89,6 +90,25 @@ fn push_told(
         push_parts(text, b" @", &[Part::Number(*number)])?;
     }
     text.extend_from_slice(b"\n")
+}
+
+/// Appends a line that tells which rows no character uses, if there are some.
+fn push_unused(
+    text: &mut Vec<u8>,
+    setting: &FontSetting<'_>,
+    font: &FontPart,
+) -> Result<(), AllocError> {
+    let (above, below) = unused_rows(setting, font);
+    if above == 0 && below == 0 {
+        return Ok(());
+    }
+    let parts = [
+        Part::Number(u16::from(above)),
+        Part::Number(u16::from(below)),
+    ];
+    let told =
+        b"# rows in which no character has a pixel: @ at the top, @ at the bottom; --crop takes them off\n";
+    push_parts(text, told, &parts)
 }
 
 /// Appends the table of a font.
@@ -115,7 +135,7 @@ fn push_font(
     text.extend_from_slice(b"]\n")
 }
 
-/// The table of a font, and before it what is told of the characters that didn't fit.
+/// The table of a font, and before it what is told of the characters that didn't fit, and of rows that none uses.
 fn text_of(
     alloc: Global,
     octets: &[u8],
@@ -125,6 +145,7 @@ fn text_of(
     let mut text = Vec::new(alloc);
     let numbers = not_fitting(alloc, octets, setting, font)?;
     push_told(&mut text, setting, &numbers)?;
+    push_unused(&mut text, setting, font)?;
     push_font(alloc, &mut text, font, setting)?;
     Ok(text)
 }
@@ -139,6 +160,16 @@ fn is_spaced(told: Option<u8>, spacing: u8) -> bool
     }
 }
 
+/// Whether this spacing is the one that is to be written.
+fn is_told(setting: &FontSetting<'_>, spacing: u8) -> bool
+    ensures { result ≡ is_told setting.now spacing }
+{
+    match setting.written_spacing {
+        None => is_spaced(setting.char_spacing, spacing),
+        Some(columns) => spacing == columns,
+    }
+}
+
 /// Whether these fonts are one, by a setting.
 fn is_one_font(fonts: &[FontPart], setting: &FontSetting<'_>) -> bool
     ensures { result ≡ is_one_font setting.now (map font_of fonts.now) }
@@ -147,7 +178,7 @@ fn is_one_font(fonts: &[FontPart], setting: &FontSetting<'_>) -> bool
         [font] => {
             font.number == setting.number
                 && font.version == setting.version
-                && is_spaced(setting.char_spacing, font.char_spacing)
+                && is_told(setting, font.char_spacing)
                 && font.line_spacing == setting.line_spacing
         }
         _ => false,
@@ -242,9 +273,30 @@ fn table_of(
     }
 }
 
+/// Writes a font as the `[[font]]` table of a sign file, which was read back after the other keys of a sign file.
+pub(crate) fn table_of_font(alloc: Global, font: &FontPart) -> Result<Vec<u8>, BdfProblem>
+    ensures { IfOk result (λ table. IsTable (font_of font.now) table.items) }
+{
+    let setting = FontSetting {
+        number: font.number,
+        version: font.version,
+        char_spacing: Some(font.char_spacing),
+        written_spacing: None,
+        line_spacing: font.line_spacing,
+        characters: &[],
+        outside: Outside::Refuse,
+        crop: false,
+        height: Some(font.height),
+    };
+    match table_of(alloc, &[], font, &setting) {
+        Ok(table) => Ok(table),
+        Err(problem) => Err(problem),
+    }
+}
+
 /// Reads a font in BDF, as [`read_font`] does, and writes it as the `[[font]]` table of a sign file.
 ///
-/// What is written was read back behind the other keys of a sign file: it has this one font and no permanent message, and a sign
+/// What is written was read back after the other keys of a sign file: it has this one font and no permanent message, and a sign
 /// takes it.
 ///
 /// The error has a line that is wrong, and what is wrong there. It is `NotTaken` only for the number 0. If it is neither

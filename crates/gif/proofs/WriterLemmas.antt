@@ -5,7 +5,7 @@ use Rattle.std.specs.Option.{unwrap_or}
 use Rattle.gif.specs.Gif.{Picture, IsPicture, ArePictures, IsBegun, head}
 use Rattle.gif.specs.Reader.{Film, film_of, film_so_far}
 use Rattle.gif.specs.Size.{most_octets, most_of_picture}
-use Rattle.gif.specs.kept.Writing.{IsFilm}
+use Rattle.gif.specs.internal.Writing.{IsFilm}
 use Rattle.gif.proofs.FilmLemmas.{found_film}
 
 are_more : (width height : ℕ) (pictures : List Picture) (middle : List ℕ) (delay : ℕ) (pixels piece : List ℕ) → ArePictures width height pictures middle → IsPicture width height delay pixels piece

@@ -2,4 +2,4 @@ pub mod Lzw
 pub mod Gif
 pub mod Reader
 pub mod Size
-pub mod kept
+pub mod internal

@@ -19,7 +19,7 @@ pub struct GifWriter {
 impl Model for GifWriter {
     ghost use Rattle.std.specs.Prelude.{◌≤◌, length};
     ghost use Rattle.gif.specs.Reader.{Film, film_so_far};
-    ghost use Rattle.gif.specs.kept.Writing.{IsFilm};
+    ghost use Rattle.gif.specs.internal.Writing.{IsFilm};
     ghost use Rattle.gif.specs.Size.{most_octets};
 
     ghost Value = { Film };

@@ -1,10 +1,10 @@
 -- A buffer that is written from its front on.
-use Rattle.std.proofs.Common.{◌≡◌, ℕ, ◌+◌, List, ◌++◌, drop, length, sym, ap, ◌∙◌, arith}
+use Rattle.std.proofs.Common.{◌≡◌, ℕ, ◌+◌, List, ◌++◌, drop, length, ap, ◌∙◌, arith}
 use Rattle.std.specs.Prelude.{take}
 use Rattle.std.proofs.Math.Seq.{take-append_seam, drop-append-add}
 use Rattle.std.proofs.lemmas.List.{drop-drop, length-append}
 
--- octets that are written behind those in front stand behind them
+-- octets that are written after those in front stand after them
 pub one_piece_more : (front line old now : List ℕ) → now ≡ front ++ drop (length front) old
     → take (length front) now ++ line ++ drop (length front + length line) now ≡ (front ++ line) ++ drop (length (front ++ line)) old
 one_piece_more front line old now is =

@@ -8,7 +8,7 @@ use Rattle.sign_font.specs.Sign.{SignData}
 use Rattle.latsefur_c.specs.declared.check.LatsefurVerdict.{LatsefurVerdict}
 use Rattle.latsefur_c.specs.Judged.{AreJudged, IsJudged}
 
--- the first texts are judged by the verdicts at their places, and the verdicts behind those are the old ones
+-- the first texts are judged by the verdicts at their places, and the verdicts after those are the old ones
 pub record AreJudgedBelow (sign : SignData) (texts : List (Bor (List ℕ))) (old now : List LatsefurVerdict) (count : ℕ) : Type 0 where
   pub same : length now ≡ length old
   pub each : (place : ℕ) (text : List ℕ) (verdict : LatsefurVerdict) → place < count → slice_get (map (λ (t : Bor (List ℕ)). t.now) texts) place ≡ Some text

@@ -1,4 +1,4 @@
--- The octets of a plane, one row behind the other.
+-- The octets of a plane, one row after the other.
 use Rattle.std.proofs.Common.{◌≡◌, ℕ, suc, ◌+◌, ◌*◌, ◌/◌, ◌%◌, ◌<◌, ◌≤◌, Bool, false, List, [], ◌++◌, length, refl, sym, ap, ◌∙◌, arith, inl, inr}
 use Rattle.std.proofs.Math.Nat.{mul-le-mul_right}
 use Rattle.std.proofs.lemmas.Bool.{cases_lt}
@@ -11,7 +11,7 @@ in_front : (front line : List ℕ) (place : ℕ) → place < 8 * length front �
 unfolding is_bit_set
 in_front front line place below = rw (get_or_append_left front line 0 (place / 8) (omega arith)) refl
 
--- a bit of the octets behind them
+-- a bit of the octets after them
 behind : (front line : List ℕ) (place : ℕ) → is_bit_set (front ++ line) (8 * length front + place) ≡ is_bit_set line place
 unfolding is_bit_set
 behind front line place =
@@ -40,7 +40,7 @@ in_last width row front line x y count last =
     let place : bit_place width x y ≡ 8 * length front + x = rw last (omega (arith, count)) in
     ap (is_bit_set (front ++ line)) place ∙ behind front line x
 
--- one more row comes behind those above it
+-- one more row comes after those above it
 pub one_row_more : (width row : ℕ) (lit : ℕ → ℕ → Bool) (front line : List ℕ) → HoldsPlane width row lit front → length line ≡ row_octets width
     → ((x : ℕ) → x < width → is_bit_set line x ≡ lit x row) → ((x : ℕ) → width ≤ x → is_bit_set line x ≡ false) → HoldsPlane width (row + 1) lit (front ++ line)
 one_row_more width row lit front line holds len pixels spare = record {

@@ -66,7 +66,7 @@ IsPlane text time colour sign octets = HoldsPlane sign.width sign.height (pixel_
 abbrev pub AreColours : List ℕ → When → SignData → List ℕ → Type 0
 AreColours text time sign octets = octets ≡ colours sign text (seen sign text time)
 
--- a picture stands at the front of a buffer, and what is behind it is as it was; or nothing is written, because
+-- a picture stands at the front of a buffer, and what is after it is as it was; or nothing is written, because
 -- there is nothing to see, or there was no memory (2), or the buffer is smaller than the picture (5) (own)
 abbrev pub Draws : List ℕ → List ℕ → When → (SignData → List ℕ → Type 0) → List ℕ → List ℕ → ℕ → Type 0
 Draws file text time Is old new outcome =

@@ -1,7 +1,6 @@
 -- Which default a number names.
-use Rattle.std.specs.Prelude.{◌≡◌, ◌⊎◌, ℕ, ◌==◌, if◌then◌else◌, Option, Some, None}
+use Rattle.std.specs.Prelude.{ℕ, ◌==◌, if◌then◌else◌, Option, Some, None}
 use Rattle.sign_control.specs.State.{ControllerData}
-use Rattle.sign_control.specs.declared.command.Command.{Command}
 use Rattle.sign_control.specs.declared.command.Command.TheVariants.{SetDefault}
 use Rattle.sign_control.specs.declared.command.DefaultField.{DefaultField}
 use Rattle.sign_control.specs.declared.command.DefaultField.TheVariants as field

@@ -13,7 +13,7 @@ use Rattle.latsefur_c.specs.declared.shown.LatsefurShown.{LatsefurShown}
 use Rattle.latsefur_c.specs.Drawn.{HoldsPlane, IsShownAs}
 use Rattle.latsefur_c.specs.Held.{IsIn}
 
--- a picture stands at the front of a buffer, and what is behind it is as it was (own)
+-- a picture stands at the front of a buffer, and what is after it is as it was (own)
 abbrev pub StandsInFront : (List ℕ → Type 0) → List ℕ → List ℕ → Type 0
 StandsInFront Is old new = (picture : List ℕ) × Is picture × (new ≡ picture ++ drop (length picture) old)
 

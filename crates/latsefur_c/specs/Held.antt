@@ -2,6 +2,9 @@
 use Rattle.std.specs.Prelude.{◌≡◌, ◌≢◌, ◌⊎◌, ℕ, List, Option, Some, None, IsSomeAnd, length, true, false}
 use Rattle.message_store.specs.Limits.{can_be_made, made}
 use Rattle.sign_file.specs.SignFile.{FileData, file_of_octets}
+use Rattle.step_count.specs.Count.{raised}
+use Rattle.sign_control.specs.Counts.{text_judged, text_steps}
+use Rattle.sign_control.specs.Revision.{revised}
 use Rattle.sign_control.specs.State.{ControllerData, started}
 use Rattle.sign_control.specs.Step.{step}
 use Rattle.sign_control.specs.declared.command.Command.{Command}
@@ -16,6 +19,7 @@ SetsUp file controller =
     (described : FileData) × (file_of_octets file ≡ Some described) × (sign_of_file file ≡ Some controller.sign)
     × (can_be_made described.limits described.permanents ≡ true)
     × (controller.state ≡ started controller.sign.defaults (made described.limits described.permanents)) × (controller.steps ≡ 0)
+    × (controller.revision ≡ 0)
 
 -- there is no controller: there is no sign, or the message table is outside its limits (8) (own)
 abbrev pub LacksController : List ℕ → ℕ → Type 0
@@ -28,13 +32,17 @@ LacksController file outcome =
 abbrev pub IsMade : List ℕ → Option ControllerData → Option ControllerData → ℕ → Type 0
 IsMade file old new outcome = ((outcome ≡ 0) × IsSomeAnd new (SetsUp file)) ⊎ (LacksController file outcome × (new ≡ old))
 
--- the state and the sign of a controller are these (own)
+-- the state, the sign and the revision of a controller are these (own)
 abbrev pub IsIn : ControllerData → ControllerData → Type 0
-IsIn old new = (new.state ≡ old.state) × (new.sign ≡ old.sign)
+IsIn old new = (new.state ≡ old.state) × (new.sign ≡ old.sign) × (new.revision ≡ old.revision)
 
--- a controller after a command: its sign is the same, and its state is that of the step (own)
+-- a controller after a command: its sign and its plane are the same, its state is that of the step, its revision is that after its reply,
+-- and its count has risen by the steps of judging the command's text (own)
 abbrev pub IsAfter : Command → ControllerData → ControllerData → Type 0
-IsAfter command old new = (new.state ≡ (step old.sign old.state command).state) × (new.sign ≡ old.sign)
+IsAfter command old new =
+    (new.state ≡ (step old.sign old.state command).state) × (new.sign ≡ old.sign) × (new.plane ≡ old.plane)
+    × (new.revision ≡ revised old.revision (step old.sign old.state command).reply)
+    × (new.steps ≡ raised old.steps (text_steps (text_judged old.sign old.state command)))
 
 -- a command makes its step; without a controller nothing is done (own)
 abbrev pub Applies : Option ControllerData → Command → Option ControllerData → Option Reply → Type 0

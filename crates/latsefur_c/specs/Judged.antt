@@ -36,7 +36,7 @@ Judges file text old new outcome =
     (HasNoSign file outcome × (new ≡ old))
     ⊎ ((sign : SignData) × (sign_of_file file ≡ Some sign) × IsJudged sign text new × (outcome ≡ new.outcome))
 
--- each text is judged by the verdict at its place, and the verdicts behind those stay as they were (own)
+-- each text is judged by the verdict at its place, and the verdicts after those stay as they were (own)
 pub record AreJudged (sign : SignData) (texts : List (List ℕ)) (old new : List LatsefurVerdict) : Type 0 where
   pub count : length new ≡ length old
   pub room : length texts ≤ length new

@@ -10,3 +10,6 @@ pub mod Field
 pub mod Version
 pub mod HeldSign
 pub mod HeldPage
+pub mod Saved
+pub mod Recorded
+pub mod Sentence

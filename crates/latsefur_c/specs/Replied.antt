@@ -1,9 +1,9 @@
 -- A controller's reply, in numbers.
 use Rattle.std.specs.Prelude.{◌≡◌, ℕ}
-use Rattle.message_store.specs.Codes.{fault_code}
+use Rattle.message_store.specs.Fault.{fault_code}
 use Rattle.sign_control.specs.declared.command.Reply.{Reply}
 use Rattle.sign_control.specs.declared.command.Reply.TheVariants as reply
-use Rattle.sign_font.specs.Defaults.{default_code}
+use Rattle.sign_font.specs.Fault.{default_code}
 use Rattle.latsefur_c.specs.declared.reply.LatsefurReply.{LatsefurReply}
 
 -- the reply of a kind that has no numbers but a code (own)

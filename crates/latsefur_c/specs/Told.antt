@@ -1,11 +1,11 @@
 -- What a controller tells of itself, in numbers.
 use Rattle.std.specs.Prelude.{◌≡◌, ◌⊎◌, ◌<◌, ℕ, List, Option, Some, None, IsSomeAnd, Result, Ok, Err, ◌++◌, drop, length}
-use Rattle.message_store.specs.Codes.{fault_code}
+use Rattle.message_store.specs.Fault.{fault_code}
 use Rattle.message_store.specs.declared.fault.StoreFault.{StoreFault}
 use Rattle.message_store.specs.declared.message.MsgRef.{MsgRef}
 use Rattle.message_store.specs.Row.{RowData}
 use Rattle.sign_control.specs.Change.{next_change}
-use Rattle.sign_control.specs.Report.{report_of, row_shown}
+use Rattle.sign_control.specs.Report.{row_shown}
 use Rattle.sign_control.specs.declared.report.Report.{Report}
 use Rattle.sign_control.specs.State.{ControllerData}
 use Rattle.sign_font.specs.declared.parts.Defaults.{Defaults}
@@ -72,7 +72,7 @@ row_numbers row =
 abbrev pub no_row : StoreFault → LatsefurRow
 no_row fault = record { multi = 0; owner = 0; crc = 0; code = fault_code fault; status = 0; priority = 0; beacon = 0; pixel = 0 }
 
--- a list stands at the front of a buffer, and what is behind it is as it was (own)
+-- a list stands at the front of a buffer, and what is after it is as it was (own)
 abbrev pub in_front : List ℕ → List ℕ → List ℕ
 in_front octets old = octets ++ drop (length octets) old
 

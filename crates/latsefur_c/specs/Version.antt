@@ -3,4 +3,4 @@ use Rattle.std.specs.Prelude.{ℕ}
 
 -- it is the number of the header that stands beside it (own)
 abbrev pub version : ℕ
-version = 2
+version = 3

@@ -38,3 +38,12 @@ pub(crate) const NO_DEFAULT: u8 = 11;
 
 /// The sign has no font of this number.
 pub(crate) const NO_FONT: u8 = 12;
+
+/// A number is outside its range.
+pub(crate) const BAD_VALUE: u8 = 13;
+
+/// The film would have more than 64,000,000 octets.
+pub(crate) const LARGE_FILM: u8 = 14;
+
+/// The text begins anew after more than ten minutes.
+pub(crate) const LONG_FILM: u8 = 15;

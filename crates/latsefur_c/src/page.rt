@@ -30,6 +30,7 @@ pub(crate) fn draw_page(
     ensures drawn { DrawsPage (sign_in_force controller.old) text.now page phase colour buffer.old buffer.new result }
     ensures state { controller.new.state ≡ controller.old.state }
     ensures sign { controller.new.sign ≡ controller.old.sign }
+    ensures revision { controller.new.revision ≡ controller.old.revision }
 {
     match controller.draw_page(text, page, phase, colour) {
         Ok(()) => write_plane(controller.plane(), buffer),

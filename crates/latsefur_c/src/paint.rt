@@ -18,6 +18,7 @@ pub(crate) fn paint_frame(
     ensures painted { PaintsFrame controller.old shown.old shown.new buffer.old buffer.new result }
     ensures state { controller.new.state ≡ controller.old.state }
     ensures sign { controller.new.sign ≡ controller.old.sign }
+    ensures revision { controller.new.revision ≡ controller.old.revision }
 {
     match controller.colours(buffer) {
         Some(seen) => {
@@ -39,6 +40,7 @@ pub(crate) fn paint_page(
     ensures painted { PaintsPage (sign_in_force controller.old) text.now page phase buffer.old buffer.new result }
     ensures state { controller.new.state ≡ controller.old.state }
     ensures sign { controller.new.sign ≡ controller.old.sign }
+    ensures revision { controller.new.revision ≡ controller.old.revision }
 {
     match controller.write_page(text, page, phase, buffer) {
         Ok(true) => DONE,

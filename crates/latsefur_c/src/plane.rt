@@ -33,6 +33,7 @@ pub(crate) fn draw_frame(
     ensures drawn { DrawsFrame controller.old colour shown.old shown.new buffer.old buffer.new result }
     ensures state { controller.new.state ≡ controller.old.state }
     ensures sign { controller.new.sign ≡ controller.old.sign }
+    ensures revision { controller.new.revision ≡ controller.old.revision }
 {
     let frame = controller.frame(colour);
     let outcome = write_plane(frame.plane, buffer);

@@ -7,5 +7,5 @@ ghost use Rattle.latsefur_c.specs.Version.{version};
 pub extern "C" fn latsefur_version() -> u32
     ensures version { result ≡ version }
 {
-    2
+    3
 }

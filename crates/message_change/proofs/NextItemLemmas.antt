@@ -14,7 +14,7 @@ use Rattle.multi_tag.specs.declared.tag.TagFault.{TagFault}
 use Rattle.multi_tag.specs.declared.tag.TagFault.TheVariants.{Unsupported, Value}
 use Rattle.multi_tag.specs.declared.tag.Tag.TheVariants.{NewPage, NewLine, LineJust, PageJust, Font, CharSpacing, CharSpacingEnd, PageTime, Flash, FlashEnd, Fore, Back, Rect, HexChar}
 use Rattle.multi_meaning.specs.Meaning.{Does, Faulty, Meaning, is_new_page, meaning, meaning_of_tag, meanings}
-use Rattle.message_change.specs.kept.Walk.{IsSaid, is_page_said}
+use Rattle.message_change.specs.internal.Walk.{IsSaid, is_page_said}
 
 -- what is left behind an item is read as if it stood alone
 reading_next : (octets rest : List ℕ) (item : Item) → BeginsWith octets item rest → (reading octets).items ≡ item ∷ (reading rest).items
@@ -49,7 +49,7 @@ pub faulty : (item : Meaning) (fault : TagFault) → item ≡ meaning_of_tag (Er
 faulty item Unsupported is = (3, is)
 faulty item Value is = (4, is)
 
--- a page begins behind what says so alone
+-- a page begins after what says so alone
 pub page_said : (item : Meaning) (said : Option Tag) → IsSaid item said → is_new_page item ≡ is_page_said said
 page_said item None (code, is) = ap is_new_page is
 page_said item (Some NewPage) is = ap is_new_page is

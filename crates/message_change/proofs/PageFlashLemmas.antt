@@ -49,7 +49,7 @@ none_made : {X Y : Type 0} (f : List X → X → Option Y) (xs : List X) → ((b
 none_made f [] none = refl
 none_made f (x ∷ xs) none = ap (λ o. cons_option o (some_after (λ before. f (x ∷ before)) xs)) (none [] x) ∙ none_made (λ before. f (x ∷ before)) xs (λ before. none (x ∷ before))
 
--- behind a new page there are no more of the page before
+-- after a new page there are no more of the page before
 pub flashes_ended : (sign : SignData) (before rest : List Meaning) → page_flashes sign (before ++ Does NewPage ∷ rest) (standing sign before).page ≡ page_flashes sign before (standing sign before).page
 unfolding page_flashes
 flashes_ended sign before rest =
@@ -68,7 +68,7 @@ flashes_ended sign before rest =
 left_push : (phase : ℕ) (flashes : List (Option FlashTimes)) (flash : Option FlashTimes) → flashes_left phase (flashes ++ flash ∷ []) ≡ sooner (flashes_left phase flashes) (flash_left phase flash)
 left_push phase flashes flash = fold-append (λ soonest f. sooner soonest (flash_left phase f)) None flashes (flash ∷ [])
 
--- the soonest change behind one more item of a page
+-- the soonest change after one more item of a page
 pub soonest_push : (sign : SignData) (before : List Meaning) (item : Meaning) (phase : ℕ) → let page = (standing sign before).page in
     flashes_left phase (page_flashes sign (before ++ item ∷ []) page)
     ≡ cond (is_shown item) (sooner (flashes_left phase (page_flashes sign before page)) (flash_left phase (standing sign before).flash)) (flashes_left phase (page_flashes sign before page))

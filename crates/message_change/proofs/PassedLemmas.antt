@@ -3,9 +3,9 @@ use Rattle.std.proofs.Common.{◌≡◌, ℕ, ◌+◌, ◌-◌, ◌*◌, ◌^◌
 use Rattle.multi_token.specs.Counted.{Counted, RisesBetween}
 use Rattle.multi_token.proofs.StepLemmas.{rises_more, rises_then}
 use Rattle.message_change.specs.declared.said.Said.{Said}
-use Rattle.message_change.specs.kept.Walk.{IsNext}
+use Rattle.message_change.specs.internal.Walk.{IsNext}
 
--- the place behind the next item is a number of 64 bits
+-- the place after the next item is a number of 64 bits
 pub has_room : (octets : List ℕ) (at : ℕ) (said : Said) → IsNext octets at said → at + said.len < 2 ^ 64
 has_room octets at said next = let within = next.within in let room = next.room in omega (arith, within, room)
 

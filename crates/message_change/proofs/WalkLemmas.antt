@@ -1,4 +1,4 @@
--- On the way through a text: what is in force behind an item, and the change that was found.
+-- On the way through a text: what is in force after an item, and the change that was found.
 use Rattle.std.proofs.Common.{◌≡◌, ℕ, ◌+◌, ◌-◌, ◌<◌, ◌≤◌, true, false, ◌==◌, ◌||◌, ◌%◌, ◌^◌, nat_lt, cond, List, [], ◌∷◌, ◌++◌, drop, length, Option, Some, None, refl, sym, ap, ◌∙◌, subst, inl, inr, arith, append-nil, append_assoc}
 use Rattle.std.proofs.Math.Nat.{mod-lt}
 use Rattle.std.proofs.lemmas.Bool.{cases_lt, eq-eqb, le-ltb, lt-ltb, ne_eqb, or_left, or_right}
@@ -9,7 +9,7 @@ use Rattle.sign_font.specs.declared.parts.Defaults.{Defaults}
 use Rattle.sign_font.specs.Sign.{SignData}
 use Rattle.multi_meaning.specs.Address.{Standing, standing}
 use Rattle.multi_meaning.specs.Meaning.{Does, Meaning, is_new_page, meanings}
-use Rattle.multi_meaning.specs.kept.Present.{standing_behind}
+use Rattle.multi_meaning.specs.internal.Present.{standing_behind}
 use Rattle.multi_meaning.specs.Times.{Times, cycle, ended_times, page_times, times_at}
 use Rattle.multi_meaning.specs.Verdict.{Accepted, IsCycle, IsVerdict}
 use Rattle.multi_meaning.proofs.StandingLemmas.{standing_push}
@@ -18,14 +18,14 @@ use Rattle.multi_meaning.proofs.VerdictLemmas.{accepted_is, cycle_is}
 use Rattle.multi_meaning.proofs.WordLemmas.{some_after_push}
 use Rattle.message_change.specs.Change.{change_at, change_of, change_within, flash_left, flash_on, flashes_left, is_shown, page_flashes, part_left, sooner, times_left}
 use Rattle.message_change.specs.declared.walk.Walk.{Walk}
-use Rattle.message_change.specs.kept.Walk.{IsIn, page_left, times_of}
+use Rattle.message_change.specs.internal.Walk.{IsIn, page_left, times_of}
 use Rattle.message_change.proofs.TurnLemmas.{IsTurnOf, left_of, off_left, off_shown, on_left, on_shown}
 use Rattle.message_change.proofs.NextItemLemmas.{new_page_is}
 use Rattle.message_change.proofs.PageFlashLemmas.{apart, flashes_ended, flashes_push, no_flashes, none_later, page_is, page_push, soonest_push}
 
 -- THE WAY
 
--- the items before this offset are passed, and this is kept of what is in force behind them
+-- the items before this offset are passed, and this is kept of what is in force after them
 pub record IsBehind (sign : SignData) (octets : List ℕ) (at : ℕ) (before : List Meaning) (walk : Walk) : Type 0 where
   pub whole : meanings octets ≡ before ++ meanings (drop at octets)
   pub in_force : IsIn (standing sign before) walk
@@ -74,7 +74,7 @@ turn_started sign octets time walk is = record {
   soonest = ap (λ (w : Walk). w.soonest) is ∙ sym (ap (flashes_left (time - walk.begin)) (no_flashes sign (standing sign []).page));
 }
 
--- behind one more item
+-- after one more item
 module _ (sign : SignData) (octets : List ℕ) (at next : ℕ) (before : List Meaning) (item : Meaning) (walk new : Walk) (b : IsBehind sign octets at before walk)
     (read : meanings (drop at octets) ≡ item ∷ meanings (drop next octets)) where
   whole_more : meanings octets ≡ (before ++ item ∷ []) ++ meanings (drop next octets)
@@ -133,7 +133,7 @@ turn_more sign octets at next time item walk new t read same in_force soonest be
       ∙ ap (λ n. flashes_left (time - new.begin) (page_flashes sign (t.before ++ item ∷ []) n)) (sym (same_page sign t.before item same));
 }
 
--- behind a new page the next begins
+-- after a new page the next begins
 pub turn_next : (sign : SignData) (octets : List ℕ) (at next time : ℕ) (item : Meaning) (walk new : Walk) (t : IsInTurn sign octets at time walk)
     → meanings (drop at octets) ≡ item ∷ meanings (drop next octets) → is_new_page item ≡ true
     → new ≡ record { begin = walk.begin + (walk.on + walk.off); on = walk.on; off = walk.off; flash = walk.flash; soonest = None } → IsInTurn sign octets next time new

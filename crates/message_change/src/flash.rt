@@ -2,7 +2,7 @@
 ghost use Rattle.std.specs.Prelude.{◌≡◌};
 ghost use Rattle.std.specs.Option.{option_map};
 ghost use Rattle.message_change.specs.Change.{flash_left, sooner};
-ghost use Rattle.message_change.specs.kept.Walk.{times_of};
+ghost use Rattle.message_change.specs.internal.Walk.{times_of};
 
 /// A flash: whether it begins with its off time, and its times in tenths of a second (NTCIP 1203 v03, MULTI tag 'fl').
 #[derive(Clone, Copy)]

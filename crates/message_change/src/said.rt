@@ -3,7 +3,7 @@ ghost use Rattle.std.specs.Prelude.{◌≡◌, ◌+◌, ◌-◌, ◌*◌, ◌≤
 ghost use Rattle.multi_token.specs.Counted.{RisesBetween};
 ghost use Rattle.multi_token.specs.Tokens.{IsTokenOf, item_of};
 ghost use Rattle.multi_meaning.specs.Meaning.{meaning, meanings};
-ghost use Rattle.message_change.specs.kept.Walk.{IsNext, IsSaid, is_page_said};
+ghost use Rattle.message_change.specs.internal.Walk.{IsNext, IsSaid, is_page_said};
 
 use multi_tag::{Tag, read_tag};
 use multi_token::{Kind, Source, Token, next_token};

@@ -4,9 +4,9 @@ ghost use Rattle.std.specs.Option.{option_map};
 ghost use Rattle.sign_font.specs.Sign.{SignData};
 ghost use Rattle.multi_meaning.specs.Address.{Standing};
 ghost use Rattle.multi_meaning.specs.Meaning.{Meaning, said_by};
-ghost use Rattle.multi_meaning.specs.kept.Present.{standing_behind};
+ghost use Rattle.multi_meaning.specs.internal.Present.{standing_behind};
 ghost use Rattle.message_change.specs.Change.{flash_left, is_shown, sooner};
-ghost use Rattle.message_change.specs.kept.Walk.{IsIn, IsSaid, page_left, times_of};
+ghost use Rattle.message_change.specs.internal.Walk.{IsIn, IsSaid, page_left, times_of};
 
 use crate::flash::{Flash, flash_left, sooner};
 use multi_tag::Tag;

@@ -16,7 +16,8 @@ use Rattle.multi_token.specs.declared.token.Token.{Token}
 use Rattle.multi_token.specs.declared.token.Kind.TheVariants as kinds
 use Rattle.multi_token.proofs.ReadingLemmas.{each_string_has_a_reading}
 use Rattle.multi_token.proofs.SpellingLemmas.{one_reading, reading_begins}
-use Rattle.multi_tag.specs.Body.{HasName, Spells, SpellsNoTag}
+use Rattle.multi_tag.specs.Body.{HasName, Spells}
+use Rattle.multi_tag.specs.Read.{SpellsNoTag}
 use Rattle.multi_tag.specs.declared.tag.Tag.{Tag}
 use Rattle.multi_tag.specs.declared.tag.TagFault.{TagFault}
 use Rattle.multi_tag.specs.declared.tag.TagFault.TheVariants.{Unsupported, Value}

@@ -1,12 +1,14 @@
 -- A film that grows.
 use Rattle.std.proofs.Common.{◌≡◌, ℕ, zero, suc, ◌+◌, ◌-◌, ◌*◌, ◌/◌, ◌<◌, ◌≤◌, List, [], ◌∷◌, ◌++◌, length, replicate, Some, refl, sym, ap, ◌∙◌, subst, arith, append_assoc, append-nil, length-append}
 use Rattle.std.proofs.Math.Nat.{mul-le-mul_right}
+use Rattle.std.specs.List.{All}
+use Rattle.std.proofs.lemmas.List.Elements.{All-push}
 use Rattle.std.proofs.lemmas.List.{replicate-append-replicate}
 use Rattle.std.proofs.lemmas.Grind.{flat_map-append}
 use Rattle.gif.specs.Gif.{Picture}
 use Rattle.gif.specs.Reader.{Film, film_of}
 use Rattle.gif.specs.Size.{most_octets, most_of_picture}
-use Rattle.message_film.specs.Moving.{Plays, played}
+use Rattle.message_film.specs.Moving.{IsSeen, Plays, played}
 use Rattle.message_film.specs.Reel.{IsSoundReel, ReelData, most_of_film, points_of, reel_of, written}
 
 replicate_count : (n : ℕ) (x : List ℕ) → length (replicate n x) ≡ n
@@ -55,6 +57,7 @@ written_sound side width height film new colours points tenths more size some so
       let count = replicate_count (10 * tenths) points in
       let before = sound.count in
       omega (arith, pictures, played_is, count, before, some);
+  seen = subst (All IsSeen) (sym more) (All-push IsSeen film.pictures (record { delay = 10 * tenths; pixels = points }) sound.seen (omega (arith, some)));
 }
 
 -- the same colours are shown for a tenth of a second more
@@ -84,6 +87,7 @@ finished side width height film colours octets tenths none sound found = (
       ∙ ap (λ w. Some (record { width = w; height = film.height; palette = film.palette; pictures = film.pictures })) sound.size.0
       ∙ ap (λ h. Some (record { width = side * width; height = h; palette = film.palette; pictures = film.pictures })) sound.size.1,
   sym (append-nil (played film.pictures)) ∙ ap (λ n. played film.pictures ++ replicate (10 * n) (points_of side width height colours)) (sym none),
+  sound.seen,
 )
 
 -- how many octets are written

@@ -1,6 +1,6 @@
 -- What a text shows in time, and files in GIF that show it.
-use Rattle.std.specs.Prelude.{◌≡◌, ℕ, ◌*◌, List, map, replicate, Some}
-use Rattle.std.specs.List.{flat_map, range_with_len}
+use Rattle.std.specs.Prelude.{◌≡◌, ℕ, ◌*◌, ◌≤◌, List, map, replicate, Some}
+use Rattle.std.specs.List.{All, flat_map, range_with_len}
 use Rattle.sign_font.specs.Sign.{SignData}
 use Rattle.multi_meaning.specs.declared.times.Shown.{Shown}
 use Rattle.multi_meaning.specs.Times.{shown}
@@ -26,12 +26,16 @@ played pictures = flat_map (λ picture. replicate picture.delay picture.pixels) 
 unfoldable pub in_tenths : List (List ℕ) → List (List ℕ)
 in_tenths points = flat_map (λ one. replicate 10 one) points
 
+-- a picture is shown for so long that viewers keep to its delay: those of less than 2 hundredths of a second they show for a tenth (own)
+abbrev pub IsSeen : Picture → Type 0
+IsSeen picture = 2 ≤ picture.delay
+
 -- octets are a file in GIF of this size in points, with this palette, that shows these points in
--- each hundredth of a second, over and over (own)
+-- each hundredth of a second, over and over, by pictures that are all seen (own)
 abbrev pub Plays : ℕ → ℕ → List ℕ → List (List ℕ) → List ℕ → Type 0
 Plays width height palette points octets =
     (pictures : List Picture) × (film_of octets ≡ Some (record { width = width; height = height; palette = palette; pictures = pictures }))
-    × (played pictures ≡ points)
+    × (played pictures ≡ points) × All IsSeen pictures
 
 -- octets are a file in GIF that shows these points of a sign, for a tenth of a second each, over and over (own)
 abbrev pub IsFilmOf : ℕ → SignData → List (List ℕ) → List ℕ → Type 0

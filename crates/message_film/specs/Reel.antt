@@ -4,7 +4,7 @@ use Rattle.std.specs.List.{All}
 use Rattle.page_picture.specs.Dots.{dots, value_at}
 use Rattle.gif.specs.Reader.{Film}
 use Rattle.gif.specs.Size.{most_of_picture}
-use Rattle.message_film.specs.Moving.{played}
+use Rattle.message_film.specs.Moving.{IsSeen, played}
 
 -- how many points side by side a pixel has, the size of a sign in pixels, the palette, the points that are shown in each
 -- hundredth of a second so far, and in how many tenths of a second of these the picture is shown that isn't written yet (own)
@@ -46,6 +46,7 @@ pub record IsSoundReel (side width height : ℕ) (film : Film) (colours : List �
   pub few : tenths ≤ 6553
   pub whole : 0 < tenths → AreColours width height colours
   pub count : 10 * length film.pictures ≤ length (played film.pictures)
+  pub seen : All IsSeen film.pictures
 
 -- the most octets of a film before its last one: 80, and two for each point and 32 in each tenth of a second (own)
 abbrev pub most_of_film : ℕ → ℕ → ℕ → ℕ → ℕ

@@ -110,7 +110,7 @@ impl Reel {
         self.writer.len()
     }
 
-    /// The film as a file in GIF. The error says that memory was refused.
+    /// The film as a file in GIF, each picture of which is shown for at least a tenth of a second. The error says that memory was refused.
     pub fn finish(mut self, alloc: Global) -> Result<Vec<u8>, AllocError>
         ensures plays { IfOk result
             (λ octets. Plays (self.side * self.width) (self.side * self.height) self.palette self.points octets.items) }

@@ -14,7 +14,7 @@ more f n =
     let next : n + 1 ≡ suc n = omega arith in
     ap (λ k. flat_map f (range_with_len 0 k)) next ∙ flat_map_more f 0 n n (omega arith)
 
--- no block is written at first, and one more comes behind those to the left of it
+-- no block is written at first, and one more comes after those to the left of it
 pub blocks_none : (shares : List ℕ) (upper lower : ℕ → ℕ) → blocks_text shares upper lower 0 ≡ []
 unfolding blocks_text
 blocks_none shares upper lower = refl
@@ -24,7 +24,7 @@ pub blocks_more : (shares : List ℕ) (upper lower : ℕ → ℕ) (column : ℕ)
 unfolding blocks_text
 blocks_more shares upper lower column = more (block_text shares upper lower) column
 
--- nor a line, and one more comes behind those above it
+-- nor a line, and one more comes after those above it
 pub lines_none : (shares : List ℕ) (at : ℕ → ℕ → ℕ) (width height : ℕ) → lines_text shares at width height 0 ≡ []
 unfolding lines_text
 lines_none shares at width height = refl

@@ -1,5 +1,5 @@
--- The parts of an explanation, one behind the other.
-use Rattle.std.proofs.Common.{◌≡◌, ℕ, suc, ◌+◌, ◌%◌, ◌<◌, ◌^◌, ◌≤◌, ◌≢◌, Bool, false, ◌||◌, ◌==◌, List, [], ◌∷◌, ◌++◌, length, refl, sym, ap, ◌∙◌, arith, subst, append_assoc, append-nil, decimal}
+-- The parts of an explanation, one after the other.
+use Rattle.std.proofs.Common.{◌≡◌, ℕ, suc, ◌+◌, ◌%◌, ◌<◌, ◌^◌, ◌≤◌, ◌≢◌, Bool, false, ◌||◌, ◌==◌, List, [], ◌∷◌, ◌++◌, length, refl, sym, ap, ◌∙◌, arith, subst, append_assoc, append-nil, decimal, Option, None}
 use Rattle.std.proofs.lemmas.List.Elements.{All-append, All-cons, All-nil, All-push}
 use Rattle.std.proofs.lemmas.Bool.{eqb-false, le-ltb, lt-ltb, or_parts}
 use Rattle.std.proofs.lemmas.Fmt.{decimal_by_steps}
@@ -10,9 +10,12 @@ use Rattle.multi_meaning.specs.Meaning.{meanings}
 use Rattle.multi_meaning.specs.Verdict.{Accepted, IsVerdict, Verdict, pages_of, verdict}
 use Rattle.multi_meaning.proofs.VerdictLemmas.{accepted_is, one_verdict}
 use Rattle.octet_text.proofs.TextLemmas.{grown}
+use Rattle.message_cures.specs.Cures.{Mends}
+use Rattle.message_cures.specs.declared.mending.Kind.{Kind}
+use Rattle.message_cures.specs.declared.mending.Outcome.{Outcome}
 use Rattle.message_report.specs.Words.{GrowsByLine, GrowsInLine, IsOneLine}
 use Rattle.message_report.specs.declared.format.Telling.{Telling}
-use Rattle.message_report.specs.Explanation.{Explains, HasPages, IsWarnings, Tells, TellsTooLong, accepts, head_text, takes, warning_text}
+use Rattle.message_report.specs.Explanation.{Explains, HasPages, IsWarnings, Tells, TellsTooLong, head_text, kind_of, warning_text}
 
 -- an accepted string has the pages that its items begin
 pub pages_are : (sign : SignData) (octets : List ℕ) (pages : ℕ) → IsVerdict sign octets (Accepted pages) → length octets < 2 ^ 32 → pages ≡ pages_of (meanings octets)
@@ -27,18 +30,18 @@ pub line_joined : (start now new line rest : List ℕ) → IsOneLine line → Is
 line_joined start now new line rest is other so_far next =
     (line ++ rest, All-append (λ n. n ≢ 10) line rest is other, grown start now new line (rest ++ 10 ∷ []) _ so_far next (append_assoc line rest (10 ∷ [])))
 
--- what is appended behind a line comes behind its line feed
+-- what is appended after a line comes after its line feed
 pub behind_line : (now next last words rest : List ℕ) → next ≡ now ++ (words ++ 10 ∷ []) → last ≡ next ++ rest → last ≡ now ++ words ++ 10 ∷ rest
 behind_line now next last words rest first second =
     second ∙ ap (λ l. l ++ rest) (first ∙ sym (append_assoc now words (10 ∷ []))) ∙ append_assoc (now ++ words) (10 ∷ []) rest
 
--- a piece, a line and a piece that are appended one behind the other
+-- a piece, a line and a piece that are appended one after the other
 pub three_more : (start now one two three shown head words page : List ℕ) → now ≡ start ++ shown → one ≡ now ++ head → two ≡ one ++ (words ++ 10 ∷ []) → three ≡ two ++ page
     → three ≡ start ++ (shown ++ head ++ words ++ 10 ∷ page)
 three_more start now one two three shown head words page so_far first second third =
     grown start (one ++ words) three (shown ++ head ++ words) (10 ∷ page) _ (grown start one (one ++ words) (shown ++ head) words _ (grown start now one shown head _ so_far first refl) refl refl) (behind_line one two three words page second third) refl
 
--- one more page comes behind those before it
+-- one more page comes after those before it
 pub pages_more : (picture : ℕ → List ℕ) (pages page : ℕ) (shown words : List ℕ) → HasPages picture pages page shown → IsOneLine words
     → HasPages picture pages (page + 1) (shown ++ head_text page pages ++ words ++ 10 ∷ picture page)
 pages_more picture pages page shown words has line =
@@ -47,18 +50,18 @@ pages_more picture pages page shown words has line =
     subst (λ n. HasPages picture pages n (shown ++ head_text page pages ++ words ++ 10 ∷ picture page)) next more
 
 -- a message of at most 4,096 octets is explained by the one verdict on it
-pub explained : (telling : Telling) (sign : SignData) (name octets message : List ℕ) (line : ℕ) (v : Verdict) (text : List ℕ) → length message ≤ 4096 → octets ≡ message → IsVerdict sign octets v
-    → Tells telling telling.format sign name octets line v text → Explains telling sign name line message text
-explained telling sign name octets message line v text short same is tells =
+pub explained : (telling : Telling) (sign : SignData) (name octets message : List ℕ) (line : ℕ) (v : Verdict) (outcome : Outcome) (kept : Option Kind) (text : List ℕ) → length message ≤ 4096 → octets ≡ message → IsVerdict sign octets v
+    → Mends sign message outcome → kept ≡ kind_of outcome → Tells telling telling.format sign name octets line v outcome text → Explains telling sign name line message kept text
+explained telling sign name octets message line v outcome kept text short same is mends keeps tells =
     let on_line : IsVerdict sign message v = subst (λ l. IsVerdict sign l v) same is in
     let one : v ≡ verdict sign message = (one_verdict sign message v).0 on_line in
-    let tells_line : Tells telling telling.format sign name message line v text = subst (λ l. Tells telling telling.format sign name l line v text) same tells in
-    rw (le-ltb _ _ short) (subst (λ w. Tells telling telling.format sign name message line w text) one tells_line)
+    let tells_line : Tells telling telling.format sign name message line v outcome text = subst (λ l. Tells telling telling.format sign name l line v outcome text) same tells in
+    rw (le-ltb _ _ short) (outcome, mends, keeps, subst (λ w. Tells telling telling.format sign name message line w outcome text) one tells_line)
 
 -- a message with more octets isn't judged
-pub unjudged : (telling : Telling) (sign : SignData) (name message : List ℕ) (line : ℕ) (text : List ℕ) → 4096 < length message
-    → TellsTooLong telling.format name line text → Explains telling sign name line message text
-unjudged telling sign name message line text long tells = rw (lt-ltb _ _ long) tells
+pub unjudged : (telling : Telling) (sign : SignData) (name message : List ℕ) (line : ℕ) (kept : Option Kind) (text : List ℕ) → 4096 < length message → kept ≡ None
+    → TellsTooLong telling.format name message line text → Explains telling sign name line message kept text
+unjudged telling sign name message line kept text long none tells = rw (lt-ltb _ _ long) (none, tells)
 
 -- one more warning
 pub warnings_more : (name : List ℕ) (line at : ℕ) (told words : List ℕ) → IsWarnings name line told → IsOneLine words → IsWarnings name line (told ++ warning_text name line at words)
@@ -67,17 +70,6 @@ warnings_more name line at told words (warnings, all, is) one =
     let last : flat_map text ((at, words) ∷ []) ≡ warning_text name line at words = append-nil (warning_text name line at words) in
     let both = flat_map-append text warnings ((at, words) ∷ []) ∙ ap (λ l. flat_map text warnings ++ l) last in
     (warnings ++ (at, words) ∷ [], All-push (λ warning. IsOneLine warning.1) warnings (at, words) all one, ap (λ l. l ++ warning_text name line at words) is ∙ sym both)
-
--- whether a message is taken
-pub taken_by : (sign : SignData) (octets message : List ℕ) (v : Verdict) → length message ≤ 4096 → octets ≡ message → IsVerdict sign octets v → accepts v ≡ takes sign message
-unfolding takes
-taken_by sign octets message v short same is =
-    let on_line : IsVerdict sign message v = subst (λ l. IsVerdict sign l v) same is in
-    rw (le-ltb _ _ short) (ap accepts ((one_verdict sign message v).0 on_line))
-
-pub not_taken : (sign : SignData) (message : List ℕ) → 4096 < length message → false ≡ takes sign message
-unfolding takes
-not_taken sign message long = rw (lt-ltb _ _ long) refl
 
 -- words have no line feed if none is found in them
 abbrev pub has_feed : List ℕ → Bool

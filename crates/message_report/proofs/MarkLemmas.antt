@@ -14,7 +14,7 @@ mark_written line colours place colour room there is so_far =
     ∙ sym (map-append mark (take place colours) (get_or colours place 0 ∷ []))
     ∙ ap (map mark) (sym (take_more colours place 0 there))
 
--- and the octets behind it stay
+-- and the octets after it stay
 pub mark_behind : (line old : List ℕ) (place colour : ℕ) → drop place line ≡ drop place old → drop (place + 1) (set line place colour) ≡ drop (place + 1) old
 mark_behind line old place colour same =
     drop-set-lt (place + 1) line place colour (omega arith) ∙ sym (drop-drop 1 place line) ∙ ap (drop 1) same ∙ drop-drop 1 place old

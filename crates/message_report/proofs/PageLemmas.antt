@@ -1,14 +1,9 @@
 -- The rows of a page's marks.
-use Rattle.std.proofs.Common.{◌≡◌, ℕ, ◌<◌, ◌==◌, Bool, false, List, length, ap, ◌∙◌, arith, eq-eqb, inl, inr, refl, subst}
-use Rattle.std.proofs.lemmas.Bool.{cases_Bool, or_left}
+use Rattle.std.proofs.Common.{◌≡◌, ℕ, ◌<◌, Bool, false, List, ap, ◌∙◌, arith, inl, inr, refl}
+use Rattle.std.proofs.lemmas.Bool.{cases_Bool}
 use Rattle.page_plane.specs.Plane.{BitPlane, is_lit}
 use Rattle.sign_font.specs.Sign.{SignData}
-use Rattle.multi_meaning.specs.Picture.{Lights, picture, pixel_at}
-use Rattle.multi_meaning.specs.Meaning.{meanings}
-use Rattle.multi_meaning.specs.Times.{page_times, shown}
-use Rattle.multi_meaning.specs.Verdict.{pages_of}
-use Rattle.multi_meaning.specs.declared.times.Shown.{Shown}
-use Rattle.multi_meaning.proofs.TimesLemmas.{shown_always, times_count}
+use Rattle.multi_meaning.specs.Picture.{Lights, picture}
 use Rattle.multi_layout.specs.Pages.{IsSized}
 use Rattle.page_picture.specs.Colours.{ColourData, IsPage, colour_by, page_colour}
 use Rattle.page_picture.specs.Rows.{mark_of, marked_rows, rows_text}

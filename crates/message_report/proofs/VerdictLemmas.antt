@@ -1,6 +1,6 @@
 -- The first lines of an explanation, written at once where their numbers have one digit.
-use Rattle.std.proofs.Common.{◌≡◌, ℕ, ◌+◌, ◌<◌, ◌++◌, ◌∷◌, List, [], ap, ◌∙◌, arith, codes, false, refl, sym, subst}
-use Rattle.std.specs.Prelude.{◌==◌, decimal, if◌then◌else◌}
+use Rattle.std.proofs.Common.{◌≡◌, ℕ, ◌+◌, ◌<◌, ◌++◌, ◌∷◌, ap, arith, codes, false, refl, sym}
+use Rattle.std.specs.Prelude.{◌==◌}
 use Rattle.std.proofs.lemmas.Fmt.{decimal_digit}
 use Rattle.message_report.specs.Explanation.{accepted_text, head_text}
 

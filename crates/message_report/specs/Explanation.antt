@@ -1,11 +1,15 @@
 -- What is told of a message: the verdict on it and its place, and the pages as pictures, with words for people between them.
-use Rattle.std.specs.Prelude.{◌≡◌, ◌⊎◌, ℕ, zero, suc, ◌+◌, Bool, true, false, ◌==◌, nat_lt, List, [], ◌∷◌, ◌++◌, All, length, codes, decimal, if◌then◌else◌}
+use Rattle.std.specs.Prelude.{◌≡◌, ◌⊎◌, ℕ, zero, suc, ◌+◌, Bool, true, false, ◌==◌, nat_lt, List, [], ◌∷◌, ◌++◌, All, length, codes, decimal, Option, None, Some, if◌then◌else◌}
 use Rattle.std.specs.List.{flat_map}
 use Rattle.sign_font.specs.Sign.{SignData}
 use Rattle.multi_meaning.specs.Verdict.{Verdict, Accepted, Refused, verdict}
+use Rattle.message_cures.specs.Cures.{Mends}
+use Rattle.message_cures.specs.declared.mending.Kind.{Kind}
+use Rattle.message_cures.specs.declared.mending.Outcome.{Outcome}
+use Rattle.message_cures.specs.declared.mending.Outcome.TheVariants as outcomes
 use Rattle.message_report.specs.Words.{IsOneLine}
 use Rattle.message_report.specs.declared.format.Format.{Format}
-use Rattle.message_report.specs.declared.format.Format.TheVariants.{Ansi, Json, Lines, Text}
+use Rattle.message_report.specs.declared.format.Format.TheVariants.{Ansi, Changed, Json, Lines, Mended, Text}
 use Rattle.message_report.specs.declared.format.Telling.{Telling}
 use Rattle.message_report.specs.declared.picture.Picture.{Picture}
 use Rattle.message_report.specs.declared.picture.Picture.TheVariants.{Blocks, Marks}
@@ -46,6 +50,36 @@ too_long_text = codes "too long: a message has at most 4096 octets\n"
 unfoldable pub head_text : ℕ → ℕ → List ℕ
 head_text page pages = codes "page " ++ decimal (page + 1) ++ codes " of " ++ decimal pages ++ codes ", "
 
+-- PROPOSALS
+
+-- a change of a line of a file begins with the file's name, once for what it was and once for what it becomes, and the line (own)
+unfoldable pub change_head : List ℕ → ℕ → List ℕ
+change_head name line = codes "--- " ++ name ++ codes "\n+++ " ++ name ++ codes "\n@@ -" ++ decimal line ++ codes " +" ++ decimal line ++ codes " @@\n-"
+
+-- what is proposed in place of a message that a sign refuses, after some words as a line, or nothing (own)
+abbrev pub proposal_line : List ℕ → Outcome → List ℕ
+proposal_line words (outcomes.Mended other kind) = words ++ other.items ++ 10 ∷ []
+proposal_line words outcomes.Taken = []
+proposal_line words outcomes.Unknown = []
+
+-- what is written in place of a message: what is proposed, or else itself (own)
+abbrev pub mended_text : List ℕ → Outcome → List ℕ
+mended_text octets (outcomes.Mended other kind) = other.items
+mended_text octets outcomes.Taken = octets
+mended_text octets outcomes.Unknown = octets
+
+-- what a proposal keeps, if there is one (own)
+abbrev pub kind_of : Outcome → Option Kind
+kind_of (outcomes.Mended other kind) = Some kind
+kind_of outcomes.Taken = None
+kind_of outcomes.Unknown = None
+
+-- the change of a line of a file from a message to what is proposed in its place, as a unified diff, or nothing (own)
+abbrev pub change_text : List ℕ → ℕ → List ℕ → Outcome → List ℕ
+change_text name line octets (outcomes.Mended other kind) = change_head name line ++ octets ++ codes "\n+" ++ other.items ++ codes "\n"
+change_text name line octets outcomes.Taken = []
+change_text name line octets outcomes.Unknown = []
+
 -- WORDS AND PICTURES
 
 -- the picture of a page of a string at a phase, by its number, in marks or in the sign's colours (own)
@@ -73,10 +107,15 @@ abbrev pub TellsAccepted : Bool → (ℕ → List ℕ) → ℕ → ℕ → List 
 TellsAccepted true picture line pages text = PassesOver line pages text
 TellsAccepted false picture line pages text = ShowsPages picture line pages text
 
--- a text tells a verdict in words and pictures (own)
-abbrev pub TellsWords : Bool → (ℕ → List ℕ) → ℕ → Verdict → List ℕ → Type 0
-TellsWords refused_only picture line (Accepted pages) text = TellsAccepted refused_only picture line pages text
-TellsWords refused_only picture line (Refused code at) text = (words : List ℕ) × (text ≡ line_head line ++ refused_text code at ++ words)
+-- a text tells of a refused message: its error with its place, some words, what is proposed in its place, and an empty line (own)
+abbrev pub TellsRefused : ℕ → ℕ → ℕ → Outcome → List ℕ → Type 0
+TellsRefused line code at outcome text = (words : List ℕ)
+    × (text ≡ line_head line ++ refused_text code at ++ words ++ proposal_line (codes "try: ") outcome ++ 10 ∷ [])
+
+-- a text tells a verdict on a string in words and pictures (own)
+abbrev pub TellsWords : Bool → (ℕ → List ℕ) → ℕ → Verdict → Outcome → List ℕ → Type 0
+TellsWords refused_only picture line (Accepted pages) outcome text = TellsAccepted refused_only picture line pages text
+TellsWords refused_only picture line (Refused code at) outcome text = TellsRefused line code at outcome text
 
 -- LINES FOR EDITORS
 
@@ -89,44 +128,45 @@ abbrev pub IsWarnings : List ℕ → ℕ → List ℕ → Type 0
 IsWarnings name line text = (warnings : List (ℕ × List ℕ)) × All (λ warning. IsOneLine warning.1) warnings
     × (text ≡ flat_map (λ warning. warning_text name line warning.0 warning.1) warnings)
 
--- a text tells a verdict to editors: of a refused message one line with its place, its error and some words, and of an accepted one
--- warnings alone (own)
-abbrev pub TellsLines : List ℕ → ℕ → Verdict → List ℕ → Type 0
-TellsLines name line (Accepted pages) text = IsWarnings name line text
-TellsLines name line (Refused code at) text = (words : List ℕ) × IsOneLine words
-    × (text ≡ place_text name line at ++ codes "error: " ++ error_text code ++ codes ": " ++ words ++ 10 ∷ [])
+-- a text tells a verdict on a string to editors: of a refused one a line with its place, its error and some words, and a note of what is
+-- proposed in its place, and of an accepted one warnings alone (own)
+abbrev pub TellsLines : List ℕ → ℕ → Verdict → Outcome → List ℕ → Type 0
+TellsLines name line (Accepted pages) outcome text = IsWarnings name line text
+TellsLines name line (Refused code at) outcome text = (words : List ℕ) × IsOneLine words
+    × (text ≡ place_text name line at ++ codes "error: " ++ error_text code ++ codes ": " ++ words ++ 10 ∷ proposal_line
+    (place_text name line at ++ codes "note: try ") outcome)
 
 -- EXPLANATIONS
 
--- a text tells a verdict in a format (own)
-abbrev pub Tells : Telling → Format → SignData → List ℕ → List ℕ → ℕ → Verdict → List ℕ → Type 0
-Tells telling Text sign name octets line v text =
-    TellsWords telling.refused_only (picture_text Marks sign octets telling.phase) line v text
-Tells telling Ansi sign name octets line v text =
-    TellsWords telling.refused_only (picture_text Blocks sign octets telling.phase) line v text
-Tells telling Lines sign name octets line v text = TellsLines name line v text
-Tells telling Json sign name octets line v text = TellsRecord telling sign octets line v text
+-- a text tells a verdict, and what is proposed, in a format (own)
+abbrev pub Tells : Telling → Format → SignData → List ℕ → List ℕ → ℕ → Verdict → Outcome → List ℕ → Type 0
+Tells telling Text sign name octets line v outcome text =
+    TellsWords telling.refused_only (picture_text Marks sign octets telling.phase) line v outcome text
+Tells telling Ansi sign name octets line v outcome text =
+    TellsWords telling.refused_only (picture_text Blocks sign octets telling.phase) line v outcome text
+Tells telling Lines sign name octets line v outcome text = TellsLines name line v outcome text
+Tells telling Json sign name octets line v outcome text = TellsRecord telling sign octets line v outcome text
+Tells telling Mended sign name octets line v outcome text = text ≡ mended_text octets outcome ++ 10 ∷ []
+Tells telling Changed sign name octets line v outcome text = text ≡ change_text name line octets outcome
 
 -- a text tells in a format that a message has too many octets (own)
-abbrev pub TellsTooLong : Format → List ℕ → ℕ → List ℕ → Type 0
-TellsTooLong Text name line text = text ≡ line_head line ++ too_long_text ++ codes "\n"
-TellsTooLong Ansi name line text = text ≡ line_head line ++ too_long_text ++ codes "\n"
-TellsTooLong Lines name line text = text ≡ place_text name line 4096 ++ codes "error: " ++ too_long_text
-TellsTooLong Json name line text = TooLongRecord line text
+abbrev pub TellsTooLong : Format → List ℕ → List ℕ → ℕ → List ℕ → Type 0
+TellsTooLong Text name octets line text = text ≡ line_head line ++ too_long_text ++ codes "\n"
+TellsTooLong Ansi name octets line text = text ≡ line_head line ++ too_long_text ++ codes "\n"
+TellsTooLong Lines name octets line text = text ≡ place_text name line 4096 ++ codes "error: " ++ too_long_text
+TellsTooLong Json name octets line text = TooLongRecord line text
+TellsTooLong Mended name octets line text = text ≡ octets ++ 10 ∷ []
+TellsTooLong Changed name octets line text = text ≡ []
 
--- a text explains the message of a line, which has at most 4,096 octets, by the sign's verdict on it (own)
-abbrev pub Explains : Telling → SignData → List ℕ → ℕ → List ℕ → List ℕ → Type 0
-Explains telling sign name line octets text = of (nat_lt 4096 (length octets))
+-- a text tells the sign's verdict on a message, and what is proposed in its place, which keeps this (own)
+abbrev pub TellsJudged : Telling → SignData → List ℕ → ℕ → List ℕ → Option Kind → List ℕ → Type 0
+TellsJudged telling sign name line octets kept text = (outcome : Outcome) × Mends sign octets outcome × (kept ≡ kind_of outcome)
+    × Tells telling telling.format sign name octets line (verdict sign octets) outcome text
+
+-- a text explains the message of a line by the sign's verdict on it, if it has at most 4,096 octets, and proposes what keeps this (own)
+abbrev pub Explains : Telling → SignData → List ℕ → ℕ → List ℕ → Option Kind → List ℕ → Type 0
+Explains telling sign name line octets kept text = of (nat_lt 4096 (length octets))
   where
     of : Bool → Type 0
-    of true = TellsTooLong telling.format name line text
-    of false = Tells telling telling.format sign name octets line (verdict sign octets) text
-
--- a verdict accepts (own)
-abbrev pub accepts : Verdict → Bool
-accepts (Accepted pages) = true
-accepts (Refused code at) = false
-
--- a sign takes a message: it isn't too long, and is accepted (own)
-unfoldable pub takes : SignData → List ℕ → Bool
-takes sign octets = if nat_lt 4096 (length octets) then false else accepts (verdict sign octets)
+    of true = (kept ≡ None) × TellsTooLong telling.format name octets line text
+    of false = TellsJudged telling sign name line octets kept text

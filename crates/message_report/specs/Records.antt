@@ -1,10 +1,21 @@
 -- What is told of a message as a record in JSON.
-use Rattle.std.specs.Prelude.{◌≡◌, ◌⊎◌, ℕ, zero, suc, ◌+◌, Bool, true, List, [], ◌∷◌, ◌++◌, codes, decimal, if◌then◌else◌}
+use Rattle.std.specs.Prelude.{◌≡◌, ◌⊎◌, ℕ, zero, suc, ◌+◌, Bool, true, List, [], ◌∷◌, ◌++◌, codes, decimal, map, string_bytes, if◌then◌else◌}
+use Rattle.std.specs.Str.{is_utf8}
+use Rattle.hex.specs.Hex.{encode_lower}
 use Rattle.serde_json.specs.Data.{Data, array, member, no_members, null, number, object, string, unsigned}
 use Rattle.serde_json.specs.View.{items_of}
 use Rattle.serde_json.specs.Written.{compact_text}
 use Rattle.sign_font.specs.Sign.{SignData}
 use Rattle.multi_meaning.specs.Verdict.{Verdict, Accepted, Refused}
+use Rattle.message_cures.specs.Cures.{AreFurther}
+use Rattle.message_cures.specs.Edits.{IsEdited}
+use Rattle.message_cures.specs.declared.difference.Edit.{Edit}
+use Rattle.message_cures.specs.declared.mending.Kind.{Kind}
+use Rattle.message_cures.specs.declared.mending.Kind.TheVariants.{Capitals, OtherLetters, SameLetters, SmallLetters}
+use Rattle.message_cures.specs.declared.mending.Outcome.{Outcome}
+use Rattle.message_cures.specs.declared.mending.Outcome.TheVariants as outcomes
+use Rattle.message_cures.specs.declared.proposal.Proposal.{Proposal}
+use Rattle.message_words.specs.declared.warnings.Warning.{Warning}
 use Rattle.message_report.specs.declared.format.Telling.{Telling}
 use Rattle.message_report.specs.Names.{name_of}
 use Rattle.message_report.specs.Pictures.{page_text}
@@ -13,24 +24,70 @@ use Rattle.message_report.specs.Pictures.{page_text}
 abbrev pub count : ℕ → Data
 count n = number (unsigned n)
 
--- the record of a refused message: its error, the octet where that stands, counted from 0, and the words on it (own)
-unfoldable pub refused_record : ℕ → Data → Data → ℕ → ℕ → List ℕ → Data
-refused_record line message octets code at reason =
+-- the name of what a proposal keeps of a message (own)
+abbrev pub kind_name : Kind → List ℕ
+kind_name Capitals = codes "capitals"
+kind_name SmallLetters = codes "small letters"
+kind_name SameLetters = codes "same letters"
+kind_name OtherLetters = codes "other letters"
+
+-- octets as text, or nothing if they aren't text in UTF-8 (own)
+unfoldable pub text_data : List ℕ → Data
+text_data octets = if is_utf8 octets then string octets else null
+
+-- octets in hexadecimal, or nothing if they are text in UTF-8 (own)
+unfoldable pub octets_data : List ℕ → Data
+octets_data octets = if is_utf8 octets then null else string (encode_lower octets)
+
+-- the record of an edit: the offsets in the message, counted from 0, of the first octet that is replaced and of the first one after
+-- them, and what stands in their place, in hexadecimal or as text (own)
+unfoldable pub edit_record : Edit → Data
+edit_record edit =
+    object (member (codes "from") (count edit.from)
+    (member (codes "octets") (octets_data edit.octets.items)
+    (member (codes "text") (text_data edit.octets.items)
+    (member (codes "to") (count edit.to) no_members))))
+
+-- the record of what is proposed: its edits, what it keeps, and its octets in hexadecimal or its text (own)
+unfoldable pub fix_record : Kind → List ℕ → List Edit → Data
+fix_record kind text edits =
+    object (member (codes "edits") (array (items_of (map edit_record edits)))
+    (member (codes "kind") (string (kind_name kind))
+    (member (codes "octets") (octets_data text)
+    (member (codes "text") (text_data text) no_members))))
+
+-- the records of some proposals, each with edits that make it of a message (own)
+abbrev pub AreFixesOf : List ℕ → List Proposal → List Data → Type 0
+AreFixesOf octets [] records = records ≡ []
+AreFixesOf octets (proposal ∷ proposals) records = (edits : List Edit) × (others : List Data) × IsEdited octets edits proposal.text.items
+    × AreFixesOf octets proposals others × (records ≡ fix_record proposal.kind proposal.text.items edits ∷ others)
+
+-- the records of what is proposed in place of a message: none, or the first proposal and at most two others (own)
+abbrev pub AreFixes : SignData → List ℕ → Outcome → List Data → Type 0
+AreFixes sign octets (outcomes.Mended other kind) records = (proposals : List Proposal) × AreFurther sign octets other.items proposals
+    × AreFixesOf octets (record { text = other; kind = kind } ∷ proposals) records
+AreFixes sign octets outcomes.Taken records = records ≡ []
+AreFixes sign octets outcomes.Unknown records = records ≡ []
+
+-- the record of a refused message: its error, the octet where that stands, counted from 0, the words on it, and what is proposed (own)
+unfoldable pub refused_record : ℕ → List ℕ → ℕ → ℕ → List ℕ → Data → Data
+refused_record line octets code at reason fixes =
     object (member (codes "code") (count code)
+    (member (codes "fixes") fixes
     (member (codes "line") (count line)
-    (member (codes "message") message
+    (member (codes "message") (text_data octets)
     (member (codes "name") (string (name_of code))
     (member (codes "octet") (count at)
-    (member (codes "octets") octets
+    (member (codes "octets") (octets_data octets)
     (member (codes "outcome") (string (codes "refused"))
-    (member (codes "reason") (string reason) no_members))))))))
+    (member (codes "reason") (string reason) no_members)))))))))
 
 -- the record of an accepted message: its pages, and the warnings on it (own)
-unfoldable pub accepted_record : ℕ → Data → Data → Data → Data → Data
-accepted_record line message octets pages warnings =
+unfoldable pub accepted_record : ℕ → List ℕ → Data → Data → Data
+accepted_record line octets pages warnings =
     object (member (codes "line") (count line)
-    (member (codes "message") message
-    (member (codes "octets") octets
+    (member (codes "message") (text_data octets)
+    (member (codes "octets") (octets_data octets)
     (member (codes "outcome") (string (codes "accepted"))
     (member (codes "pages") pages
     (member (codes "warnings") warnings no_members))))))
@@ -66,16 +123,17 @@ ArePages telling sign octets zero records = records ≡ []
 ArePages telling sign octets (suc page) records = (front : List Data) × (on off : ℕ) × ArePages telling sign octets page front
     × (records ≡ front ++ page_record page on off (picture_data telling.pictures (page_text sign octets page telling.phase)) ∷ [])
 
--- the record of a refused message as it is written, with its message, octets, name and words in JSON (own)
-unfoldable pub refused_json : ℕ → List ℕ → List ℕ → List ℕ → ℕ → ℕ → List ℕ → List ℕ
-refused_json line message octets name code at reason =
+-- the record of a refused message as it is written, with its message, octets, name, words and proposals in JSON (own)
+unfoldable pub refused_json : ℕ → List ℕ → List ℕ → List ℕ → ℕ → ℕ → List ℕ → List ℕ → List ℕ
+refused_json line message octets name code at reason fixes =
     codes "{\"code\":" ++ (decimal code
+    ++ (codes ",\"fixes\":" ++ (fixes
     ++ (codes ",\"line\":" ++ (decimal line
     ++ (codes ",\"message\":" ++ (message
     ++ (codes ",\"name\":" ++ (name
     ++ (codes ",\"octet\":" ++ (decimal at
     ++ (codes ",\"octets\":" ++ (octets
-    ++ (codes ",\"outcome\":\"refused\",\"reason\":" ++ (reason ++ codes "}")))))))))))))
+    ++ (codes ",\"outcome\":\"refused\",\"reason\":" ++ (reason ++ codes "}")))))))))))))))
 
 -- and that of an accepted one, with its message, octets, pages and warnings in JSON (own)
 unfoldable pub accepted_json : ℕ → List ℕ → List ℕ → List ℕ → List ℕ → List ℕ
@@ -90,17 +148,22 @@ accepted_json line message octets pages warnings =
 abbrev pub IsRecord : Data → List ℕ → Type 0
 IsRecord value text = text ≡ compact_text value ++ 10 ∷ []
 
--- a text is the record of an accepted message, with all its pages (own)
-abbrev pub TellsPages : Telling → SignData → List ℕ → ℕ → ℕ → List ℕ → Type 0
-TellsPages telling sign octets line pages text = (message shown warnings : Data) × (records : List Data)
-    × ArePages telling sign octets pages records × IsRecord (accepted_record line message shown (array (items_of records)) warnings) text
+-- the records of some warnings (own)
+abbrev pub warning_records : List Warning → List Data
+warning_records warnings = map (λ (w : Warning). warning_record w.at (string_bytes w.words)) warnings
 
--- a text tells a verdict as a record, or nothing of an accepted message if only refused ones are asked for (own)
-abbrev pub TellsRecord : Telling → SignData → List ℕ → ℕ → Verdict → List ℕ → Type 0
-TellsRecord telling sign octets line (Accepted pages) text =
+-- a text is the record of an accepted message, with all its pages and some warnings (own)
+abbrev pub TellsPages : Telling → SignData → List ℕ → ℕ → ℕ → List ℕ → Type 0
+TellsPages telling sign octets line pages text = (warnings : List Warning) × (records : List Data)
+    × ArePages telling sign octets pages records
+    × IsRecord (accepted_record line octets (array (items_of records)) (array (items_of (warning_records warnings)))) text
+
+-- a text tells a verdict as a record, with what is proposed, or nothing of an accepted message if only refused ones are asked for (own)
+abbrev pub TellsRecord : Telling → SignData → List ℕ → ℕ → Verdict → Outcome → List ℕ → Type 0
+TellsRecord telling sign octets line (Accepted pages) outcome text =
     ((telling.refused_only ≡ true) × (text ≡ [])) ⊎ TellsPages telling sign octets line pages text
-TellsRecord telling sign octets line (Refused code at) text = (message shown : Data) × (reason : List ℕ)
-    × IsRecord (refused_record line message shown code at reason) text
+TellsRecord telling sign octets line (Refused code at) outcome text = (fixes : List Data) × (reason : List ℕ)
+    × AreFixes sign octets outcome fixes × IsRecord (refused_record line octets code at reason (array (items_of fixes))) text
 
 -- a text is the record of a message with too many octets (own)
 abbrev pub TooLongRecord : ℕ → List ℕ → Type 0

@@ -1,13 +1,17 @@
 //! The explanation of a message.
-ghost use Rattle.std.specs.Prelude.{◌≡◌, ◌++◌, ◌<◌, ◌^◌, List, ℕ, length, OnOk, IfOk};
+ghost use Rattle.std.specs.Prelude.{◌≡◌, ◌++◌, ◌∷◌, ◌<◌, ◌^◌, [], List, ℕ, codes, false, length, OnOk, IfOk};
 ghost use Rattle.multi_meaning.specs.Verdict.{Accepted, Refused};
 ghost use Rattle.multi_layout.specs.Pages.{page_count};
-ghost use Rattle.message_report.specs.Explanation.{Explains, Tells, TellsTooLong, line_head, refused_text, takes};
-ghost use Rattle.message_report.specs.Words.{GrowsBy};
+ghost use Rattle.message_cures.specs.Taking.{takes};
+ghost use Rattle.message_report.specs.Explanation.{Explains, Tells, TellsTooLong, change_head, change_text, error_text, kind_of, line_head, mended_text, place_text, proposal_line, refused_text};
+ghost use Rattle.message_cures.specs.Cures.{Mends};
+ghost use Rattle.message_cures.specs.declared.mending.Outcome.TheVariants as outcomes;
+ghost use Rattle.message_report.specs.Words.{GrowsBy, IsOneLine};
 
 use crate::accepted::AcceptedMessage;
 use crate::canvas::Canvas;
-use crate::explanation::{Explanation, push_octets};
+use crate::explanation::Piece::{Number, Octets};
+use crate::explanation::{Explanation, push_all, push_octet, push_octets};
 use crate::format::{Format, Telling, Told};
 use crate::lines::{push_error_line, push_warning_lines};
 use crate::pages::push_told;
@@ -16,6 +20,7 @@ use crate::record::{push_accepted_record, push_refused_record, push_too_long_rec
 use crate::text::push_words;
 use crate::verdict::{push_line_head, push_place, push_refused, push_too_long};
 use crate::wording::Wording;
+use message_cures::{Kind, Outcome, mend};
 use message_words::{Refusal, warnings_on};
 use multi_layout::{Checked, Fault, check};
 use multi_token::Source;
@@ -28,10 +33,26 @@ use std::marker::Model;
 const MAX_MESSAGE: usize = 4_096;
 
 /// The answer of a message that isn't taken.
-const NOT_TAKEN: Told = Told {
-    is_taken: false,
-    warnings: 0,
-};
+fn not_taken(proposal: Option<Kind>) -> Told
+    ensures refused { result.is_taken ≡ false }
+    ensures proposal { result.proposal ≡ proposal }
+{
+    Told {
+        is_taken: false,
+        warnings: 0,
+        proposal,
+    }
+}
+
+/// What is kept by what is proposed, if something is.
+fn kind_of(outcome: &Outcome) -> Option<Kind>
+    ensures { result ≡ kind_of outcome.now }
+{
+    match outcome {
+        Outcome::Mended { kind, .. } => Some(*kind),
+        Outcome::Taken | Outcome::Unknown => None,
+    }
+}
 
 /// A sign whose messages are explained (own).
 #[derive(Drop)]
@@ -75,8 +96,9 @@ fn push_unjudged(
     format: Format,
     name: &[u8],
     line: u32,
+    message: &[u8],
 ) -> Result<(), AllocError>
-    ensures { OnOk result (GrowsBy (TellsTooLong format name.now line) text.old text.new) }
+    ensures { OnOk result (GrowsBy (TellsTooLong format name.now message.now line) text.old text.new) }
 {
     match format {
         Format::Text | Format::Ansi => {
@@ -90,6 +112,83 @@ fn push_unjudged(
             push_too_long(text)
         }
         Format::Json => push_too_long_record(text, line),
+        Format::Mended => push_as_it_is(text, message),
+        Format::Changed => Ok(()),
+    }
+}
+
+/// Appends a message as a line.
+#[inline(always)]
+fn push_as_it_is(text: &mut Explanation, message: &[u8]) -> Result<(), AllocError>
+    ensures { OnOk result (text.new ≡ text.old ++ (message.now ++ 10 ∷ [])) }
+{
+    push_octets(text, message)?;
+    push_octet(text, b'\n')
+}
+
+/// Appends what is proposed in place of a message, or else itself, as a line.
+fn push_mended(text: &mut Explanation, message: &[u8], outcome: &Outcome) -> Result<(), AllocError>
+    ensures { OnOk result (text.new ≡ text.old ++ (mended_text message.now outcome.now ++ 10 ∷ [])) }
+{
+    match outcome {
+        Outcome::Mended { text: other, .. } => push_as_it_is(text, other),
+        Outcome::Taken | Outcome::Unknown => push_as_it_is(text, message),
+    }
+}
+
+/// Appends what is proposed in place of a message, after a word, if something is.
+fn push_proposal(text: &mut Explanation, word: &[u8], outcome: &Outcome) -> Result<(), AllocError>
+    ensures { OnOk result (text.new ≡ text.old ++ proposal_line word.now outcome.now) }
+{
+    match outcome {
+        Outcome::Mended { text: other, .. } => {
+            push_octets(text, word)?;
+            push_as_it_is(text, other)
+        }
+        Outcome::Taken | Outcome::Unknown => Ok(()),
+    }
+}
+
+/// Appends how a change of a line of a file begins.
+#[tactic(auto, unfolding(crate::specs::Explanation::change_head))]
+fn push_change_head(text: &mut Explanation, name: &[u8], line: u32) -> Result<(), AllocError>
+    ensures { OnOk result (text.new ≡ text.old ++ change_head name.now line) }
+{
+    push_all(
+        text,
+        &[
+            Octets(b"--- "),
+            Octets(name),
+            Octets(b"\n+++ "),
+            Octets(name),
+            Octets(b"\n@@ -"),
+            Number(u64::from(line)),
+            Octets(b" +"),
+            Number(u64::from(line)),
+            Octets(b" @@\n-"),
+        ],
+    )
+}
+
+/// Appends the change of a line of a file to what is proposed in place of its message, if something is.
+fn push_change(
+    text: &mut Explanation,
+    name: &[u8],
+    line: u32,
+    message: &[u8],
+    outcome: &Outcome,
+) -> Result<(), AllocError>
+    ensures { OnOk result (text.new ≡ text.old ++ change_text name.now line message.now outcome.now) }
+{
+    match outcome {
+        Outcome::Mended { text: other, .. } => {
+            push_change_head(text, name, line)?;
+            push_octets(text, message)?;
+            push_octets(text, b"\n+")?;
+            push_octets(text, other)?;
+            push_octets(text, b"\n")
+        }
+        Outcome::Taken | Outcome::Unknown => Ok(()),
     }
 }
 
@@ -103,9 +202,10 @@ fn push_accepted(
 ) -> Result<(), AllocError>
     requires sign { checked.old.sign ≡ message.now.sign.now }
     requires short { length checked.old.source.octets < 2 ^ 32 }
+    requires octets { checked.old.source.octets ≡ message.now.message.now }
     ensures { OnOk result (GrowsBy
         (Tells message.now.telling message.now.telling.format message.now.sign.now name.now checked.old.source.octets
-        message.now.line (Accepted (page_count checked.old)))
+        message.now.line (Accepted (page_count checked.old)) outcomes.Taken)
         text.old text.new) }
 {
     match message.telling.format {
@@ -113,22 +213,49 @@ fn push_accepted(
         Format::Ansi => push_told(text, message, checked, Picture::Blocks),
         Format::Lines => push_warning_lines(text, name, message.line, &message.found.warnings),
         Format::Json => push_accepted_record(text, message, checked),
+        Format::Mended => push_as_it_is(text, message.message),
+        Format::Changed => Ok(()),
     }
 }
 
-/// Appends a refusal in words.
+/// Appends a refusal in words, and what is proposed in place of the message.
 fn push_refusal_words(
     text: &mut Explanation,
     line: u32,
     refusal: &Refusal<'_>,
+    outcome: &Outcome,
 ) -> Result<(), AllocError>
     ensures { OnOk result ((words : List ℕ)
-        × (text.new ≡ text.old ++ (line_head line ++ refused_text refusal.now.code refusal.now.at ++ words))) }
+        × (text.new ≡ text.old ++ (line_head line ++ refused_text refusal.now.code refusal.now.at ++ words
+        ++ proposal_line (codes "try: ") outcome.now ++ 10 ∷ []))) }
 {
     push_line_head(text, line)?;
     push_refused(text, refusal.code, refusal.at)?;
     let words = refusal.to_string(refusal.alloc)?;
-    push_words(text, &words)
+    push_words(text, &words)?;
+    push_proposal(text, b"try: ", outcome)?;
+    push_octet(text, b'\n')
+}
+
+/// Appends a refusal to the lines of editors, with a note of what is proposed in place of the message.
+fn push_refusal_lines(
+    text: &mut Explanation,
+    name: &[u8],
+    line: u32,
+    refusal: &Refusal<'_>,
+    outcome: &Outcome,
+) -> Result<(), AllocError>
+    requires small { refusal.now.at < 2 ^ 63 }
+    ensures { OnOk result ((words : List ℕ) × IsOneLine words
+        × (text.new ≡ text.old ++ (place_text name.now line refusal.now.at ++ codes "error: " ++ error_text refusal.now.code
+        ++ codes ": " ++ words ++ 10 ∷ proposal_line (place_text name.now line refusal.now.at ++ codes "note: try ") outcome.now))) }
+{
+    let reason = refusal.reason()?;
+    push_error_line(text, name, line, refusal.code, refusal.at, &reason)?;
+    let mut note = Explanation::new(refusal.alloc);
+    push_place(&mut note, name, line, refusal.at)?;
+    push_octets(&mut note, b"note: try ")?;
+    push_proposal(text, note.octets(), outcome)
 }
 
 /// Appends the explanation of a refused message.
@@ -138,29 +265,31 @@ fn push_refusal(
     name: &[u8],
     line: u32,
     refusal: &Refusal<'_>,
+    outcome: &Outcome,
 ) -> Result<(), AllocError>
     requires small { refusal.now.at < 2 ^ 63 }
     ensures { OnOk result (GrowsBy
         (Tells telling telling.format refusal.now.sign.now name.now refusal.now.message.now line
-        (Refused refusal.now.code refusal.now.at))
+        (Refused refusal.now.code refusal.now.at) outcome.now)
         text.old text.new) }
 {
     match telling.format {
-        Format::Text | Format::Ansi => push_refusal_words(text, line, refusal),
-        Format::Lines => {
-            let reason = refusal.reason()?;
-            push_error_line(text, name, line, refusal.code, refusal.at, &reason)
-        }
+        Format::Text | Format::Ansi => push_refusal_words(text, line, refusal, outcome),
+        Format::Lines => push_refusal_lines(text, name, line, refusal, outcome),
+        Format::Mended => push_mended(text, refusal.message, outcome),
+        Format::Changed => push_change(text, name, line, refusal.message, outcome),
         Format::Json => {
             let reason = refusal.reason()?;
             push_refused_record(
                 text,
                 refusal.alloc,
+                refusal.sign,
                 line,
                 refusal.message,
                 refusal.code,
                 refusal.at,
                 &reason,
+                outcome,
             )
         }
     }
@@ -183,11 +312,12 @@ impl Explainer {
         line: u32,
         message: &[u8],
         fault: &Fault<'_>,
+        outcome: &Outcome,
         text: &mut Explanation,
     ) -> Result<(), AllocError>
         requires small { fault.now.at < 2 ^ 63 }
         ensures { OnOk result (GrowsBy
-            (Tells telling telling.format self.now name.now message.now line (Refused fault.now.code fault.now.at))
+            (Tells telling telling.format self.now name.now message.now line (Refused fault.now.code fault.now.at) outcome.now)
             text.old text.new) }
     {
         let wording = self.wording(alloc)?;
@@ -200,7 +330,7 @@ impl Explainer {
             code: fault.code,
             at: fault.at,
         };
-        push_refusal(text, telling, name, line, &refusal)
+        push_refusal(text, telling, name, line, &refusal, outcome)
     }
 
     /// Appends the explanation of the message of a line, as it is asked for: the sign's verdict on it, and where it is refused and why, or
@@ -218,13 +348,13 @@ impl Explainer {
         message: &[u8],
         text: &mut Explanation,
     ) -> Result<Told, AllocError>
-        ensures told { OnOk result
-            (GrowsBy (Explains telling self.now name.now line message.now) text.old text.new) }
+        ensures told { IfOk result (λ told.
+            GrowsBy (Explains telling self.now name.now line message.now told.proposal) text.old text.new) }
         ensures taken { IfOk result (λ told. told.is_taken ≡ takes self.now message.now) }
     {
         if message.len() > MAX_MESSAGE {
-            push_unjudged(text, alloc, telling.format, name, line)?;
-            return Ok(NOT_TAKEN);
+            push_unjudged(text, alloc, telling.format, name, line, message)?;
+            return Ok(not_taken(None));
         }
         let sign = &self.sign;
         match check(sign, Source::new(message)) {
@@ -243,11 +373,13 @@ impl Explainer {
                 Ok(Told {
                     is_taken: true,
                     warnings: found.warnings.len().min(MAX_MESSAGE) as u32,
+                    proposal: None,
                 })
             }
             Err(fault) => {
-                self.push_fault(alloc, telling, name, line, message, &fault, text)?;
-                Ok(NOT_TAKEN)
+                let outcome = mend(alloc, sign, message)?.outcome;
+                self.push_fault(alloc, telling, name, line, message, &fault, &outcome, text)?;
+                Ok(not_taken(kind_of(&outcome)))
             }
         }
     }

@@ -13,7 +13,7 @@ const SPARE: usize = 4_096;
 /// What is told of messages (own). Room that was made once stays, so that what is told next is written into it with nothing moved.
 #[derive(Drop)]
 pub struct Explanation {
-    /// All of it, and room behind it.
+    /// All of it, and room after it.
     pub(crate) octets: Vec<u8>,
     /// How many octets it has.
     pub(crate) len: usize,
@@ -47,7 +47,7 @@ impl Explanation {
         &self.octets[..self.len]
     }
 
-    /// Its octets, with no room behind them.
+    /// Its octets, with no room after them.
     pub(crate) fn into_octets(self) -> Vec<u8>
         ensures { result.items ≡ self }
     {
@@ -151,7 +151,7 @@ fn push_piece(text: &mut Explanation, piece: Piece<'_>) -> Result<(), AllocError
     }
 }
 
-/// Appends pieces, one behind the other.
+/// Appends pieces, one after the other.
 pub(crate) fn push_all(text: &mut Explanation, pieces: &[Piece<'_>]) -> Result<(), AllocError>
     ensures { OnOk result (text.new ≡ text.old ++ flat_map piece_text pieces.now) }
 {

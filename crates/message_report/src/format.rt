@@ -1,5 +1,7 @@
 //! How messages are told of.
 
+use message_cures::Kind;
+
 /// What an explanation is written as (own).
 #[derive(Clone, Copy)]
 pub enum Format {
@@ -12,6 +14,10 @@ pub enum Format {
     Lines,
     /// A record in JSON, as a line.
     Json,
+    /// The message alone, as it is, or what is proposed in its place if the sign doesn't take it.
+    Mended,
+    /// The changes of a file's lines to what is proposed, as a unified diff.
+    Changed,
 }
 
 /// How messages are told of (own).
@@ -34,4 +40,6 @@ pub struct Told {
     pub is_taken: bool,
     /// How many warnings there are on it.
     pub warnings: u32,
+    /// What is kept by what is proposed in its place, if something is.
+    pub proposal: Option<Kind>,
 }

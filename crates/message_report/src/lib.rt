@@ -10,6 +10,7 @@ mod blocks;
 mod canvas;
 mod explain;
 mod explanation;
+mod fixes;
 mod format;
 mod large;
 mod lines;

@@ -110,7 +110,7 @@ fn push_pages(
     }
 }
 
-/// Appends what stands behind the pages: what their marks mean, the warnings, and an empty line.
+/// Appends what stands after the pages: what their marks mean, the warnings, and an empty line.
 #[inline(always)]
 fn push_notes(
     text: &mut Explanation,

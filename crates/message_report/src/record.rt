@@ -1,21 +1,24 @@
 //! Messages as records in JSON.
-ghost use Rattle.std.specs.Prelude.{◌≡◌, ◌++◌, ◌∷◌, ◌<◌, ◌^◌, [], List, ℕ, false, length, IfOk, OnOk, string_bytes};
+ghost use Rattle.std.specs.Prelude.{◌≡◌, ◌++◌, ◌∷◌, ◌<◌, ◌^◌, [], List, ℕ, length, IfOk, OnOk, string_bytes};
 ghost use Rattle.serde_json.specs.Data.{Data, array, string};
 ghost use Rattle.serde_json.specs.View.{items_of, view};
-ghost use Rattle.serde_json.specs.Written.{compact_text, has_float};
+ghost use Rattle.serde_json.specs.Written.{compact_text};
 ghost use Rattle.multi_meaning.specs.Verdict.{Accepted};
 ghost use Rattle.multi_layout.specs.Pages.{page_count};
+ghost use Rattle.message_cures.specs.declared.mending.Outcome.TheVariants.{Taken};
 ghost use Rattle.message_report.specs.Names.{name_of};
 ghost use Rattle.message_report.specs.Pictures.{page_text};
-ghost use Rattle.message_report.specs.Records.{ArePages, TellsPages, TellsRecord, TooLongRecord, accepted_json, page_record, picture_data, refused_json, refused_record, warning_record};
+ghost use Rattle.message_report.specs.Records.{AreFixes, ArePages, TellsPages, TellsRecord, TooLongRecord, accepted_json, octets_data, page_record, picture_data, refused_json, refused_record, text_data, warning_record, warning_records};
 ghost use Rattle.message_report.specs.Words.{GrowsBy};
 
 use crate::accepted::AcceptedMessage;
 use crate::explanation::Piece::{Number, Octets};
 use crate::explanation::{Explanation, push_all, push_number, push_octet, push_octets};
+use crate::fixes::{fixes_value, octets_value, text_value};
 use crate::format::Telling;
 use crate::picture::{Picture, push_picture};
 use crate::verdict::name_of;
+use message_cures::Outcome;
 use message_words::Warning;
 use multi_layout::Checked;
 use serde_json::{Value, json};
@@ -31,22 +34,20 @@ fn string_json(alloc: Global, words: &str) -> Result<Vec<u8>, AllocError>
 
 /// A message as text in JSON, or nothing if its octets are none in UTF-8.
 fn message_json(alloc: Global, message: &[u8]) -> Result<Vec<u8>, AllocError>
-    ensures { IfOk result (λ json. (shown : Data) × (json.items ≡ compact_text shown)) }
+    ensures { IfOk result (λ json. json.items ≡ compact_text (text_data message.now)) }
 {
-    match str::from_utf8(message) {
-        Ok(text) => Value::try_from_str(alloc, text)?.to_vec(alloc),
-        Err(_) => Value::Null.to_vec(alloc),
-    }
+    let value = text_value(alloc, message)?;
+    let json = value.to_vec(alloc)?;
+    Ok(json)
 }
 
 /// The octets of a message in hexadecimal in JSON, or nothing if they are text in UTF-8.
 fn octets_json(alloc: Global, message: &[u8]) -> Result<Vec<u8>, AllocError>
-    ensures { IfOk result (λ json. (shown : Data) × (json.items ≡ compact_text shown)) }
+    ensures { IfOk result (λ json. json.items ≡ compact_text (octets_data message.now)) }
 {
-    match str::from_utf8(message) {
-        Ok(_) => Value::Null.to_vec(alloc),
-        Err(_) => Value::String(hex::encode(alloc, message)?).to_vec(alloc),
-    }
+    let value = octets_value(alloc, message)?;
+    let json = value.to_vec(alloc)?;
+    Ok(json)
 }
 
 /// The record of a warning.
@@ -58,9 +59,8 @@ fn warning_value(alloc: Global, warning: &Warning) -> Result<Value, AllocError>
 }
 
 /// The records of all warnings.
-#[tactic(auto, unfolding(crate::specs::Records::warning_record))]
 fn warning_values(alloc: Global, warnings: &[Warning]) -> Result<Value, AllocError>
-    ensures { IfOk result (λ v. has_float (view v) ≡ false) }
+    ensures { IfOk result (λ v. view v ≡ array (items_of (warning_records warnings.now))) }
 {
     let mut list = Vec::new(alloc);
     for warning in warnings {
@@ -72,14 +72,30 @@ fn warning_values(alloc: Global, warnings: &[Warning]) -> Result<Value, AllocErr
 
 /// The records of all warnings in JSON.
 fn warnings_json(alloc: Global, warnings: &[Warning]) -> Result<Vec<u8>, AllocError>
-    ensures { IfOk result (λ json. (shown : Data) × (json.items ≡ compact_text shown)) }
+    ensures { IfOk result (λ json. json.items ≡ compact_text (array (items_of (warning_records warnings.now)))) }
 {
     let all = warning_values(alloc, warnings)?;
     let json = all.to_vec(alloc)?;
     Ok(json)
 }
 
-/// Appends the record of a refused message but for its line feed. Its text and octets, the name of its error and the words are JSON.
+/// The records of what is proposed in place of a message in JSON.
+fn fixes_json(
+    alloc: Global,
+    sign: &Sign,
+    message: &[u8],
+    outcome: &Outcome,
+) -> Result<Vec<u8>, AllocError>
+    ensures { IfOk result (λ json. (fixes : List Data) × AreFixes sign.now message.now outcome.now fixes
+        × (json.items ≡ compact_text (array (items_of fixes)))) }
+{
+    let fixes = fixes_value(alloc, sign, message, outcome)?;
+    let json = fixes.to_vec(alloc)?;
+    Ok(json)
+}
+
+/// Appends the record of a refused message but for its line feed. Its text and octets, the name of its error, the words and what is
+/// proposed are JSON.
 #[tactic(auto, unfolding(crate::specs::Records::refused_json))]
 fn push_refused<'a>(
     text: &mut Explanation,
@@ -90,14 +106,18 @@ fn push_refused<'a>(
     code: u8,
     at: usize,
     reason: &'a [u8],
+    fixes: &'a [u8],
 ) -> Result<(), AllocError>
-    ensures { OnOk result (text.new ≡ text.old ++ refused_json line message.now octets.now name.now code at reason.now) }
+    ensures { OnOk result (text.new ≡ text.old
+        ++ refused_json line message.now octets.now name.now code at reason.now fixes.now) }
 {
     push_all(
         text,
         &[
             Octets(b"{\"code\":"),
             Number(u64::from(code)),
+            Octets(b",\"fixes\":"),
+            Octets(fixes),
             Octets(b",\"line\":"),
             Number(u64::from(line)),
             Octets(b",\"message\":"),
@@ -119,20 +139,23 @@ fn push_refused<'a>(
 pub(crate) fn push_refused_record(
     text: &mut Explanation,
     alloc: Global,
+    sign: &Sign,
     line: u32,
     message: &[u8],
     code: u8,
     at: usize,
     reason: &String,
+    outcome: &Outcome,
 ) -> Result<(), AllocError>
-    ensures { OnOk result ((shown : Data) × (octets : Data) × (words : List ℕ)
-        × (text.new ≡ text.old ++ (compact_text (refused_record line shown octets code at words) ++ 10 ∷ []))) }
+    ensures { OnOk result ((fixes : List Data) × (words : List ℕ) × AreFixes sign.now message.now outcome.now fixes
+        × (text.new ≡ text.old ++ (compact_text (refused_record line message.now code at words (array (items_of fixes))) ++ 10 ∷ []))) }
 {
     let shown = message_json(alloc, message)?;
     let octets = octets_json(alloc, message)?;
     let name = string_json(alloc, name_of(code))?;
     let words = string_json(alloc, reason)?;
-    push_refused(text, line, &shown, &octets, &name, code, at, &words)?;
+    let fixes = fixes_json(alloc, sign, message, outcome)?;
+    push_refused(text, line, &shown, &octets, &name, code, at, &words, &fixes)?;
     push_octet(text, b'\n')?;
     Ok(())
 }
@@ -274,6 +297,7 @@ fn push_pages_record(
 ) -> Result<(), AllocError>
     requires sign { checked.old.sign ≡ message.now.sign.now }
     requires short { length checked.old.source.octets < 2 ^ 32 }
+    requires octets { checked.old.source.octets ≡ message.now.message.now }
     ensures { OnOk result (GrowsBy
         (TellsPages message.now.telling message.now.sign.now checked.old.source.octets message.now.line (page_count checked.old))
         text.old text.new) }
@@ -297,9 +321,10 @@ pub(crate) fn push_accepted_record(
 ) -> Result<(), AllocError>
     requires sign { checked.old.sign ≡ message.now.sign.now }
     requires short { length checked.old.source.octets < 2 ^ 32 }
+    requires octets { checked.old.source.octets ≡ message.now.message.now }
     ensures { OnOk result (GrowsBy
         (TellsRecord message.now.telling message.now.sign.now checked.old.source.octets message.now.line
-        (Accepted (page_count checked.old)))
+        (Accepted (page_count checked.old)) Taken)
         text.old text.new) }
 {
     if message.telling.refused_only && message.found.warnings.is_empty() {

@@ -47,7 +47,7 @@ pub(crate) fn push_line(text: &mut Explanation, words: &[u8]) -> Result<(), Allo
     push_octet(text, b'\n')
 }
 
-/// Appends that more octets of a message stand behind those that are shown, if they do.
+/// Appends that more octets of a message stand after those that are shown, if they do.
 #[inline(always)]
 fn push_more(text: &mut Explanation, more: bool) -> Result<(), AllocError>
     ensures { OnOk result (GrowsInLine text.old text.new) }
@@ -221,7 +221,7 @@ fn push_each_warning(text: &mut Explanation, warnings: &[Warning]) -> Result<(),
     Ok(())
 }
 
-/// Appends the warnings on a message, and the empty line that stands behind each explanation.
+/// Appends the warnings on a message, and the empty line that stands after each explanation.
 #[inline(always)]
 pub(crate) fn push_warnings(
     text: &mut Explanation,

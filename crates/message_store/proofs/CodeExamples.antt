@@ -6,7 +6,8 @@ use Rattle.message_store.specs.declared.slot.Request.TheVariants.{Modify, Valida
 use Rattle.message_store.specs.declared.slot.Status.{Status}
 use Rattle.message_store.specs.declared.slot.Status.TheVariants.{NotUsed, Modifying, Validating, Valid, Error}
 use Rattle.message_store.specs.declared.work.ValidateError.TheVariants as validate
-use Rattle.message_store.specs.Codes.{memory_numbered, request_numbered, status_code, validate_code, fault_code}
+use Rattle.message_store.specs.Codes.{memory_numbered, request_numbered, status_code, validate_code}
+use Rattle.message_store.specs.Fault.{fault_code}
 use Rattle.message_store.specs.Slot.{is_modifying, is_not_used, is_validating}
 
 memory_types_of_numbers : map memory_numbered (1 ∷ 2 ∷ 3 ∷ 4 ∷ 5 ∷ 6 ∷ 7 ∷ 8 ∷ [])

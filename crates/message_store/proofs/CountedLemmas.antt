@@ -1,12 +1,13 @@
 -- Slots that are counted, with one of them replaced.
 use Rattle.std.proofs.Common.{◌≡◌, ℕ, zero, suc, ◌+◌, ◌<◌, ◌≤◌, Bool, true, false, not, cond, List, [], ◌∷◌, length, slice_index_or, slice_set, Option, None, Some, refl, sym, ap, ◌∙◌, arith}
 use Rattle.std.proofs.lemmas.Bool.Decides.{nat_tests}
+use Rattle.std.proofs.lemmas.List.Elements.{All-set}
 use Rattle.std.proofs.lemmas.List.Sums.{sum_by-cons, sum_by-set}
 use Rattle.std.specs.Prelude.{◌==◌, if◌then◌else◌, nat_lt, position}
 use Rattle.std.specs.List.{count_by, position_or_len}
 use Rattle.message_store.specs.declared.slot.Slot.{Slot}
 use Rattle.message_store.specs.Slot.{is_not_used, is_validating}
-use Rattle.message_store.specs.kept.Counted.{AreCounted}
+use Rattle.message_store.specs.internal.Counted.{AreCounted, IsRanged}
 use Rattle.message_store.proofs.WaitLemmas.{none-before}
 
 abbrev pub bit : Bool → ℕ
@@ -24,7 +25,7 @@ module _ {X : Type 0} (p : X → Bool) where
   none_first true n m l is so = absurd (omega (arith, is))
   none_first false n m l is so = omega (arith, so (omega (arith, is)))
 
-  -- where none passes, the first that does stands behind the last one
+  -- where none passes, the first that does stands after the last one
   pub none_counted : (xs : List X) → count_by p xs ≡ 0 → position_or_len p xs ≡ length xs
   none_counted [] is = refl
   none_counted (x ∷ xs) is = none_first (p x) (count_by p xs) (position_or_len p xs) (length xs) (sym (one_more x xs) ∙ is) (none_counted xs)
@@ -50,13 +51,14 @@ module _ {X : Type 0} (p : X → Bool) where
 pub put_counted : (slots : List Slot) (from waiting used i from' waiting' used' : ℕ) (old slot d : Slot) → i < length slots → old ≡ slice_index_or slots i d → AreCounted slots from waiting used
     → from' ≤ position_or_len (λ (slot : Slot). is_validating slot.status) (slice_set slots i slot)
     → waiting' + bit (is_validating old.status) ≡ waiting + bit (is_validating slot.status)
-    → used' + bit (not (is_not_used old.status)) ≡ used + bit (not (is_not_used slot.status))
+    → used' + bit (not (is_not_used old.status)) ≡ used + bit (not (is_not_used slot.status)) → IsRanged slot
     → AreCounted (slice_set slots i slot) from' waiting' used'
-put_counted slots from waiting used i from' waiting' used' old slot d below is was first waits counts =
+put_counted slots from waiting used i from' waiting' used' old slot d below is was first waits counts ranged =
     let waiting_one = λ (slot : Slot). is_validating slot.status in
     let used_one = λ (slot : Slot). not (is_not_used slot.status) in
     record {
       first = first;
       waits = omega (arith, was.waits, waits, count_set waiting_one slots i slot d below, ap (λ x. bit (waiting_one x)) is);
       counts = omega (arith, was.counts, counts, count_set used_one slots i slot d below, ap (λ x. bit (used_one x)) is);
+      ranged = All-set IsRanged slots i slot ranged was.ranged;
     }

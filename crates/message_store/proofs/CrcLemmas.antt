@@ -103,7 +103,7 @@ octet_more text start n below =
 eight-linear : (a b : ℕ) → four_steps (four_steps (bit_xor a b)) ≡ bit_xor (four_steps (four_steps a)) (four_steps (four_steps b))
 eight-linear a b = ap four_steps (four-linear a b) ∙ four-linear (four_steps a) (four_steps b)
 
--- an octet behind eight bits of the register: sixteen bits of its lowest eight, combined with eight bits of its upper ones and the octet
+-- an octet after eight bits of the register: sixteen bits of its lowest eight, combined with eight bits of its upper ones and the octet
 pub pair-is : (r octet : ℕ) → bit_xor (four_steps (four_steps (four_steps (four_steps (r % 256))))) (four_steps (four_steps (bit_xor (r / 256) octet)))
     ≡ four_steps (four_steps (bit_xor (four_steps (four_steps r)) octet))
 pair-is r octet =

@@ -30,7 +30,7 @@ more-up xs from to moved n before within =
     ∙ ap (λ (l : List ℕ). l ++ drop (to + moved + n) xs) (append_assoc (take to xs) (take moved ys) (take n (drop moved ys)) ∙ ap (λ (l : List ℕ). take to xs ++ l) (sym (take-add moved n ys)))
     ∙ ap (λ k. take to xs ++ take (moved + n) ys ++ drop k xs) (let e : to + moved + n ≡ to + (moved + n) = omega arith in e)
 
--- one more part was moved to a place behind its own
+-- one more part was moved to a place after its own
 more-back : (xs : List ℕ) (from to left n rest : ℕ) → from ≤ to → to + (left + n + rest) ≤ length xs
     → paste (paste xs (to + (left + n)) (drop (from + (left + n)) xs) rest) (to + left) (drop (from + left) (paste xs (to + (left + n)) (drop (from + (left + n)) xs) rest)) n
     ≡ paste xs (to + left) (drop (from + left) xs) (n + rest)

@@ -2,7 +2,7 @@
 use Rattle.std.proofs.Common.{◌≡◌, ℕ, zero, suc, ◌+◌, ◌-◌, ◌<◌, List, [], ◌∷◌, ◌++◌, map, take, drop, length, replicate, slice_set, slice_index_or, refl, sym, ap, ◌∙◌, arith, append_assoc}
 use Rattle.std.proofs.lemmas.List.{drop_more, get_or-append_right, length-map, length-take-le, map-append, set_at, take_more}
 use Rattle.message_store.specs.declared.places.Span.{Span}
-use Rattle.message_store.specs.kept.Pool.{moved, moved_start, no_span, span_at, spans_of}
+use Rattle.message_store.specs.internal.Pool.{moved, moved_start, no_span, span_at, spans_of}
 
 -- one more number of a list has been changed
 pub one-changed : (f : ℕ → ℕ) (xs now : List ℕ) (k d x : ℕ) → k < length xs → now ≡ map f (take k xs) ++ drop k xs → x ≡ f (slice_index_or now k d)

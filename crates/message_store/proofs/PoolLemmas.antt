@@ -7,21 +7,21 @@ use Rattle.std.proofs.lemmas.List.{ext_get_or, get_or-map, get_or-set_same, get_
 use Rattle.std.proofs.lemmas.List.Sums.{sum_by-cons, sum_by-set}
 use Rattle.std.proofs.Math.Seq.{drop-append-add}
 use Rattle.message_store.specs.declared.places.Span.{Span}
-use Rattle.message_store.specs.kept.Pool.{ArePlaced, AreApart, Pool, moved, moved_start, no_span, span_at, text_in, used}
+use Rattle.message_store.specs.internal.Pool.{ArePlaced, AreApart, Pool, moved, moved_start, no_span, span_at, text_in, used}
 
 -- ---- a part of a list
 
--- a part of the front is not changed by what is behind the front
+-- a part of the front is not changed by what is after the front
 part-before : (front behind : List ℕ) (start len : ℕ) → start + len ≤ length front → take len (drop start (front ++ behind)) ≡ take len (drop start front)
 part-before front behind start len within =
     ap (take len) (drop-append-le start front behind (omega (arith, within)))
     ∙ take-append-le len (drop start front) behind (omega (arith, within, length-drop start front))
 
--- a part behind the front
+-- a part after the front
 part-behind : (front behind : List ℕ) (at start len : ℕ) → start ≡ length front + at → take len (drop start (front ++ behind)) ≡ take len (drop at behind)
 part-behind front behind at start len is = ap (λ n. take len (drop n (front ++ behind))) is ∙ ap (take len) (drop-append-add front behind at)
 
--- a part that ends before a place stays when what is behind the place is replaced
+-- a part that ends before a place stays when what is after the place is replaced
 kept-before : (xs others : List ℕ) (place start len : ℕ) → place ≤ length xs → start + len ≤ place → take len (drop start (take place xs ++ others)) ≡ take len (drop start xs)
 kept-before xs others place start len there within =
     let short : start + len ≤ length (take place xs) = omega (arith, within, length-take-le place xs there) in
@@ -105,13 +105,13 @@ no-texts (suc count) = ap (λ l. [] ∷ l) (no-texts count)
 
 -- ---- a text is replaced
 
--- the places after the text of an index was taken out, and put in behind the others with this many octets
+-- the places after the text of an index was taken out, and put in after the others with this many octets
 abbrev pub replaced_spans : List Span → ℕ → ℕ → ℕ → List Span
 replaced_spans spans i rest count =
     let gone = span_at spans i in
     slice_set (map (moved (gone.start + gone.len) gone.len) spans) i (record { start = rest; len = count })
 
--- the octets after a text was taken out, and put in behind the others
+-- the octets after a text was taken out, and put in after the others
 abbrev pub replaced_octets : List ℕ → Span → List ℕ → List ℕ
 replaced_octets octets gone text = (take gone.start octets ++ drop (gone.start + gone.len) octets) ++ text
 
@@ -205,7 +205,7 @@ replaced-placed spans size rest count i placed below is =
       ];
     }
 
--- another text stays when one is taken out and put in behind the others
+-- another text stays when one is taken out and put in after the others
 kept-text : (octets text : List ℕ) (gone span : Span) (begins : ℕ) → gone.start + gone.len ≤ length octets → span.start + span.len ≤ length octets → Moves gone.start gone.len span begins
     → take span.len (drop begins (replaced_octets octets gone text)) ≡ text_in octets span
 kept-text octets text gone span begins there within moved =

@@ -1,9 +1,9 @@
--- The registers of the CRC that are kept behind texts.
+-- The registers of the CRC that are kept after texts.
 use Rattle.std.proofs.Common.{◌≡◌, ◌<◌, ◌^◌, ◌⊎◌, ℕ, zero, suc, List, [], ◌∷◌, map, length, replicate, slice_set, slice_index_or, Option, None, Some, IfSome, inl, inr, refl, sym, ap, ◌∙◌, subst, arith}
 use Rattle.std.proofs.lemmas.Bool.{cases_order}
 use Rattle.std.proofs.lemmas.List.{get_or-set_same, get_or-set_other, length-replicate}
 use Rattle.message_store.specs.declared.places.Span.{Span}
-use Rattle.message_store.specs.kept.Pool.{AreRegisters, AreTexts, Reserve, no_span, register_behind, text_in}
+use Rattle.message_store.specs.internal.Pool.{AreRegisters, AreTexts, Reserve, no_span, register_behind, text_in}
 use Rattle.message_store.proofs.PoolLemmas.{none-placed}
 
 none_at : (count i : ℕ) → ◌≡◌ {A = Option ℕ} (slice_index_or (replicate count None) i None) None
@@ -36,7 +36,7 @@ forgets registers texts i text are k =
           subst P (sym (get_or-set_other registers i k None None (differ k i other))) (subst Q (sym (get_or-set_other texts i k text [] (differ k i other))) (are k))
     ]
 
--- the register behind a text is kept
+-- the register after a text is kept
 pub keeps : (registers : List (Option ℕ)) (texts : List (List ℕ)) (i register : ℕ) → i < length registers → register ≡ register_behind (slice_index_or texts i [])
     → AreRegisters registers texts → AreRegisters (slice_set registers i (Some register)) texts
 keeps registers texts i register below is are k =
@@ -48,7 +48,7 @@ keeps registers texts i register below is are k =
       | inr other ↦ subst P (sym (get_or-set_other registers i k (Some register) None (differ k i other))) (are k)
     ]
 
--- a register that is found is that behind its text
+-- a register that is found is that after its text
 pub found : (registers : List (Option ℕ)) (texts : List (List ℕ)) (i register : ℕ) → AreRegisters registers texts → slice_index_or registers i None ≡ Some register
     → register ≡ register_behind (slice_index_or texts i [])
 found registers texts i register are is =

@@ -33,7 +33,7 @@ closed-from-front xs new front start len within is =
     ∙ sym (drop-drop (start + len) front xs)
     )
 
--- what stands behind a gap was moved up over it
+-- what stands after a gap was moved up over it
 pub closed-from-back : (xs : List ℕ) (front start len : ℕ) → front + start + len ≤ length xs
     → drop front (take (front + start) xs ++ drop (front + start + len) xs) ≡ take start (drop front xs) ++ drop (start + len) (drop front xs)
 closed-from-back xs front start len within =

@@ -7,13 +7,13 @@ use Rattle.std.proofs.lemmas.List.Elements.{All-get_or, All-set, All-replicate}
 use Rattle.message_store.specs.declared.slot.Slot.{Slot}
 use Rattle.message_store.specs.declared.limits.StoreLimits.{StoreLimits}
 use Rattle.message_store.specs.declared.message.Permanent.{Permanent}
-use Rattle.message_store.specs.kept.Pool.{Pool, used}
+use Rattle.message_store.specs.internal.Pool.{Pool, used}
 use Rattle.message_store.specs.Limits.{IsKept, IsShort, can_be_made, made}
 use Rattle.message_store.specs.Slot.{SlotData, StoreData, slot_at, empty_slot, used_bytes, used_slots, is_not_used, permanent_of}
 use Rattle.message_store.specs.Step.{cleared, with_slot}
 use Rattle.message_store.proofs.WholeLemmas.{length-whole, get-whole, set-multi, set-owner, set-slot, used-whole, used_slots-whole, whole-empty}
 use Rattle.message_store.proofs.LimitsLemmas.{sound-limits, sound-permanent}
-use Rattle.message_store.specs.kept.Stored.{unused_slot, slot_of, whole, stored, IsStored}
+use Rattle.message_store.specs.internal.Stored.{unused_slot, slot_of, whole, stored, IsStored}
 
 -- ---- the store that is kept in these parts
 
@@ -157,24 +157,24 @@ last-slot store i first second = ap (λ (ss : List SlotData). let st : StoreData
 pub slot-put : (store : StoreData) (i : ℕ) (slot : SlotData) → i < length store.slots → slot_at (with_slot store i slot) i ≡ slot
 slot-put store i slot below = get_or-set_same store.slots i slot empty_slot below
 
--- a slot whose three parts are emptied one after the other
-pub emptied : (store first second third : StoreData) (i : ℕ) (slot : Slot) → i < length store.slots
+-- a slot whose three parts are replaced one after the other
+pub filled : (store first second third : StoreData) (i : ℕ) (slot : Slot) (multi owner : List ℕ) → i < length store.slots
     → first ≡ with_slot store i (slot_of slot (slot_at store i).multi (slot_at store i).owner)
-    → second ≡ with_slot first i (record (slot_at first i) { multi = [] })
-    → third ≡ with_slot second i (record (slot_at second i) { owner = [] })
-    → third ≡ with_slot store i (slot_of slot [] [])
-emptied store first second third i slot below put-slot-is put-multi-is put-owner-is =
+    → second ≡ with_slot first i (record (slot_at first i) { multi = multi })
+    → third ≡ with_slot second i (record (slot_at second i) { owner = owner })
+    → third ≡ with_slot store i (slot_of slot multi owner)
+filled store first second third i slot multi owner below put-slot-is put-multi-is put-owner-is =
     let old = slot_at store i in
     let one = slot_of slot old.multi old.owner in
-    let two : second ≡ with_slot store i (slot_of slot [] old.owner) =
+    let two : second ≡ with_slot store i (slot_of slot multi old.owner) =
     put-multi-is
-    ∙ ap (λ (st : StoreData). with_slot st i (record (slot_at st i) { multi = [] })) put-slot-is
-    ∙ ap (λ (d : SlotData). with_slot (with_slot store i one) i (record d { multi = [] })) (slot-put store i one below)
-    ∙ last-slot store i one (slot_of slot [] old.owner) in
+    ∙ ap (λ (st : StoreData). with_slot st i (record (slot_at st i) { multi = multi })) put-slot-is
+    ∙ ap (λ (d : SlotData). with_slot (with_slot store i one) i (record d { multi = multi })) (slot-put store i one below)
+    ∙ last-slot store i one (slot_of slot multi old.owner) in
     put-owner-is
-    ∙ ap (λ (st : StoreData). with_slot st i (record (slot_at st i) { owner = [] })) two
-    ∙ ap (λ (d : SlotData). with_slot (with_slot store i (slot_of slot [] old.owner)) i (record d { owner = [] })) (slot-put store i (slot_of slot [] old.owner) below)
-    ∙ last-slot store i (slot_of slot [] old.owner) (slot_of slot [] [])
+    ∙ ap (λ (st : StoreData). with_slot st i (record (slot_at st i) { owner = owner })) two
+    ∙ ap (λ (d : SlotData). with_slot (with_slot store i (slot_of slot multi old.owner)) i (record d { owner = owner })) (slot-put store i (slot_of slot multi old.owner) below)
+    ∙ last-slot store i (slot_of slot multi old.owner) (slot_of slot multi owner)
 
 -- empty texts have no octets
 used-none : (count : ℕ) → sum_by (λ (t : List ℕ). length t) (replicate count []) ≡ 0

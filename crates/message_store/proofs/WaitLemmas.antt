@@ -12,7 +12,7 @@ module _ {X : Type 0} (p : X → Bool) where
   pub first-nowhere : (xs : List X) (n : ℕ) (d : X) → length xs ≤ n → n ≤ position_or_len p xs → position_or_len p xs ≡ length xs
   first-nowhere xs n d all none = position_or_len_is p xs (length xs) d (omega arith) (λ k before. fails_before_first p xs k d (omega (arith, before, all, none))) (λ below. absurd (omega (arith, below)))
 
-  -- from places in what stands behind the first element to places in the whole list
+  -- from places in what stands after the first element to places in the whole list
   later : (b : Bool) (n next m k : ℕ) → (n ≤ m → next ≤ k) → suc n ≤ cond (not b) (1 + m) 0 → suc next ≤ cond (not b) (1 + k) 0
   later true n next m k so none = absurd (omega (arith, none))
   later false n next m k so none = omega (arith, so (omega (arith, none)))

@@ -5,7 +5,7 @@ use Rattle.std.proofs.lemmas.List.{drop-set-add, get_or-drop, get_or-set_other}
 use Rattle.std.proofs.lemmas.List.Sums.{sum_by-cons}
 use Rattle.message_store.specs.declared.slot.Slot.{Slot}
 use Rattle.message_store.specs.Slot.{SlotData, slot_bytes, is_not_used, is_validating}
-use Rattle.message_store.specs.kept.Stored.{slot_of, whole}
+use Rattle.message_store.specs.internal.Stored.{slot_of, whole}
 
 pub length-whole : (slots : List Slot) (texts : List (List ℕ)) → length (whole slots texts) ≡ length slots
 length-whole [] texts = refl
@@ -29,7 +29,7 @@ get-whole (slot ∷ slots) texts (suc i) d e below =
     ∙ ap (λ (l : List ℕ). slot_of (slice_index_or slots i e) (slice_index_or texts (2 * suc i) []) l)
     (get_or-drop 2 texts (2 * i + 1) [] ∙ ap (λ n. slice_index_or texts n []) (sym (next-odd i)))
 
--- texts behind the first two are those of the slots behind the first
+-- texts after the first two are those of the slots after the first
 whole-behind : (slot : Slot) (slots : List Slot) (texts : List (List ℕ)) (n : ℕ) (text : List ℕ)
     → whole (slot ∷ slots) (slice_set texts (2 + n) text) ≡ slot_of slot (slice_index_or texts 0 []) (slice_index_or texts 1 []) ∷ whole slots (slice_set (drop 2 texts) n text)
 whole-behind slot slots texts n text =

@@ -1,7 +1,5 @@
 -- The numbers by which kinds are known outside.
 use Rattle.std.specs.Prelude.{ℕ, ◌==◌, if◌then◌else◌, Option, Some, None}
-use Rattle.message_store.specs.declared.fault.StoreFault.{StoreFault}
-use Rattle.message_store.specs.declared.fault.StoreFault.TheVariants as fault
 use Rattle.message_store.specs.declared.message.MemoryType.{MemoryType}
 use Rattle.message_store.specs.declared.message.MemoryType.TheVariants.{Permanent, Changeable, CurrentBuffer, Blank}
 use Rattle.message_store.specs.declared.slot.Request.{Request}
@@ -40,13 +38,3 @@ validate_code validate.None = 2
 validate_code validate.Beacons = 3
 validate_code validate.PixelService = 4
 validate_code validate.SyntaxMulti = 5
-
--- the number of a refusal (own)
-abbrev pub fault_code : StoreFault → ℕ
-fault_code fault.MemoryType = 1
-fault_code fault.Number = 2
-fault_code fault.ReadOnly = 3
-fault_code fault.WrongState = 4
-fault_code fault.BadValue = 5
-fault_code fault.TooLong = 6
-fault_code fault.NoSpace = 7

@@ -1,9 +1,12 @@
 pub mod Codes
 pub mod Crc
+pub mod Fault
 pub mod Slot
 pub mod Limits
 pub mod Step
 pub mod Judged
 pub mod Work
+pub mod Ranged
 pub mod Row
-pub mod kept
+pub mod View
+pub mod internal

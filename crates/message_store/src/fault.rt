@@ -41,7 +41,7 @@ pub enum StoreMade {
 
 impl StoreFault {
     ghost use Rattle.std.specs.Prelude.{◌≡◌};
-    ghost use Rattle.message_store.specs.Codes.{fault_code};
+    ghost use Rattle.message_store.specs.Fault.{fault_code};
 
     /// The number by which the refusal is known outside: 1 to 7 in the order above.
     pub fn code(self) -> u8

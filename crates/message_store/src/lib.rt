@@ -22,6 +22,7 @@ mod slot;
 mod slots;
 mod store;
 mod texts;
+mod view;
 mod work;
 mod write;
 
@@ -31,5 +32,7 @@ pub use judge::{TextJudgement, judge_text};
 pub use limits::StoreLimits;
 pub use message::{MsgRef, Permanent};
 pub use row::Row;
+pub use slot::Status;
 pub use store::Store;
+pub use view::SlotView;
 pub use work::Judged;

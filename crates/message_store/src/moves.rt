@@ -33,7 +33,7 @@ pub(crate) fn move_up(memory: &mut [u8], from: usize, to: usize, len: usize)
     move_part(memory, from + moved, to + moved, len - moved);
 }
 
-/// Copies octets to a place behind theirs, or to theirs.
+/// Copies octets to a place after theirs, or to theirs.
 pub(crate) fn move_back(memory: &mut [u8], from: usize, to: usize, len: usize)
     requires behind { from ≤ to }
     requires within { to + len ≤ length memory.old }

@@ -2,9 +2,10 @@
 
 ghost use Rattle.std.specs.Prelude.{◌≡◌, ◌+◌, ◌<◌, ◌≤◌, length, IfSome};
 ghost use Rattle.message_store.specs.Limits.{IsKept};
+ghost use Rattle.message_store.specs.Ranged.{AreRanged};
 ghost use Rattle.message_store.specs.Slot.{empty_slot, slot_at, used_bytes};
 ghost use Rattle.message_store.specs.Step.{cleared, with_slot};
-ghost use Rattle.message_store.specs.kept.Stored.{crc_of, slot_of};
+ghost use Rattle.message_store.specs.internal.Stored.{crc_of, slot_of};
 ghost use Rattle.message_store.specs.Work.{waiting};
 
 use crate::crc::crc_behind;
@@ -15,13 +16,14 @@ impl Store {
     /// What a slot holds beside its texts.
     pub(crate) fn slot(&self, index: usize) -> Slot
         requires { index < length self.now.slots }
-        ensures { slot_at self.now index ≡ slot_of result (slot_at self.now index).multi (slot_at self.now index).owner }
+        ensures slot { slot_at self.now index ≡ slot_of result (slot_at self.now index).multi (slot_at self.now index).owner }
+        ensures ranged { AreRanged result.priority result.beacon result.pixel }
     {
         self.slots.get(index)
     }
 
-    /// How many slots there are.
-    pub(crate) fn count(&self) -> usize
+    /// How many changeable messages there are, used or not.
+    pub fn count(&self) -> usize
         ensures count { result ≡ length self.now.slots }
         ensures kept { IsKept self.now }
     {
@@ -99,6 +101,7 @@ impl Store {
     /// Replaces what a slot holds beside its texts.
     pub(crate) fn put_slot(&mut self, index: usize, slot: Slot)
         requires index { index < length self.old.slots }
+        requires ranged { AreRanged slot.priority slot.beacon slot.pixel }
         ensures put { self.new ≡ with_slot self.old index (slot_of slot (slot_at self.old index).multi (slot_at self.old index).owner) }
         ensures kept { IsKept self.new }
     {

@@ -1,7 +1,7 @@
 //! Where texts stand among octets.
 
 ghost use Rattle.std.specs.Prelude.{◌≡◌, ◌<◌, ◌≤◌, ◌^◌, map, length, replicate, slice_set, IfOk};
-ghost use Rattle.message_store.specs.kept.Pool.{moved, moved_start, no_span, span_at};
+ghost use Rattle.message_store.specs.internal.Pool.{moved, moved_start, no_span, span_at};
 
 use std::alloc::{AllocError, Global};
 use std::marker::Model;
@@ -23,7 +23,7 @@ pub(crate) struct Places {
 impl Model for Places {
     ghost use Rattle.std.specs.Prelude.{◌≡◌, List, length};
     ghost use Rattle.message_store.specs.declared.places.Span.{Span};
-    ghost use Rattle.message_store.specs.kept.Pool.{spans_of};
+    ghost use Rattle.message_store.specs.internal.Pool.{spans_of};
 
     ghost Value = { List Span };
 

@@ -2,7 +2,7 @@
 
 ghost use Rattle.std.specs.Prelude.{◌≡◌, ◌+◌, ◌-◌, ◌≤◌, ◌++◌, [], take, drop, length, IfOk};
 ghost use Rattle.std.specs.Vec.{vec_capacity};
-ghost use Rattle.message_store.specs.kept.Pool.{Reserve};
+ghost use Rattle.message_store.specs.internal.Pool.{Reserve};
 
 use crate::moves::{move_back, move_up};
 use std::alloc::{AllocError, Global};
@@ -24,7 +24,7 @@ pub(crate) struct Reserved {
 impl Model for Reserved {
     ghost use Rattle.std.specs.Prelude.{◌≤◌, drop, length};
     ghost use Rattle.std.specs.Vec.{vec_capacity};
-    ghost use Rattle.message_store.specs.kept.Pool.{Reserve};
+    ghost use Rattle.message_store.specs.internal.Pool.{Reserve};
 
     ghost Value = { Reserve };
 
@@ -44,7 +44,7 @@ fn close_from_front(memory: &mut Vec<u8>, front: usize, start: usize, len: usize
     move_back(memory.as_mut_slice(), front, front + len, start);
 }
 
-/// Takes out the `len` octets from `start` on. What stands behind them moves up.
+/// Takes out the `len` octets from `start` on. What stands after them moves up.
 fn close_gap(octets: &mut Vec<u8>, start: usize, len: usize)
     requires within { start + len ≤ length octets.old.items }
     ensures items { octets.new.items ≡ take start octets.old.items ++ drop (start + len) octets.old.items }
@@ -56,7 +56,7 @@ fn close_gap(octets: &mut Vec<u8>, start: usize, len: usize)
     octets.truncate(start + count);
 }
 
-/// Closes a gap of `len` octets, `start` octets after the front: what stands behind it moves up.
+/// Closes a gap of `len` octets, `start` octets after the front: what stands after it moves up.
 fn close_from_back(memory: &mut Vec<u8>, front: usize, start: usize, len: usize)
     requires within { front + start + len ≤ length memory.old.items }
     ensures octets { drop front memory.new.items
@@ -89,7 +89,7 @@ fn append(memory: &mut Vec<u8>, text: &[u8])
     };
 }
 
-/// Appends a text to the octets from `front` on, and answers their front. They move if there is no room behind them.
+/// Appends a text to the octets from `front` on, and answers their front. They move if there is no room after them.
 fn put_behind(memory: &mut Vec<u8>, front: usize, room: usize, text: &[u8]) -> usize
     requires front { front ≤ length memory.old.items }
     requires held { (length memory.old.items ≤ room) × (room ≤ vec_capacity memory.old) }
@@ -159,7 +159,7 @@ impl Reserved {
 
     /// Takes out the `len` octets from `start` on, and closes the gap.
     ///
-    /// It is closed from the front if less stands there, and if the longest text still fits behind the others afterwards.
+    /// It is closed from the front if less stands there, and if the longest text still fits after the others afterwards.
     pub(crate) fn take_out(&mut self, start: usize, len: usize)
         requires { start + len ≤ length self.old.octets }
         ensures { self.new ≡ record self.old { octets = take start self.old.octets ++ drop (start + len) self.old.octets } }
@@ -173,7 +173,7 @@ impl Reserved {
         }
     }
 
-    /// Puts a text in behind the others.
+    /// Puts a text in after the others.
     pub(crate) fn put_in(&mut self, text: &[u8])
         requires { length self.old.octets + length text.now ≤ self.old.room }
         ensures { self.new ≡ record self.old { octets = self.old.octets ++ text.now } }

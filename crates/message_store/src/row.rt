@@ -2,6 +2,7 @@
 
 ghost use Rattle.std.specs.Prelude.{◌≡◌, ◌<◌, ◌≤◌, length, IfOk};
 ghost use Rattle.message_store.specs.Limits.{IsKept};
+ghost use Rattle.message_store.specs.Ranged.{AreRanged};
 ghost use Rattle.message_store.specs.Row.{blank_row, data_of, permanent_row, row_at, row_result, slot_row};
 ghost use Rattle.message_store.specs.Slot.{permanent_at, slot_at};
 
@@ -33,6 +34,7 @@ pub struct Row<'a> {
 /// The row of a blank message.
 fn blank_row(number: u8) -> Row<'static>
     ensures row { data_of result ≡ blank_row number }
+    ensures ranged { 1 ≤ number → AreRanged result.priority result.beacon result.pixel }
     ensures short { length result.multi.now ≡ 0 }
 {
     Row {
@@ -51,6 +53,7 @@ impl Store {
     fn slot_row(&self, index: usize) -> Row<'_>
         requires { index < length self.now.slots }
         ensures row { data_of result ≡ slot_row (slot_at self.now index) }
+        ensures ranged { AreRanged result.priority result.beacon result.pixel }
         ensures short { length result.multi.now ≤ self.now.limits.max_string }
     {
         let slot = self.slot(index);
@@ -70,6 +73,7 @@ impl Store {
     fn permanent_row(&self, index: usize) -> Row<'_>
         requires { index < length self.now.permanent }
         ensures row { data_of result ≡ permanent_row (permanent_at self.now index) }
+        ensures ranged { AreRanged result.priority result.beacon result.pixel }
         ensures short { length result.multi.now ≤ self.now.limits.max_string }
     {
         let message = &self.permanent[index];
@@ -91,6 +95,7 @@ impl Store {
     pub fn row(&self, message: MsgRef) -> Result<Row<'_>, StoreFault>
         ensures row { row_result result ≡ row_at self.now message }
         ensures short { IfOk result (λ row. length row.multi.now ≤ self.now.limits.max_string) }
+        ensures ranged { IfOk result (λ row. AreRanged row.priority row.beacon row.pixel) }
         ensures kept { IsKept self.now }
     {
         let limits = self.limits();

@@ -3,8 +3,8 @@
 ghost use Rattle.std.specs.Prelude.{◌≡◌};
 
 /// The status of a message (NTCIP 1203 v03, dmsMessageStatus).
-#[derive(Clone, Copy)]
-pub(crate) enum Status {
+#[derive(Clone, Copy, Debug, PartialEq, Eq)]
+pub enum Status {
     /// It has no text and is no used slot.
     NotUsed,
     /// Its fields may be written.
@@ -19,10 +19,25 @@ pub(crate) enum Status {
 
 impl Status {
     ghost use Rattle.message_store.specs.Codes.{status_code};
+    ghost use Rattle.message_store.specs.View.{status_numbered};
     ghost use Rattle.message_store.specs.Slot.{is_modifying, is_not_used, is_validating};
 
-    /// Its number (NTCIP 1203 v03, dmsMessageStatus).
-    pub(crate) fn code(self) -> u8
+    /// The status of a number, 1 to 5 (NTCIP 1203 v03, dmsMessageStatus).
+    pub fn numbered(number: u8) -> Option<Status>
+        ensures { result ≡ status_numbered number }
+    {
+        match number {
+            1 => Some(Status::NotUsed),
+            2 => Some(Status::Modifying),
+            3 => Some(Status::Validating),
+            4 => Some(Status::Valid),
+            5 => Some(Status::Error),
+            _ => None,
+        }
+    }
+
+    /// Its number, 1 to 5 (NTCIP 1203 v03, dmsMessageStatus).
+    pub fn code(self) -> u8
         ensures { result ≡ status_code self }
     {
         match self {

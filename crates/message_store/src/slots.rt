@@ -2,8 +2,9 @@
 
 ghost use Rattle.std.specs.Prelude.{◌≡◌, ◌==◌, ◌+◌, ◌<◌, ◌≤◌, ◌^◌, true, not, if◌then◌else◌, length, position, replicate, slice_index_or, slice_set, IfOk};
 ghost use Rattle.std.specs.List.{count_by, position_or_len};
+ghost use Rattle.message_store.specs.Ranged.{AreRanged};
 ghost use Rattle.message_store.specs.Slot.{is_not_used, is_validating};
-ghost use Rattle.message_store.specs.kept.Stored.{unused_slot};
+ghost use Rattle.message_store.specs.internal.Stored.{unused_slot};
 
 use crate::slot::{EMPTY, Slot};
 use std::alloc::{AllocError, Global};
@@ -24,7 +25,7 @@ pub(crate) struct Slots {
 impl Model for Slots {
     ghost use Rattle.std.specs.Prelude.{List};
     ghost use Rattle.message_store.specs.declared.slot.Slot.{Slot};
-    ghost use Rattle.message_store.specs.kept.Counted.{AreCounted};
+    ghost use Rattle.message_store.specs.internal.Counted.{AreCounted};
 
     ghost Value = { List Slot };
 
@@ -92,14 +93,16 @@ impl Slots {
     /// One of them.
     pub(crate) fn get(&self, index: usize) -> Slot
         requires { index < length self.now }
-        ensures { result ≡ slice_index_or self.now index unused_slot }
+        ensures slot { result ≡ slice_index_or self.now index unused_slot }
+        ensures ranged { AreRanged result.priority result.beacon result.pixel }
     {
         self.slots[index]
     }
 
     /// Replaces a slot.
     pub(crate) fn put(&mut self, index: usize, slot: Slot)
-        requires { index < length self.old }
+        requires index { index < length self.old }
+        requires ranged { AreRanged slot.priority slot.beacon slot.pixel }
         ensures { self.new ≡ slice_set self.old index slot }
     {
         let old = self.slots[index].status;

@@ -24,7 +24,7 @@ pub struct Store {
 
 impl Model for Store {
     ghost use Rattle.message_store.specs.Slot.{StoreData};
-    ghost use Rattle.message_store.specs.kept.Stored.{stored, IsStored};
+    ghost use Rattle.message_store.specs.internal.Stored.{stored, IsStored};
 
     ghost Value = { StoreData };
 

@@ -1,7 +1,7 @@
 //! Texts that stand one after the other in one pool of octets, which is reserved once.
 
 ghost use Rattle.std.specs.Prelude.{◌≡◌, ◌+◌, ◌<◌, ◌≤◌, ◌^◌, ◌++◌, [], map, take, drop, length, replicate, slice_set, slice_index_or, IfOk};
-ghost use Rattle.message_store.specs.kept.Pool.{ArePlaced, Pool, moved, register_behind, span_at, text_in, used};
+ghost use Rattle.message_store.specs.internal.Pool.{ArePlaced, Pool, moved, register_behind, span_at, text_in, used};
 
 use crate::crc::text_register;
 use crate::places::{Places, Span};
@@ -14,13 +14,13 @@ use std::marker::Model;
 pub(crate) struct Texts {
     places: Places,
     pool: Reserved,
-    /// The register of the CRC behind each text, where it is kept.
+    /// The register of the CRC after each text, where it is kept.
     registers: Vec<Option<u16>>,
 }
 
 impl Model for Texts {
     ghost use Rattle.std.specs.Prelude.{map};
-    ghost use Rattle.message_store.specs.kept.Pool.{AreTexts, Pool, text_in};
+    ghost use Rattle.message_store.specs.internal.Pool.{AreTexts, Pool, text_in};
 
     ghost Value = { Pool };
 
@@ -44,7 +44,7 @@ fn take_out(places: &mut Places, pool: &mut Reserved, span: Span)
     pool.take_out(span.start, span.len);
 }
 
-/// Puts a text in behind the others, and answers its place.
+/// Puts a text in after the others, and answers its place.
 fn put_in(pool: &mut Reserved, text: &[u8]) -> Span
     requires room { length pool.old.octets + length text.now ≤ pool.old.room }
     ensures place { result ≡ record { start = length pool.old.octets; len = length text.now } }
@@ -110,7 +110,7 @@ impl Texts {
         self.pool.part(start, len)
     }
 
-    /// The register of the CRC behind a text.
+    /// The register of the CRC after a text.
     pub(crate) fn register(&self, index: usize) -> u16
         requires { index < length self.now.texts }
         ensures { result ≡ register_behind (slice_index_or self.now.texts index []) }
@@ -121,7 +121,7 @@ impl Texts {
         }
     }
 
-    /// Keeps the register of the CRC behind a text until the text is replaced.
+    /// Keeps the register of the CRC after a text until the text is replaced.
     pub(crate) fn keep_register(&mut self, index: usize)
         requires { index < length self.old.texts }
         ensures { self.new ≡ self.old }

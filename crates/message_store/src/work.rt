@@ -6,9 +6,9 @@ ghost use Rattle.multi_meaning.specs.Steps.{judging_steps};
 ghost use Rattle.multi_meaning.specs.Verdict.{verdict};
 ghost use Rattle.message_store.specs.Codes.{validate_code};
 ghost use Rattle.message_store.specs.Limits.{IsKept};
-ghost use Rattle.message_store.specs.kept.Working.{judgement_of};
+ghost use Rattle.message_store.specs.internal.Working.{judgement_of};
 ghost use Rattle.message_store.specs.Slot.{slot_at};
-ghost use Rattle.message_store.specs.kept.Stored.{slot_of};
+ghost use Rattle.message_store.specs.internal.Stored.{slot_of};
 ghost use Rattle.message_store.specs.Work.{judged_status, judgement, of_verdict, slot_steps, worked, judged_of};
 
 use crate::judge::judge_text;

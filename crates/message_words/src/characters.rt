@@ -88,7 +88,7 @@ fn write_run(text: &mut String, run: CharacterRun) -> Result<(), AllocError> {
     write_character(text, run.last)
 }
 
-/// Adds a character behind all others.
+/// Adds a character after all others.
 fn add(runs: &mut Vec<CharacterRun>, number: u16) -> Result<(), AllocError> {
     if let Some(run) = runs.last_mut() {
         if run.last.saturating_add(1) == number {

@@ -36,7 +36,7 @@ fn share_of(word: &[u8]) -> Option<u8> {
     str::from_utf8(word).unwrap_or("").parse().ok()
 }
 
-/// The colour of the three numbers behind the name with which a body begins, if three stand there.
+/// The colour of the three numbers after the name with which a body begins, if three stand there.
 fn shares_in(body: &[u8]) -> Option<Shares> {
     let mut words = between(body, NAME, body.len()).split(|octet| *octet == b',');
     let red = share_of(words.next()?)?;
@@ -48,7 +48,7 @@ fn shares_in(body: &[u8]) -> Option<Shares> {
     }
 }
 
-/// The classic colour of the number behind the name with which a body begins, if one stands there.
+/// The classic colour of the number after the name with which a body begins, if one stands there.
 fn classic_in(body: &[u8]) -> Option<Shares> {
     let asked = share_of(between(body, NAME, body.len()))?;
     for (number, red, green, blue, _) in &CLASSIC {
@@ -80,7 +80,7 @@ pub(crate) fn asked_by_shares(body: &[u8]) -> Option<(&'static str, Shares)> {
     Some((tag, shares_in(body)?))
 }
 
-/// The colour that a body asks for behind characters, which is a classic one or has three numbers.
+/// The colour that a body asks for after characters, which is a classic one or has three numbers.
 pub(crate) fn asked_behind_characters(body: &[u8]) -> Option<Shares> {
     if !is_named(body, "cb") {
         return None;
@@ -123,7 +123,7 @@ fn name_of(number: u8) -> &'static str {
     "black"
 }
 
-/// Says which tag is nearest to a colour, and behind that where this tag counts. A monochrome sign has lit and dark pixels.
+/// Says which tag is nearest to a colour, and after that where this tag counts. A monochrome sign has lit and dark pixels.
 pub(crate) fn write_nearest<'a>(
     text: &mut String,
     sign: &Sign,

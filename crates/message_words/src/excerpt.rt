@@ -30,7 +30,7 @@ fn shown_at(message: &[u8], at: usize) -> (char, usize) {
     }
 }
 
-/// The octets of a message that are shown and whether more stand behind them, if each of these is shown as itself. All are looked at,
+/// The octets of a message that are shown and whether more stand after them, if each of these is shown as itself. All are looked at,
 /// several at once.
 #[inline(always)]
 pub(crate) fn plain_line(message: &[u8]) -> Option<(&[u8], bool)>
@@ -93,7 +93,7 @@ fn write_line(
     Ok(before)
 }
 
-/// Writes a caret behind so many characters.
+/// Writes a caret after so many characters.
 fn write_caret(text: &mut String, before: usize) -> Result<(), AllocError> {
     for _ in 0..before {
         text.push(' ')?;

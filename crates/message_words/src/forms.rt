@@ -66,13 +66,13 @@ pub(crate) fn found(table: &[(&'static str, &'static str)], body: &[u8]) -> Opti
 }
 
 /// How the tag is written whose name begins a body, if signs of this profile take it.
-pub(crate) fn form_of(body: &[u8]) -> Option<&'static str> {
+pub fn form_of(body: &[u8]) -> Option<&'static str> {
     found(&TAKEN, body)
 }
 
 /// What the tag is for whose name begins a body, if this profile leaves it out. The names of a field and a graphic are one letter,
-/// behind which a number or a comma stands, or nothing.
-pub(crate) fn left_out(body: &[u8]) -> Option<&'static str> {
+/// after which a number or a comma stands, or nothing.
+pub fn left_out(body: &[u8]) -> Option<&'static str> {
     let is_numbered = match body.get(1) {
         Some(octet) => octet.is_ascii_digit() || *octet == b',',
         None => true,
@@ -85,7 +85,7 @@ pub(crate) fn left_out(body: &[u8]) -> Option<&'static str> {
     found(table, body)
 }
 
-/// What stands behind the first octets.
+/// What stands after the first octets.
 fn behind(octets: &[u8], count: usize) -> &[u8] {
     between(octets, count, octets.len())
 }
@@ -107,7 +107,7 @@ fn is_near(octets: &[u8], name: &[u8]) -> bool {
 }
 
 /// How many letters and slashes a body begins with.
-fn count_of_letters(body: &[u8]) -> usize {
+pub fn letters_at_front(body: &[u8]) -> usize {
     let mut count: usize = 0;
     for octet in body {
         if !octet.is_ascii_alphabetic() && *octet != b'/' {
@@ -119,8 +119,8 @@ fn count_of_letters(body: &[u8]) -> usize {
 }
 
 /// The name of a tag that signs take and that is nearest to the letters with which a body begins, if one is but one letter off.
-pub(crate) fn nearest(body: &[u8]) -> Option<&'static str> {
-    let letters = between(body, 0, count_of_letters(body));
+pub fn nearest(body: &[u8]) -> Option<&'static str> {
+    let letters = between(body, 0, letters_at_front(body));
     if letters.len() < 2 {
         return None;
     }

@@ -95,6 +95,11 @@ pub(crate) fn known_of(character: char) -> Named {
     }
 }
 
+/// What is written for a character in ASCII, or a question mark if nothing is.
+pub fn plain_of(character: char) -> &'static str {
+    known_of(character).plain
+}
+
 /// A word for a tag, and the tag that does it.
 const MEANT: [(&str, &str); 36] = [
     ("n1", "[nl]"),
@@ -135,8 +140,8 @@ const MEANT: [(&str, &str); 36] = [
     ("char", "[hc41]"),
 ];
 
-/// The tag that a word for one means, with its brackets. What stands behind a word doesn't count.
-pub(crate) fn meant(body: &[u8]) -> Option<&'static str> {
+/// The tag that a word for one means, with its brackets. What stands after a word doesn't count.
+pub fn meant(body: &[u8]) -> Option<&'static str> {
     if body.eq_ignore_ascii_case(b"n") {
         return Some("[nl]");
     }

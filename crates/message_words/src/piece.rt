@@ -15,7 +15,7 @@ pub(crate) enum Item<'a> {
     Tag(&'a [u8]),
 }
 
-/// The item at an offset and the offset behind it, if one is spelled there.
+/// The item at an offset and the offset after it, if one is spelled there.
 pub(crate) fn item_at(message: &[u8], at: usize) -> Option<(Item<'_>, usize)> {
     if at >= message.len() {
         return None;
@@ -101,7 +101,7 @@ fn first_piece(octets: &[u8]) -> Option<(Piece<'_>, usize)> {
     }
 }
 
-/// The longest piece at an offset and the offset behind it, if one is spelled there.
+/// The longest piece at an offset and the offset after it, if one is spelled there.
 pub(crate) fn piece_at(message: &[u8], at: usize) -> Option<(Piece<'_>, usize)> {
     let (piece, len) = first_piece(message.get(at..)?)?;
     Some((piece, at.saturating_add(len)))

@@ -4,7 +4,7 @@ use multi_tag::Tag;
 use sign_font::Sign;
 use std::alloc::{AllocError, Global};
 
-/// Pixels of a sign, by columns and rows, which are counted from 0: the first ones, and those behind the last.
+/// Pixels of a sign, by columns and rows, which are counted from 0: the first ones, and those after the last.
 #[derive(Clone, Copy)]
 struct Area {
     left: u32,
@@ -95,7 +95,7 @@ impl Plain {
         1u16.checked_shl(u32::from(shown)).unwrap_or(0)
     }
 
-    /// Begins an area behind another one on its page.
+    /// Begins an area after another one on its page.
     fn begin(&mut self, area: Area) -> Result<(), AllocError> {
         if self.is_begun {
             self.areas.push(self.area)?;

@@ -58,7 +58,7 @@ pub(crate) fn sentence_of(
     Ok(text)
 }
 
-/// Octets one behind the other. The error says that memory was refused.
+/// Octets one after the other. The error says that memory was refused.
 pub(crate) fn joined(alloc: Global, parts: &[&[u8]]) -> Result<Vec<u8>, AllocError> {
     let mut octets = Vec::new(alloc);
     for part in parts {

@@ -44,7 +44,7 @@ struct Look {
 /// Characters without a tag between them, or one that is written by its number.
 #[derive(Clone, Copy)]
 pub(crate) struct Run {
-    /// The octet where they begin, and the octet behind them.
+    /// The octet where they begin, and the octet after them.
     pub(crate) from: usize,
     end: usize,
     look: Look,
@@ -74,7 +74,7 @@ impl Run {
 }
 
 impl Look {
-    /// What is in force behind a tag.
+    /// What is in force after a tag.
     fn behind(self, sign: &Sign, tag: Tag) -> Look {
         let defaults = sign.defaults();
         match tag {
@@ -167,7 +167,7 @@ pub(crate) struct Sight<'a> {
     alloc: Global,
     sign: &'a Sign,
     message: &'a [u8],
-    /// What is in force behind the items so far.
+    /// What is in force after the items so far.
     look: Look,
     /// The first runs of its characters.
     pub(crate) runs: Vec<Run>,
@@ -255,7 +255,7 @@ impl<'a> Sight<'a> {
         PageColours::new(self.alloc, self.sign, &mut checked, page, moment)?.octets(self.alloc)
     }
 
-    /// The message with one tag before a run and another behind it.
+    /// The message with one tag before a run and another after it.
     fn with_tags(&self, run: Run, before: &str, behind: &str) -> Result<Vec<u8>, AllocError> {
         let message = self.message;
         joined(
@@ -332,7 +332,7 @@ impl<'a> Sight<'a> {
         Ok(!self.are_alike(self.message, &without, run.look.page)?)
     }
 
-    /// Whether what stands behind a run covers all of it.
+    /// Whether what stands after a run covers all of it.
     pub(crate) fn is_covered(&self, run: Run) -> Result<bool, AllocError> {
         let (dark, lit) = (self.coloured(run, "[cf0]")?, self.coloured(run, "[cf1]")?);
         self.are_alike(&dark, &lit, run.look.page)

@@ -1,17 +1,17 @@
-//! What is in force behind some items of a message, as far as words tell it.
+//! What is in force after some items of a message, as far as words tell it.
 
 use crate::piece::{Piece, piece_at};
 use multi_tag::{PageJust, Tag};
 use sign_font::Sign;
 
-/// What is in force behind some items.
+/// What is in force after some items.
 #[derive(Clone, Copy)]
 pub(crate) struct Standing {
     /// The pages so far, the present one with them.
     pub(crate) pages: u32,
     /// Where the present area begins.
     pub(crate) area: usize,
-    /// Where the present line begins, and the word at its end: behind the last space of the line, or where the line begins.
+    /// Where the present line begins, and the word at its end: after the last space of the line, or where the line begins.
     pub(crate) line: usize,
     pub(crate) word: usize,
     /// The number of the font.
@@ -73,14 +73,14 @@ impl Standing {
         self.segment = 0;
     }
 
-    /// Begins an area behind an offset.
+    /// Begins an area after an offset.
     fn begin_area(&mut self, behind: usize) {
         self.begin_line(behind);
         self.area = behind;
         self.group = 0;
     }
 
-    /// Goes behind characters that begin at an offset, with the offset behind the last space of them.
+    /// Goes past characters that begin at an offset, with the offset after the last space of them.
     fn pass_characters(&mut self, at: usize, word: Option<usize>) {
         if self.page_just > self.group {
             self.begin_line(at);
@@ -90,7 +90,7 @@ impl Standing {
         self.word = word.unwrap_or(self.word);
     }
 
-    /// Goes behind characters that aren't written by their numbers.
+    /// Goes past characters that aren't written by their numbers.
     fn pass_text(&mut self, text: &[u8], at: usize) {
         let mut word = None;
         let mut next = at;
@@ -103,13 +103,13 @@ impl Standing {
         self.pass_characters(at, word);
     }
 
-    /// Goes behind the end of a line.
+    /// Goes past the end of a line.
     fn pass_break(&mut self, behind: usize) {
         self.begin_line(behind);
         self.group = self.page_just;
     }
 
-    /// Goes behind a tag that stands from one offset to another.
+    /// Goes past a tag that stands from one offset to another.
     fn pass_tag(&mut self, sign: &Sign, tag: Tag, at: usize, behind: usize) {
         match tag {
             Tag::NewPage => {
@@ -154,7 +154,7 @@ impl Standing {
     }
 }
 
-/// What is in force behind the items of a message, or of its front.
+/// What is in force after the items of a message, or of its front.
 pub(crate) fn standing_behind(sign: &Sign, message: &[u8]) -> Standing {
     let mut standing = Standing::new(sign);
     let mut at = 0;

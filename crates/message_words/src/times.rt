@@ -18,7 +18,7 @@ impl Times {
         Times::of_tag(sign, None, None)
     }
 
-    /// The times behind a tag that sets them.
+    /// The times after a tag that sets them.
     pub(crate) fn of_tag(sign: &Sign, on: Option<u8>, off: Option<u8>) -> Times {
         let defaults = sign.defaults();
         Times {
@@ -33,7 +33,7 @@ impl Times {
 pub struct PageTimes {
     /// Those of the pages before the first tag that sets them.
     usual: Times,
-    /// The page with the first such tag, counted from 0, and the times behind it.
+    /// The page with the first such tag, counted from 0, and the times after it.
     first: Option<(u8, Times)>,
     /// The same of the further ones, of which there are few.
     further: Vec<(u8, Times)>,

@@ -5,14 +5,14 @@ const MOST: usize = 4;
 
 /// A character in UTF-8.
 #[derive(Clone, Copy)]
-pub(crate) struct Encoded {
-    pub(crate) character: char,
+pub struct Encoded {
+    pub character: char,
     /// How many octets it is written in, 1 to 4.
-    pub(crate) count: usize,
+    pub count: usize,
 }
 
 /// The character that begins at an offset, if one does.
-pub(crate) fn encoded_at(message: &[u8], at: usize) -> Option<Encoded> {
+pub fn encoded_at(message: &[u8], at: usize) -> Option<Encoded> {
     for count in 1..=MOST {
         let octets = message.get(at..at.saturating_add(count))?;
         if let Ok(text) = str::from_utf8(octets) {

@@ -61,7 +61,7 @@ struct Reading<'a> {
     times_at: usize,
     times: Times,
     line_just: u8,
-    /// The octet of the space that is the last character of the line so far, if it is one, behind another character.
+    /// The octet of the space that is the last character of the line so far, if it is one, after another character.
     space: Option<usize>,
     /// Whether the line has a character that is no space.
     is_begun: bool,
@@ -287,7 +287,7 @@ impl<'a> Reading<'a> {
         }
     }
 
-    /// Passes the tag with which the last octets of the message begin, and behind which these stand. On these pages nothing is lit.
+    /// Passes the tag with which the last octets of the message begin, and after which these stand. On these pages nothing is lit.
     #[inline(always)]
     fn pass_tag(
         &mut self,
@@ -344,7 +344,7 @@ impl<'a> Reading<'a> {
         }
     }
 
-    /// Passes what begins with a bracket: a tag, or a doubled bracket. It gives what stands behind it. On these pages nothing is lit.
+    /// Passes what begins with a bracket: a tag, or a doubled bracket. It gives what stands after it. On these pages nothing is lit.
     #[inline(always)]
     fn pass_bracket(&mut self, rest: &'a [u8], dark: &[u8]) -> Result<&'a [u8], AllocError>
         requires { 1 ≤ length rest.now }
@@ -360,7 +360,7 @@ impl<'a> Reading<'a> {
     }
 
     /// Passes the octet with which the last octets of the message begin, and those up to the next opening bracket. It gives what stands
-    /// behind them.
+    /// after them.
     #[inline(always)]
     fn pass_run(&mut self, rest: &'a [u8]) -> &'a [u8]
         requires { 1 ≤ length rest.now }
@@ -479,8 +479,9 @@ impl<'a> Reading<'a> {
 
 /// The warnings on a message that a sign accepts (own): a text longer than the message table takes, an off time with one page, a page that
 /// is shown for less than half a second or on which nothing is lit, a space at the end of a line that moves it, a font with a version that
-/// isn't asked for, a colour of characters on a monochrome sign, and text that can't be seen. What the sign made of the message is handed in. The warning on a text that is too long for the
-/// message table stands at the first octet too many. The error says that memory was refused.
+/// isn't asked for, a colour of characters on a monochrome sign, and text that can't be seen. What the sign made of the message is handed
+/// in. The warning on a text that is too long for the message table stands at the first octet too many. The error says that memory was
+/// refused.
 pub fn warnings_on(
     alloc: Global,
     sign: &Sign,

@@ -8,7 +8,7 @@ use std::alloc::{AllocError, Global};
 use std::fmt;
 use std::fmt::{Display, Formatter, Write};
 
-/// What tells that more octets of a message stand behind those that are shown (own).
+/// What tells that more octets of a message stand after those that are shown (own).
 pub const MORE: &str = " ..";
 
 /// The first octets of a message, for a line: each as itself, or as `?` if it isn't a sign or a space of ASCII (own). Written by
@@ -17,7 +17,7 @@ pub const MORE: &str = " ..";
 pub struct MessageLine<'a>(pub &'a [u8]);
 
 impl<'a> MessageLine<'a> {
-    /// The octets that are shown and whether more stand behind them, which [`MORE`] tells, if each is shown as it is.
+    /// The octets that are shown and whether more stand after them, which [`MORE`] tells, if each is shown as it is.
     #[inline(always)]
     pub fn as_plain(&self) -> Option<(&'a [u8], bool)>
         ensures shown { IfSome result (λ (front, more). (front.now ≡ take 76 self.now.0.now) × (more ≡ nat_lt 76 (length self.now.0.now))) }
@@ -33,8 +33,8 @@ impl Display for MessageLine<'_> {
     }
 }
 
-/// Why a message is refused (own): lines with the message, a caret under the octet where it is refused, the reason with its numbers, and an
-/// empty line. Written by `Display`, which takes memory.
+/// Why a message is refused (own): lines with the message, a caret under the octet where it is refused, and the reason with its numbers.
+/// Written by `Display`, which takes memory.
 #[derive(Clone, Copy)]
 pub struct Refusal<'a> {
     /// Where memory comes from.
@@ -76,8 +76,7 @@ impl Display for Refusal<'_> {
         let Ok(words) = self.words() else {
             return Err(fmt::Error);
         };
-        // an empty line stands behind each explanation
-        write!(f, "{words}\n\n")
+        writeln!(f, "{words}")
     }
 }
 

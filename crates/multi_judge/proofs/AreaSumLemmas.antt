@@ -2,7 +2,7 @@
 use Rattle.multi_judge.proofs.Common.{◌≡◌, ℕ, ◌<◌, ◌≤◌, Bool, true, false, not, ◌&&◌, ◌||◌, ◌==◌, List, [], ◌∷◌, ◌++◌, refl, sym, ap, ◌∙◌, arith, rules, Option, Some, None, nat_lt, list_any, after_last, or_parts, cases_eq, cases_lt, eq-eqb, le-ltb, lt-ltb, ne_eqb, cases_Bool, false≢true, le-leb, lt-leb, All-head, All-weaker, page_number, largest, Off, Spot, is_glyph, is_break, area_of, in_group, line_before, line_fits, area_fits, too_big, clashes, conflicts, page_number_known, largest_most, largest_push, push_ind, filter_none, own_group, in_group_other, filled, IsFilledOn, Area, Group, group_sum, area_sum, area_sum_in, line_sum, Split, split_sum, IsMost, group_room, ltb-false, leb-false, leb-true, goes_back, group_goes_back, break_put, ReachesGroup}
 use Rattle.multi_judge.proofs.LineSumLemmas.{present_push}
 
--- no item of an area is in a group behind the one with the largest justification
+-- no item of an area is in a group after the one with the largest justification
 pub group_behind : (just : ℕ) (area : List Spot) → largest (λ (t : Spot). page_number t.at.page_just) area < just → in_group just area ≡ []
 group_behind just area less = search (rules, All-weaker, filter_none, largest_most, ne_eqb)
 
@@ -118,7 +118,7 @@ module _ {page height : ℕ} {old : Area} {most : ℕ} {reached : Bool} {new : A
   pub reached_line : (width most : ℕ) → IsMost width old.group.line most → IsMost width new.group.line most
   reached_line width most is = search (rules, cases_Bool, cases_lt, false≢true, leb-true)
 
--- a group behind the present one has no line yet
+-- a group after the present one has no line yet
 pub nothing_yet : (old group : List Spot) (just width : ℕ) → in_group just old ≡ filled (Some width) group → (a : Area) → a ≡ area_sum old → a.present < just
     → ◌≡◌ {A = Option Split} None (split_sum (after_last is_break (filled (Some width) group)))
 nothing_yet old group just width before a e later = first_of (search (rules, before, group_behind), grind (arith, before, group_behind))

@@ -21,20 +21,20 @@ pub use Rattle.multi_meaning.specs.Address.{Spot, is_glyph, is_break, area_of, i
 unfoldable pub use Rattle.multi_meaning.specs.Address.{spots, standing}
 pub use Rattle.multi_meaning.specs.Filling.{filled, CutAt, is_space, soft_break, cut_at_last, longer, dropped}
 pub use Rattle.multi_meaning.specs.Fit.{line_fits, fit}
-pub use Rattle.multi_meaning.specs.kept.Fits.{area_fits, FitsWithout, room_for}
+pub use Rattle.multi_meaning.specs.internal.Fits.{area_fits, FitsWithout, room_for}
 pub use Rattle.multi_meaning.specs.Laid.{too_big, laid_items, laid_item}
-pub use Rattle.multi_meaning.specs.kept.Places.{laid}
+pub use Rattle.multi_meaning.specs.internal.Places.{laid}
 pub use Rattle.multi_meaning.specs.Line.{char_gap, glyph_width, width_of, height_of, average, bearers, line_height, line_spacing, line_gap, given_gap}
 pub use Rattle.multi_meaning.specs.Meaning.{Meaning, Does, Shows, is_new_page, meaning, begins_area}
-pub use Rattle.multi_meaning.specs.kept.Bounds.{has_place}
+pub use Rattle.multi_meaning.specs.internal.Bounds.{has_place}
 pub use Rattle.multi_meaning.specs.Offence.{clashes, conflicts, offence, first_code, character_cases, goes_back}
-pub use Rattle.multi_meaning.specs.kept.Fine.{never_big, unsized_offence}
+pub use Rattle.multi_meaning.specs.internal.Fine.{never_big, unsized_offence}
 unfoldable pub use Rattle.multi_meaning.specs.Offence.{offence_by}
 pub use Rattle.multi_meaning.specs.Times.{Times, cycle, ended_times, times_at}
 pub use Rattle.multi_meaning.specs.Verdict.{pages_of, Accepted, IsCycle, IsVerdict, Refused, broken, of_first, verdict}
 pub use Rattle.multi_meaning.specs.Words.{largest, some_after, each_after, successive}
 pub use Rattle.multi_meaning.specs.declared.fault.SyntaxError.{SyntaxError}
-pub use Rattle.multi_meaning.specs.kept.Present.{IsFilledOn, IsPlacing, ended_lines, present_area, standing_behind}
+pub use Rattle.multi_meaning.specs.internal.Present.{IsFilledOn, IsPlacing, ended_lines, present_area, standing_behind}
 pub use Rattle.multi_tag.proofs.JustLemmas.{page_number_known, line_number_known}
 pub use Rattle.multi_tag.specs.Just.{page_number, line_number}
 pub use Rattle.multi_tag.specs.declared.just.LineJust.{LineJust}
@@ -51,17 +51,17 @@ pub use Rattle.sign_font.specs.Text.{width_in, HasWidth, AreWidthsOf, width_numb
 pub use Rattle.sign_font.specs.declared.font.FontInfo.{FontInfo}
 pub use Rattle.sign_font.specs.declared.parts.LineFill.{LineFill}
 pub use Rattle.sign_font.specs.declared.parts.LineFill.TheVariants.{Off, Words}
-pub use Rattle.multi_judge.specs.Adding.{PutsCharacter, AddsCharacter, character_of, AddsBreak, ReachesGroup}
-pub use Rattle.multi_judge.specs.FillSums.{Order, order_of, split_sum, EndsLine, order_sum, FillsGroup, parts_sum}
-pub use Rattle.multi_judge.specs.FilledRun.{IsFilledRun, even_line, longer_line, with_run, with_run_behind, with_word, with_text, GoesOnBehind, split_by}
-pub use Rattle.multi_judge.specs.FilledState.{IsFilledOf, begins_line, IsFilledFor, IsFilledReady, IsOrderedBy}
-pub use Rattle.multi_judge.specs.Judging.{ReadSoFar, IsAt, IsBehind, entry_in}
-pub use Rattle.multi_judge.specs.PassState.{IsPassOf, IsPassReady, fill_of}
-pub use Rattle.multi_judge.specs.Passed.{IsCellPut, IsItemJudged, IsItemPassed, JudgesCell, PutsCell, next_group}
-pub use Rattle.multi_judge.specs.Run.{FitsBefore, gap_here, is_within, lengthened_line, kept_height, kept_width, IsBehindCharacter, kept_fits, IsRun, lengthened, lengthened_area, lengthened_by, line_in_force, IsBehindOne, IsRunPassed, IsOpen}
-pub use Rattle.multi_judge.specs.State.{IsMost, group_room, segment_room, AreaFits, IsJudged, IsLimited, IsSmall, IsStateOf, attributes_of, IsReady, IsUnfilledOf, IsSimple, JudgesTag}
-pub use Rattle.multi_judge.specs.Sums.{Character, counted, held, group_sum, area_sum, area_sum_in, line_sum, IsCharacter, IsBreak, segment_sum, width_before, height_before, ended_sum}
-pub use Rattle.multi_judge.specs.Table.{counted_line, TableLines, split_lines, line_entry, table_of, column_in, IsOrdered, group_lines}
+pub use Rattle.multi_judge.specs.internal.Adding.{PutsCharacter, AddsCharacter, character_of, AddsBreak, ReachesGroup}
+pub use Rattle.multi_judge.specs.internal.FillSums.{Order, order_of, split_sum, EndsLine, order_sum, FillsGroup, parts_sum}
+pub use Rattle.multi_judge.specs.internal.FilledRun.{IsFilledRun, even_line, longer_line, with_run, with_run_behind, with_word, with_text, GoesOnBehind, split_by}
+pub use Rattle.multi_judge.specs.internal.FilledState.{IsFilledOf, begins_line, IsFilledFor, IsFilledReady, IsOrderedBy}
+pub use Rattle.multi_judge.specs.internal.Judging.{ReadSoFar, IsAt, IsBehind, entry_in}
+pub use Rattle.multi_judge.specs.internal.PassState.{IsPassOf, IsPassReady, fill_of}
+pub use Rattle.multi_judge.specs.internal.Passed.{IsCellPut, IsItemJudged, IsItemPassed, JudgesCell, PutsCell, next_group}
+pub use Rattle.multi_judge.specs.internal.Run.{FitsBefore, gap_here, is_within, lengthened_line, kept_height, kept_width, IsBehindCharacter, kept_fits, IsRun, lengthened, lengthened_area, lengthened_by, line_in_force, IsBehindOne, IsRunPassed, IsOpen}
+pub use Rattle.multi_judge.specs.internal.State.{IsMost, group_room, segment_room, AreaFits, IsJudged, IsLimited, IsSmall, IsStateOf, attributes_of, start_in, IsReady, IsUnfilledOf, IsSimple, JudgesTag}
+pub use Rattle.multi_judge.specs.internal.Sums.{Character, counted, held, group_sum, area_sum, area_sum_in, line_sum, IsCharacter, IsBreak, segment_sum, width_before, height_before, ended_sum}
+pub use Rattle.multi_judge.specs.internal.Table.{counted_line, TableLines, split_lines, line_entry, table_of, column_in, IsOrdered, group_lines}
 pub use Rattle.multi_judge.specs.declared.area.Area.{Area}
 pub use Rattle.multi_judge.specs.declared.area.Group.{Group}
 pub use Rattle.multi_judge.specs.declared.attributes.Attributes.{Attributes}
@@ -79,10 +79,10 @@ pub use Rattle.multi_meaning.proofs.StepsLemmas.{items_steps_push, steps_ended, 
 pub use Rattle.multi_token.specs.Run.{entry_of, look_steps, IsNoSpace, IsLastSpace, taken}
 pub use Rattle.sign_font.specs.Advance.{AreAdvances}
 pub use Rattle.multi_meaning.specs.Codes.{code_of}
-pub use Rattle.multi_judge.specs.Text.{IsLastSpaceOf}
+pub use Rattle.multi_judge.specs.internal.Text.{IsLastSpaceOf}
 pub use Rattle.multi_token.specs.declared.source.Space.{Space}
 pub use Rattle.multi_token.proofs.RunLemmas.{get_behind, get_front, advance, taken_more}
-pub use Rattle.multi_judge.specs.KnownItem.{ends_line}
+pub use Rattle.multi_judge.specs.internal.KnownItem.{ends_line}
 pub use Rattle.multi_judge.specs.contracts.table.CountedLineDefault.TheImpl.{is_default-value}
 pub use Rattle.std.proofs.lemmas.Result.{err_from_is_err_and}
 pub use Rattle.multi_meaning.specs.declared.fault.SyntaxError.TheVariants.{TagConflict}

@@ -30,14 +30,14 @@ split_word line s character glyphs is w apart split more o grows =
     let grown = grows c.behind s behind is (ap (λ (p : Split). p.behind) (sym same)) away in
     (λ i. let p : Split = record { before = (sym same i).before; font = (sym same i).font; behind = grown i } in Some p) ∙ sym (split_if line s (Some c) w found)
 
--- a segment is as wide as what stands behind its first character, or wider
+-- a segment is as wide as what stands after its first character, or wider
 wider : (x : Spot) (line : List Spot) → width_of line ≤ width_of (x ∷ line)
 wider x line = grind (arith, common_steps, sum_by-append)
 
 segment_behind : (just : ℕ) (x : Spot) (line : List Spot) → width_of (segment just line) ≤ width_of (segment just (x ∷ line))
 segment_behind just x line = search (rules, wider)
 
--- what stands behind the front of a line that fits fits too
+-- what stands after the front of a line that fits fits too
 part_fits : (width : ℕ) (front line : List Spot) → line_fits width (front ++ line) ≡ true → line_fits width line ≡ true
 part_fits width [] line h = h
 part_fits width (x ∷ front) line h =
@@ -51,11 +51,11 @@ part_fits width (x ∷ front) line h =
 abbrev pub with_line : Group → Line → Group
 with_line group line = record group { line = line }
 
--- what stands behind a list that ends a line
+-- what stands after a list that ends a line
 pub line_behind : (front line : List Spot) → after_last is_break front ≡ [] → AllPass is_glyph line → after_last is_break (front ++ line) ≡ line
 line_behind front line none glyphs = search (rules, Cut, after_last_is, cut_with)
 
--- the sums with another line behind the same list
+-- the sums with another line after the same list
 pub lined_anew : (front line other : List Spot) → after_last is_break front ≡ [] → AllPass is_glyph line → AllPass is_glyph other → (self : Group) → self ≡ group_sum (front ++ line)
     → (l : Line) → l ≡ line_sum other → with_line self l ≡ group_sum (front ++ other)
 lined_anew front line other none glyphs others self e l is = search (rules, relined)
@@ -182,7 +182,7 @@ module _ {width : ℕ} {group : List Spot} {s : Spot} {character : Character} {s
           none_before width new.line (ap (λ (g : Group). g.line) all ∙ ap line_sum empty),
         )
 
-    -- the line is broken at its last space: what stands before it is ended, and what stands behind it fits, since the whole line did
+    -- the line is broken at its last space: what stands before it is ended, and what stands after it fits, since the whole line did
     pub breaks_there : nat_le grown.part.width most ≡ false → is_space s ≡ false → (parts : Split) → Some parts ≡ split_sum open' → (new : Group)
         → ((g : List Spot) (t : Spot) → All IsPlacing g → with_line self parts.before ≡ group_sum g → IsBreak t None parts.font → new ≡ group_sum (g ++ t ∷ [])) → (next : Line)
         → ((l : List Spot) (t : Spot) → AllPass is_glyph l → IsCharacter t character → parts.behind ≡ line_sum l → list_any (clashes t) l ≡ false → next ≡ line_sum (l ++ t ∷ []))

@@ -1,7 +1,7 @@
--- What is kept behind one more tag, where lines are filled.
+-- What is kept after one more tag, where lines are filled.
 use Rattle.multi_judge.proofs.Common.{order_of, inl, inr, nat_lt, ◌≡◌, ℕ, ◌≤◌, ◌<◌, ◌^◌, true, false, List, [], ◌∷◌, ◌++◌, Option, Some, None, Result, Ok, Err, refl, sym, ap, subst, ◌∙◌, arith, append-nil, ◌&&◌, rules, Bool, cond, not, ◌||◌, ◌==◌, after_last, list_any, cases_eq, le-leb, Tag, NewPage, NewLine, Rect, page_number, LineFill, Off, Words, SignData, CellData, cell_in, cell_numbered, SyntaxError, Break, Spot, Standing, in_area, in_group, is_break, spots, standing, Glyph, area_of, group_of, filled, is_space, line_fits, area_fits, too_big, laid_items, Meaning, Does, Shows, conflicts, offence, clashes, first_code, never_big, unsized_offence, present_area, largest, in_group_other, own_group, placing_group, area_placing, nothing_fits, largest_laid, are_laid, offence-break, no_conflict, standing_push, present_area-new, present_area-placing, offence-character, largest_push, SizedCell, page_number_known, area_sum, IsSmall, IsCharacter, line_sum, Area, Pass, State, IsFilledOf, begins_line, order_sum, split_sum, EndsLine, AreaFits, IsJudged, IsPassOf, IsFilledOn, IsPlacing, All, IsLimited, IsStateOf, attributes_of, Split, Character, Line, Attributes, is_within, FitsBefore, Limits, filled_break, offends_as_laid, laid_tag, fits_next, after_last_push, code_of, groups_laid, same_fill}
 use Rattle.multi_judge.proofs.Sums.{area_stays, cell_found, cell_missing, no_back, empty_area, both_fit, no_clash, present_glyphs}
-use Rattle.multi_meaning.specs.kept.FillOpen.{AllOpenFit}
+use Rattle.multi_meaning.specs.internal.FillOpen.{AllOpenFit}
 use Rattle.multi_judge.proofs.LimitLemmas.{limited_none, area_told, open_told, groups_fit_before}
 use Rattle.multi_judge.proofs.FilledStateLemmas.{area_with, conflicts_by, doesn't_fit, goes_behind, offends_by, offends_without, present_is, shown, no_clash_filled}
 
@@ -109,7 +109,7 @@ module _ (sign : SignData) (items : List Meaning) (kept : Pass) (of : IsFilledOf
   own : in_group (page_number nl.at.page_just) (present_area sign behind) ≡ in_group (page_number nl.at.page_just) (present_area sign items) ++ nl ∷ []
   own = ap (in_group (page_number nl.at.page_just)) area_is ∙ own_group (page_number nl.at.page_just) (present_area sign items) nl refl
 
-  -- nothing stands on the line behind it
+  -- nothing stands on the line after it
   ends : IsFilledOf sign behind (record { state = state; split = None; order = 0 })
   ends =
       let page = page_number nl.at.page_just in
@@ -127,7 +127,7 @@ abbrev pub IsTagJudged : Bool → SignData → List Meaning → Meaning → Resu
 IsTagJudged words sign items item (Ok done) pass = (offence sign.line_fill sign items item ≡ None) × IsPassOf words sign pass (items ++ item ∷ [])
 IsTagJudged words sign items item (Err error) pass = offence sign.line_fill sign items item ≡ Some (code_of error)
 
--- what is kept behind a tag that is judged behind the items as they are laid out
+-- what is kept after a tag that is judged after the items as they are laid out
 module _ (sign : SignData) (items : List Meaning) (kept : Pass) (of : IsFilledOf sign items kept) where
   abbrev laid : List Meaning
   laid = laid_items Words sign items items
@@ -211,7 +211,7 @@ module _ (sign : SignData) (items : List Meaning) (kept : Pass) (of : IsFilledOf
         → IsCharacter (shown sign items number cell found) character
     shown_character cell found width character just spacing wide font = search (rules, attributes_here)
 
-    -- what `Area::fill_character` says of the area and the split behind it, by its page justification and the width of its rectangle
+    -- what `Area::fill_character` says of the area and the split after it, by its page justification and the width of its rectangle
     abbrev pub Fills : Character → Bool → Area → Option Split → Option Line → ℕ → ℕ → Type 0
     Fills character space area' split' ended just width = FillsArea just width kept.state.area kept.split character space area' split' ended
 

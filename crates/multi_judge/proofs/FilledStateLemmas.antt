@@ -1,4 +1,4 @@
--- What is kept of the items of a string as they are laid out, behind one more character.
+-- What is kept of the items of a string as they are laid out, after one more character.
 use Rattle.multi_judge.proofs.Common.{nat_lt, ◌≡◌, ℕ, ◌+◌, Bool, false, List, [], ◌∷◌, ◌++◌, length, Option, Some, None, refl, sym, ap, subst, ◌∙◌, arith, append_assoc, append-nil, rules, not, ◌&&◌, ◌||◌, ◌==◌, zero, suc, after_last, list_any, All, eq-eqb, le-ltb, or_parts, list_any-append, LineFill, SignData, CellData, cell_numbered, font_numbered, Glyph, Standing, in_area, spots, standing, Spot, area_of, group_of, in_group, is_break, too_big, laid_items, Meaning, Shows, present_area, standing_behind, IsFilledOn, IsPlacing, cycle, ended_times, pages_of, are_laid, largest_laid, standing_push, each_after_push, push_ind, some_after_push, after_last_is, cut, largest_push, page_number, line_number, Words, area_fits, line_fits, clashes, conflicts, first_code, offence, offence_by, largest, CutAt, filled, open_line, open_line_is, Area, Limits, State, IsStateOf, attributes_of, area_sum, line_sum, Order, order_sum, laid, filled_on, same_width, too_big_laid, spots_more, character_cases, soft_break, broken_parts, parts, parts_off, IfSome, ◌≤◌, any_largest, cases_eq, cases_lt, ne_eqb, false≢true, lt-ltb, inl, inr, split_sum, parts_sum, cut_at_last, is_space, is_cut, option_map, common_steps, IsOrderedBy}
 use Rattle.multi_judge.proofs.Sums.{cycle-stays, conflicts_kept, no_back, in_order, line_clashes}
 use Rattle.std.proofs.Math.Bool.{or_comm}
@@ -17,7 +17,7 @@ module _ (setting : LineFill) (sign : SignData) where
           → (more : List Meaning) → all ≡ (some ++ x ∷ []) ++ more → ended_times sign (laid_items setting sign all (some ++ x ∷ [])) ≡ ended_times sign (some ++ x ∷ [])
       step some x ih more is = search (rules, append_assoc, are_laid, each_after_push, standing_push, some_after_push)
 
-  -- the state of the laid items behind one more character, from its area alone
+  -- the state of the laid items after one more character, from its area alone
   module _ (items : List Meaning) (number : ℕ) (cell : CellData) (found : cell_numbered (standing sign items).font number ≡ Some cell) where
     abbrev more : List Meaning
     more = items ++ Shows number ∷ []
@@ -147,7 +147,7 @@ end_ordered front line =
     ] in
     (least, λ some. grind (arith, list_any-append parts front line, some))
 
--- and so are those behind its last space
+-- and so are those after its last space
 behind_ordered : (front line : List Spot) (o : Option (CutAt Spot)) → cut_at_last is_space line ≡ o → IfSome (option_map parts_sum o) (λ s. IsOrderedBy (order_sum (front ++ line)) s.behind)
 behind_ordered front line None found = tt
 behind_ordered front line (Some c) found =

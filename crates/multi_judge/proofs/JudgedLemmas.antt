@@ -1,5 +1,5 @@
 -- What is judged of tags and of characters, by the state.
-use Rattle.multi_judge.proofs.Common.{ℕ, ◌+◌, ◌≤◌, Option, Some, None, arith, rules, ◌≡◌, true, false, cond, List, [], ◌∷◌, ◌++◌, refl, sym, ap, ◌∙◌, append-nil, not, ◌==◌, nat_lt, count_by, cons_option, option_map, unwrap_or, option_map_or, cases_Bool, eqb-true, sum_by-append, Tag, Back, NewLine, NewPage, Rect, Off, too_big, SizedCell, SignData, CellData, FontData, cell_in, cell_numbered, font_numbered, FontInfo, Cover, Glyph, spots, standing, Meaning, Shows, Does, is_new_page, conflicts, never_big, offence, unsized_offence, offence_by, present_area, standing_behind, cycle, ended_times, times_at, pages_of, offence-undefined, offence-character, standing_push, present_area-nothing, present_area-cover, present_area-new, some_after_push, none_mapped, Area, area_sum, begins_line, Attributes, Limits, State, IsReady, IsSmall, IsStateOf, attributes_of, find, option_and_then, same_Some, sum_by_push, Font, info_of, sized, default_line_just, default_page_just, whole_sign, is_inside, offence-page, offence-rectangle, offence-font, offence-no_font, IsSimple, common_steps}
+use Rattle.multi_judge.proofs.Common.{ℕ, ◌+◌, ◌≤◌, Option, Some, None, arith, rules, ◌≡◌, true, false, cond, List, [], ◌∷◌, ◌++◌, refl, sym, ap, ◌∙◌, append-nil, not, ◌==◌, nat_lt, count_by, cons_option, option_map, unwrap_or, option_map_or, cases_Bool, eqb-true, sum_by-append, Tag, Back, NewLine, NewPage, Rect, Off, too_big, SizedCell, SignData, CellData, FontData, cell_in, cell_numbered, font_numbered, FontInfo, Cover, Glyph, spots, standing, Meaning, Shows, Does, is_new_page, conflicts, never_big, offence, unsized_offence, offence_by, present_area, standing_behind, cycle, ended_times, times_at, pages_of, offence-undefined, offence-character, standing_push, present_area-nothing, present_area-cover, present_area-new, some_after_push, none_mapped, Area, area_sum, begins_line, Attributes, Limits, State, IsReady, IsSmall, IsStateOf, attributes_of, start_in, find, option_and_then, same_Some, sum_by_push, Font, info_of, sized, whole_sign, is_inside, offence-page, offence-rectangle, offence-font, offence-no_font, IsSimple, common_steps}
 use Rattle.multi_tag.specs.declared.tag.FontPick.{FontPick}
 
 -- ---- pages and times
@@ -38,7 +38,7 @@ some_mapped f o y e = search (rules, same_Some)
 
 -- ---- one more item that begins no page
 
--- the state behind an item that begins no page, from what it makes of the values in force and of the present area
+-- the state after an item that begins no page, from what it makes of the values in force and of the present area
 pub state-same_page : (sign : SignData) (items : List Meaning) (state new : State) (x : Meaning) → IsStateOf sign items state → is_new_page x ≡ false
     → new.pages ≡ state.pages → new.cycle ≡ state.cycle
     → new.attributes ≡ attributes_of (standing_behind sign (standing sign items) x)
@@ -48,7 +48,7 @@ pub state-same_page : (sign : SignData) (items : List Meaning) (state new : Stat
 state-same_page sign items state new x st same pages times attributes area font small =
     search (rules, cycle-stays, pages_of-push, standing_push)
 
--- a tag behind which no line begins leaves the present area
+-- a tag after which no line begins leaves the present area
 pub area_stays : (sign : SignData) (items : List Meaning) (tag : Tag) → begins_line tag ≡ false → present_area sign (items ++ Does tag ∷ []) ≡ present_area sign items
 area_stays sign items NewPage e = cc
 area_stays sign items (NewLine gap) e = cc
@@ -103,24 +103,7 @@ module _ (sign : SignData) (items : List Meaning) (state : State) (st : IsStateO
 
 -- the state before the first item
 pub state-start : (sign : SignData) (info : FontInfo) (area : Area) (limits : Limits) → option_map info_of (font_numbered sign sign.defaults.font) ≡ Some info → area ≡ area_sum [] → IsSmall (whole_sign sign)
-    → IsStateOf sign [] (record {
-      pages = 1;
-      cycle = 0;
-      attributes = record {
-        font = info;
-        line_just = default_line_just sign.defaults;
-        page_just = default_page_just sign.defaults;
-        spacing = None;
-        fore = sign.defaults.fore;
-        back = sign.defaults.back;
-        on = sign.defaults.page_on;
-        off = sign.defaults.page_off;
-        flash = None;
-        rectangle = whole_sign sign;
-      };
-      area = area;
-      limits = limits;
-    })
+    → IsStateOf sign [] (record { pages = 1; cycle = 0; attributes = start_in sign info; area = area; limits = limits })
 unfolding standing spots
 state-start sign info area limits is sum small = search (rules, found_again)
 

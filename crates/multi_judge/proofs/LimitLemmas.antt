@@ -1,4 +1,4 @@
--- What fits behind one more character, where what was before it fits: only the present segment and the present group can be too much.
+-- What fits after one more character, where what was before it fits: only the present segment and the present group can be too much.
 use Rattle.multi_judge.proofs.Common.{◌==◌, ◌≡◌, ℕ, ◌≤◌, Bool, true, List, [], ◌∷◌, ◌++◌, refl, ap, arith, rules, inl, inr, false, cond, not, Option, Some, None, sym, subst, ◌∙◌, nat_le, if◌then◌else◌, All, AllPass, list_any, and_from, and_parts, cases_eq, eq-eqb, ne_eqb, false≢true, le-leb, nat_tests, All-head, All-push, line_number, page_number, le_test, nothing_fits, Off, SignData, cell_in, Spot, in_group, spots, standing, Standing, area_of, is_glyph, line_before, area_fits, fit, line_fits, Meaning, Does, Shows, offence, clashes, conflicts, IsPlacing, present_area, some_after, largest, smaller_fits, each_just, area_placing, in_group_other, area_fits_always, too_big, largest_most, largest_push, line_number_known, page_number_known, SizedCell, NewLine, Area, Line, group_room, AreaFits, IsLimited, IsMost, IsStateOf, segment_room, FitsBefore, kept_height, lengthened_line, IsBehindCharacter, is_within, kept_fits, area_sum, line_sum, ◌^◌, ◌<◌, IsSmall, Group, State, Attributes, AddsCharacter, character_of, FitsWithout, room_for, room_end, room_middle, room_start, lines_fit_always, AddsBreak}
 use Rattle.multi_judge.proofs.Sums.{group_known, kept_width_is, present_known, segment_other, in_order, no_character, fits_break, fits_character, group_of_own, no_clash, present_line, cell_found, state-limits}
 use Rattle.multi_meaning.specs.declared.attributes.Rectangle.{Rectangle}
@@ -44,7 +44,7 @@ module _ (area : List Spot) (a : Area) (e : a ≡ area_sum area) (height : ℕ) 
   pub group_room_fits : 2 ≤ a.present → a.present ≤ 4 → GroupsFitBefore height a → nat_le (kept_height a.group) (group_room a height) ≡ kept_fits_height height a
   group_room_fits low high = told_of (kept_height a.group) a.top a.middle height a.present a.present refl low (omega (arith, high)) high middle_none
 
--- ---- behind items of which none offends
+-- ---- after items of which none offends
 
 module _ (sign : SignData) (items : List Meaning) (none : some_after (offence Off sign) items ≡ []) where
   -- what an item here joins fits without it
@@ -116,11 +116,11 @@ higher_told before s a most small is e present without room =
     let placing = All-push IsPlacing (area_of s before) s (area_placing before s) is in
     search (rules, area_told, groups_fit_before, in_group_other, most, present, small)
 
--- what stands behind one more character
+-- what stands after one more character
 pub behind_added : (state new : State) (cell_width : ℕ) → AddsCharacter state cell_width new → IsBehindCharacter new
 behind_added state new cell_width added = subst IsBehindCharacter (sym added.same) (record { group = added.behind.0; line = added.behind.1 })
 
--- one more item with a place is put behind items whose state this is, and doesn't conflict: whether it offends is told by the limits that
+-- one more item with a place is put after items whose state this is, and doesn't conflict: whether it offends is told by the limits that
 -- are kept then
 module _ (sign : SignData) (items : List Meaning) (state : State) (st : IsStateOf sign items state) (new : State) (same : new ≡ record state { area = new.area; limits = new.limits }) where
   abbrev at : Standing

@@ -19,7 +19,7 @@ largest_glyph f line s h g =
     ∙ largest_push f line s
     ∙ ap (λ l. max (largest f l) (f s)) (sym (bearers_glyphs line h))
 
--- no character of a line is in a segment behind the one with the largest justification
+-- no character of a line is in a segment after the one with the largest justification
 pub segment_behind : (just : ℕ) (line : List Spot) → largest (λ (t : Spot). line_number t.at.line_just) line < just → segment just line ≡ []
 segment_behind just line less = search (rules, All-weaker, and_right, filter_none, largest_most, ne_eqb)
 
@@ -185,10 +185,10 @@ module _ (group : List Spot) (placing : All IsPlacing group) (sums : Group) (e :
 pub all_glyphs : (before : List Spot) (x : Spot) (behind : List Spot) → AllPass is_glyph before → is_glyph x ≡ true → AllPass is_glyph behind → AllPass is_glyph (before ++ x ∷ behind)
 all_glyphs before x behind h e k = All-append (λ x. is_glyph x ≡ true) before (x ∷ behind) h (All-cons (λ x. is_glyph x ≡ true) x behind e k)
 
--- nothing stands behind what ends a line
+-- nothing stands after what ends a line
 pub none_behind : (group : List Spot) (b : Spot) → is_break b ≡ true → after_last is_break (group ++ b ∷ []) ≡ []
 none_behind group b e = first_of (search (rules, Cut, after_last_is, cut, cut_if, cut_push), grind (arith, Cut, after_last_is, cut, cut_if, cut_push))
 
--- a group whose present line is empty, with characters behind it
+-- a group whose present line is empty, with characters after it
 pub relined : (front line : List Spot) → after_last is_break front ≡ [] → AllPass is_glyph line → ◌≡◌ {A = Group} (record (group_sum front) { line = line_sum line }) (group_sum (front ++ line))
 relined front line none glyphs = search (rules, Cut, after_last_is, cut, cut_sums, cut_with, sums_are)

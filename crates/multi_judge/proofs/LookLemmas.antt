@@ -1,4 +1,4 @@
--- What stands behind the items so far, read and looked up for its steps.
+-- What stands after the items so far, read and looked up for its steps.
 use Rattle.multi_judge.proofs.Common.{◌≡◌, ℕ, ◌+◌, ◌*◌, ◌^◌, ◌<◌, ◌≤◌, List, length, slice_get, Option, Some, None, refl, ap, ◌∙◌, arith, option_map, Meaning, SignData, FontData, ReadSoFar, IsAt, entry_in, Counted, charged, slice_index, get_or_from_slice_get, entry_of, look_steps, AreAdvances, width_numbered, items_bounds, rules, Entry}
 
 -- what stands at an offset, looked up in the table of a font
@@ -22,7 +22,7 @@ so_far_few {sign} {octets} r =
 pub added : (source new : Counted) (k : ℕ) → new ≡ charged source k → source.steps + k < 2 ^ 64 → new.steps ≡ source.steps + k
 added source new k is small = search rules
 
--- what stands behind the items so far is read and looked up last
+-- what stands after the items so far is read and looked up last
 pub looked_at : {sign : SignData} {octets : List ℕ} {at steps : ℕ} {IsKept : List Meaning → Type 0} (r : ReadSoFar sign octets at steps IsKept) → length octets < 2 ^ 32 → (font : FontData) (next : Option Entry) (old new : Counted) (k : ℕ)
     → old.octets ≡ octets → next ≡ option_map (entry_in font) (slice_get old.octets at) → new ≡ charged old k → old.steps + k ≡ steps + look_steps (length octets) at
     → IsAt sign octets at font next IsKept new

@@ -18,7 +18,7 @@ pub tag_unsized : (words : Bool) (sign : SignData) (kept : Pass) (ms : List Mean
     → unsized_offence sign (laid_items (fill_of words) sign ms ms) (Does tag) ≡ None
 tag_unsized words sign kept items of tag fine = search (rules, laid_plain, offends_as_laid, unsized_if)
 
--- one that is judged behind the items as they are laid out, and begins a line
+-- one that is judged after the items as they are laid out, and begins a line
 pub tag_begun : (words : Bool) (sign : SignData) (items : List Meaning) (old : Pass) (tag : Tag) (result : Result (Unit {0}) SyntaxError) (state : State) → IsPassOf words sign old items → (IsLimited old.state → IsLimited state)
     → JudgesTag sign old.state (Does tag) result state → words ≡ true → begins_line tag ≡ true → IsTagJudged words sign items (Does tag) result (record { state = state; split = None; order = 0 })
 tag_begun words sign items old tag result state of limited judged w begins = search (rules, false≢true, judged-begins)
@@ -114,7 +114,7 @@ order_with : (order : ℕ) (just : LineJust) (n : ℕ) (goes_on : Bool) → n �
     → (goes_on ≡ true → order_of order ≡ order_sum line) → (goes_on ≡ false → line ≡ []) → order_of n ≡ order_sum (line ++ s ∷ [])
 order_with order just n goes_on is line s at apart goes stops = grind (arith, common_steps, eq-eqb, cases_lt, lt-ltb, line_clashes, line_number_known, or_parts, order_more)
 
--- the parts of the present line, which are none where the group behind the present one is reached
+-- the parts of the present line, which are none where the group after the present one is reached
 abbrev pub IsSplitReached : Pass → Option Split → Type 0
 IsSplitReached kept split =
     (kept.state.area.present < page_number kept.state.attributes.page_just → split ≡ None) × (page_number kept.state.attributes.page_just ≤ kept.state.area.present → split ≡ kept.split)

@@ -4,7 +4,7 @@ use Rattle.multi_judge.proofs.Sums.{part_none, present_push, in_order, group_of_
 use Rattle.multi_meaning.specs.declared.place.Place.{Place}
 use Rattle.multi_meaning.specs.Place.{place_of, start, spread}
 use Rattle.std.specs.Prelude.{◌^◌}
-use Rattle.multi_judge.specs.Table.{width_in}
+use Rattle.multi_judge.specs.internal.Table.{width_in}
 
 -- ONE MORE LINE
 

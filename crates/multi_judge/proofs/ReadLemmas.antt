@@ -1,4 +1,4 @@
--- What is kept behind one more character, where lines are filled.
+-- What is kept after one more character, where lines are filled.
 use Rattle.multi_judge.proofs.Common.{offence-undefined, order_of, ◌≡◌, ℕ, ◌+◌, ◌-◌, ◌≤◌, Bool, true, false, ◌==◌, inl, inr, List, [], ◌∷◌, ◌++◌, length, Option, Some, None, refl, sym, ap, subst, ◌∙◌, arith, append-nil, rules, ◌<◌, drop, map, slice_get, append_assoc, Result, Ok, not, after_last, list_any, All, and_parts, cases_eq, eq-eqb, eqb-true, false≢true, cases_lt, ne_eqb, length-append, length-drop, All-push, All-nil, sum_by-append, page_number, LineFill, Words, Off, SizedCell, SignData, CellData, cell_in, cell_numbered, Spot, Standing, group_of, in_group, is_break, spots, standing, filled, area_fits, line_fits, laid_items, Meaning, Shows, meaning, clashes, conflicts, first_code, offence, unsized_offence, present_area, in_group_other, own_group, are_laid, standing_push, present_area-placing, none_more, Token, IsTokenOf, cycle, ended_times, pages_of, SyntaxError, some_after, Area, Attributes, Split, Pass, Character, Limits, Line, IsFilledFor, IsFilledOf, IsFilledReady, EndsLine, order_sum, split_sum, IsLimited, IsStateOf, attributes_of, IsJudged, IsCharacter, area_sum, State, ReadSoFar, IsCellPut, IsPassOf, drop_all, map-append, slice_get-get_or, spaces_is, Item, IsItem, spelling, spell, HasNoItem, IsReading, item_of, Accepted, IsCycle, IsVerdict, Refused, item_refused, offences_push, one_verdict, IsPassReady, fill_of, line_in_force, placing_group, line_sum, in_area_placing, item_steps, items_steps, judging_steps, rest_steps, items_steps_push, steps_ended, steps_offending}
 use Rattle.multi_judge.proofs.Sums.{both_fit, group_behind, no_back, no_clash, present_push, shown_free, ready, cell_missing}
 use Rattle.std.proofs.lemmas.List.Concat.{flat_map-append}
@@ -132,7 +132,7 @@ spell_push items item = flat_map-append spelling items (item ∷ []) ∙ ap (λ 
 
 module _ (sign : SignData) (octets : List ℕ) (at steps : ℕ) (IsKept : List Meaning → Type 0) (r : ReadSoFar sign octets at steps IsKept) where
   module _ (t : Token) (here : t.at ≡ at) (stands : IsTokenOf octets t) where
-    -- the string is the items so far, this one, and what stands behind it
+    -- the string is the items so far, this one, and what stands after it
     spelled : octets ≡ spell r.items ++ (spelling (item_of octets t) ++ drop (t.at + t.len) octets)
     spelled = r.front ∙ ap (λ l. spell r.items ++ l) (ap (λ n. drop n octets) (sym here) ∙ stands.begins.1)
 
@@ -150,7 +150,7 @@ module _ (sign : SignData) (octets : List ℕ) (at steps : ℕ) (IsKept : List M
         → ReadSoFar sign octets (at + t.len) (steps + item_steps (length octets - at) (item_of octets t)) IsNow
     read_more IsNow fine is = search (rules, each_more, length-append, map-append, offences_push, regrouped, spell_push, spelling_some, taken_more)
 
-    -- the item offends, whatever stands behind it
+    -- the item offends, whatever stands after it
     pub refused_here : (code : ℕ) → offence sign.line_fill sign (map meaning r.items) (meaning (item_of octets t)) ≡ Some code → IsVerdict sign octets (Refused code at)
     refused_here code offends =
         grind (arith, item_refused sign r.items (item_of octets t) code (drop (t.at + t.len) octets) each_more r.none offends, regrouped, one_verdict sign octets (Refused code at))

@@ -113,7 +113,7 @@ module _ (line : List Spot) (s : Spot) (c : Character) (glyphs : AllPass is_glyp
 abbrev pub longer_by : State → ℕ → SizedCell → Area
 longer_by state gap cell = lengthened_area (held ((line_in_force state).part.width + (gap + cell.width))) (counted ((line_in_force state).part.count + 1)) state.area
 
--- what stands behind a character still does when its segment is lengthened
+-- what stands after a character still does when its segment is lengthened
 pub behind_stays : (state : State) (width count : ℕ) → IsBehindCharacter state → IsBehindCharacter (lengthened width count state)
 behind_stays state width count b = search (rules)
 

@@ -83,7 +83,7 @@ lengthened_none spots state e = search rules
 pub behind_first : {x y : ℕ} {xs ys : List ℕ} → x ∷ xs ≡ y ∷ ys → xs ≡ ys
 behind_first e = cc
 
--- what holds as far as a run has come, by the offset, its pixels and the number of its characters, holds behind a text of which each octet
+-- what holds as far as a run has come, by the offset, its pixels and the number of its characters, holds after a text of which each octet
 -- takes it one further
 module _ (octets : List ℕ) (gap limit : ℕ) (width_of : ℕ → Option ℕ) (IsOne : ℕ → Type 0) (P : ℕ → ℕ → ℕ → Type 0)
     (step : (at pixels count octet wide : ℕ) → P at pixels count → slice_get octets at ≡ Some octet → IsOne octet → Some wide ≡ width_of octet → IsWithin 1 64 wide → pixels + (gap + wide) ≤ limit
@@ -109,14 +109,14 @@ module _ (octets : List ℕ) (gap limit : ℕ) (width_of : ℕ → Option ℕ) (
       rw (← to, ← wider, ← number) all
   text_taken _ rest _ at pixels count p e ones each within fits = absurd (cc)
 
-  -- so it does behind the front of what stands there
+  -- so it does after the front of what stands there
   pub front_taken : (at len pixels : ℕ) → P at 0 0 → at + len ≤ length octets → All IsOne (take len (drop at octets)) → HasWidth width_of gap (take len (drop at octets)) pixels → pixels ≤ limit → P (at + len) pixels len
   front_taken at len pixels p within ones has narrow =
       let size = length-take-le len (drop at octets) (rw (length-drop at octets) (omega (arith, within))) in
       let all = text_taken (take len (drop at octets)) (drop len (drop at octets)) has.widths at 0 0 p (sym (take-append-drop len (drop at octets))) ones has.each has.within (omega (arith, narrow, has.together)) in
       search rules
 
--- the front of what stands behind a character with the same attributes
+-- the front of what stands after a character with the same attributes
 module _ (sign : SignData) (octets : List ℕ) (at steps : ℕ) (state : State) (r : ReadSoFar sign octets at steps (IsUnfilledOf sign state)) (short : length octets < 2 ^ 63) (gap : ℕ) (run : IsRun state gap) where
   pub front_read : (len pixels : ℕ) → at + len ≤ length octets → All IsPlain (take len (drop at octets)) → HasWidth (width_in sign state.attributes.font.number) gap (take len (drop at octets)) pixels
       → (line_in_force state).part.width + pixels ≤ state.limits.width

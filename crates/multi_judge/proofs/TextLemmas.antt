@@ -1,4 +1,4 @@
--- Text behind a character with the same attributes, where lines are filled: what is kept with it.
+-- Text after a character with the same attributes, where lines are filled: what is kept with it.
 use Rattle.multi_judge.proofs.Common.{counted, State, held, lengthened_by, map, meaning, laid_items, Words, present_area, Spot, CutAt, parts_sum, ◌≡◌, ◌==◌, ℕ, ◌+◌, ◌-◌, ◌*◌, ◌^◌, ◌<◌, ◌≤◌, true, List, length, take, drop, slice_get, Option, Some, None, refl, sym, ap, subst, ◌∙◌, arith, rules, All, option_map, cases_eq, ne_eqb, IsPlain, SignData, IsWithin, HasWidth, width_in, Attributes, Split, Pass, Line, IsFilledRun, with_run_behind, with_word, with_text, IsFilledFor, ReadSoFar, IsRun, line_in_force, length-take-le, length-drop, IsLastSpaceOf, take-take, drop-drop, drop-take, All-take, All-drop, IsNoSpace, Space, slice_get_within, get_behind, get_front}
 use Rattle.std.proofs.Common.{length-take}
 use Rattle.multi_judge.proofs.RunReadLemmas.{one_goes_on, one_taken, run_some, split_one, with_one, front_taken, lengthened_more, lengthened_none}
@@ -23,7 +23,7 @@ module _ (sign : SignData) (octets : List ℕ) (at steps : ℕ) (kept : Pass) (r
   abbrev with_parts : ℕ → ℕ → Option Split → Pass
   with_parts pixels count split = record { state = lengthened_by pixels count kept.state; split = split; order = kept.order }
 
-  -- characters of a kind, and what is known of the parts around the last space behind so many of them
+  -- characters of a kind, and what is known of the parts around the last space after so many of them
   module _ (IsOne : ℕ → Type 0) (IsSplit : ℕ → ℕ → Option Split → Type 0) (is_plain : (octet : ℕ) → IsOne octet → IsPlain octet) (first : IsSplit 0 0 kept.split)
       (next : (pixels count octet wide : ℕ) (split : Option Split) → IsOne octet → IsSplit pixels count split
       → IsSplit (pixels + (gap + wide)) (count + 1) (split_one kept.state.attributes gap wide (octet == 32) (line_in_force (lengthened_by pixels count kept.state)) split)) where

@@ -1,15 +1,2 @@
-pub mod Adding
-pub mod FillSums
-pub mod FilledRun
-pub mod FilledState
-pub mod Judging
-pub mod KnownItem
-pub mod PassState
-pub mod Passed
-pub mod Placing
 pub mod Prelude
-pub mod Run
-pub mod State
-pub mod Sums
-pub mod Table
-pub mod Text
+pub mod internal

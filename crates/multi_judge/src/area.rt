@@ -1,4 +1,4 @@
-//! The running sums of an area's groups: heights saturate, and a count begins again behind its last number.
+//! The running sums of an area's groups: heights saturate, and a count begins again after its last number.
 
 ghost use Rattle.std.specs.Prelude.{◌≡◌, ◌≢◌, ℕ, ◌+◌, ◌^◌, ◌<◌, ◌≤◌, ◌&&◌, true, false, List, [], ◌∷◌, ◌++◌};
 ghost use Rattle.multi_judge.specs.Prelude.{All, page_number, Spot, in_group, lines_of, held, height_of, IsPlacing, ReachesGroup, kept_height, group_sum, area_sum, IsBreak};
@@ -23,10 +23,10 @@ pub struct Group {
     /// How many lines an `nl` ended.
     pub(crate) ended: u64,
     /// The height of the ended lines in pixels, with the gaps between them.
-    pub closed: u64,
+    pub closed: u32,
     /// The last ended line, if there is one.
     pub(crate) last: Option<Ended>,
-    /// What stands behind the last `nl`.
+    /// What stands after the last `nl`.
     pub line: Line,
 }
 
@@ -37,8 +37,8 @@ pub struct Area {
     /// The page justification of the present group, the largest so far; 0 where there is no item.
     pub present: u8,
     /// The heights in pixels of the groups before the present one.
-    pub(crate) top: u64,
-    pub(crate) middle: u64,
+    pub(crate) top: u32,
+    pub(crate) middle: u32,
     /// The present group.
     pub group: Group,
 }
@@ -68,7 +68,7 @@ impl Group {
 
     /// The height of the group's lines in pixels, with the gaps between them.
     #[inline(always)]
-    pub fn height(self) -> u64
+    pub fn height(self) -> u32
         ensures sum { (group : List Spot) → All IsPlacing group → self ≡ group_sum group
             → result ≡ held (height_of (lines_of group)) }
         ensures kept { result ≡ kept_height self }
@@ -80,7 +80,7 @@ impl Group {
             Some(ended) => gap_or_average(ended.gap, ended.spacing, self.line.spacing),
             None => 0,
         };
-        let more = u64::from(gap) + u64::from(self.line.height);
+        let more = u32::from(gap) + u32::from(self.line.height);
         self.closed.saturating_add(more)
     }
 }
@@ -89,7 +89,7 @@ impl Area {
     /// Goes on to the group in force, unless it is before the present one, and works out the most that it may have then in its rectangle.
     /// The answer is whether it isn't before.
     #[inline(always)]
-    pub(crate) fn reach(&mut self, here: &Attributes, most: &mut u64) -> bool
+    pub(crate) fn reach(&mut self, here: &Attributes, most: &mut u32) -> bool
         ensures reached { ReachesGroup (page_number here.now.page_just) here.now.rectangle.height
             self.old most.old result self.new most.new }
     {

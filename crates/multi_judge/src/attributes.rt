@@ -6,9 +6,9 @@ ghost use Rattle.multi_judge.specs.Prelude.{unwrap_or, Standing, whole_sign, Doe
 use crate::terms::Terms;
 use multi_meaning::{FlashTimes, Rectangle};
 use multi_tag::{LineJust, PageJust, Tag};
-use sign_font::FontInfo;
+use sign_font::{FontInfo, Sign};
 
-/// The values in force behind the items so far (NTCIP 1203 v03, MULTI).
+/// The values in force after the items so far (NTCIP 1203 v03, MULTI).
 #[derive(Clone, Copy)]
 pub struct Attributes {
     pub font: FontInfo,
@@ -27,15 +27,15 @@ pub struct Attributes {
 }
 
 /// The whole sign.
-pub(crate) fn whole_sign(sign: &Terms<'_>) -> Rectangle
+pub(crate) fn whole_sign(sign: &Sign) -> Rectangle
     ensures is { result ≡ whole_sign sign.now }
     ensures small { IsSmall result }
 {
     Rectangle {
         left: 0,
         top: 0,
-        width: sign.bare.width(),
-        height: sign.bare.height(),
+        width: sign.width(),
+        height: sign.height(),
     }
 }
 
@@ -47,7 +47,7 @@ impl Attributes {
         self.spacing.unwrap_or(self.font.char_spacing)
     }
 
-    /// Puts the values in force behind a tag that begins nothing, places nothing and asks for no font.
+    /// Puts the values in force after a tag that begins nothing, places nothing and asks for no font.
     #[inline(always)]
     pub(crate) fn set(&mut self, sign: &Terms<'_>, tag: Tag)
         ensures set { (at : Standing) → self.old ≡ attributes_of at → IsSimple tag
@@ -55,23 +55,23 @@ impl Attributes {
         ensures rectangle { self.new.rectangle ≡ self.old.rectangle }
         ensures font { self.new.font ≡ self.old.font }
     {
-        let defaults = sign.defaults;
+        let start = &sign.start;
         match tag {
-            Tag::LineJust(just) => self.line_just = just.unwrap_or(sign.line_just),
-            Tag::PageJust(just) => self.page_just = just.unwrap_or(sign.page_just),
+            Tag::LineJust(just) => self.line_just = just.unwrap_or(start.line_just),
+            Tag::PageJust(just) => self.page_just = just.unwrap_or(start.page_just),
             Tag::CharSpacing(pixels) => self.spacing = Some(pixels),
             Tag::CharSpacingEnd => self.spacing = None,
             Tag::PageTime { on, off } => {
-                self.on = on.unwrap_or(defaults.page_on);
-                self.off = off.unwrap_or(defaults.page_off);
+                self.on = on.unwrap_or(start.on);
+                self.off = off.unwrap_or(start.off);
             }
-            Tag::Fore(colour) => self.fore = colour.unwrap_or(defaults.fore),
-            Tag::Back(colour) => self.back = colour.unwrap_or(defaults.back),
+            Tag::Fore(colour) => self.fore = colour.unwrap_or(start.fore),
+            Tag::Back(colour) => self.back = colour.unwrap_or(start.back),
             Tag::Flash { off_first, on, off } => {
                 self.flash = Some(FlashTimes {
                     off_first,
-                    on: on.unwrap_or(defaults.flash_on),
-                    off: off.unwrap_or(defaults.flash_off),
+                    on: on.unwrap_or(sign.defaults.flash_on),
+                    off: off.unwrap_or(sign.defaults.flash_off),
                 });
             }
             Tag::FlashEnd => self.flash = None,

@@ -15,7 +15,7 @@ pub(crate) struct Split {
     pub(crate) before: Line,
     /// The space's font.
     pub(crate) font: FontInfo,
-    /// The characters behind the space.
+    /// The characters after the space.
     pub(crate) behind: Line,
 }
 
@@ -31,7 +31,7 @@ impl Group {
         cell_width: u8,
         space: bool,
         split: &mut Option<Split>,
-        most: &mut u64,
+        most: &mut u32,
     ) -> Option<Line>
         requires open { IsOpenAround here.now.line_just self.old.line split.old }
         ensures sum { IsMost here.now.rectangle.width self.old.line most.old

@@ -27,7 +27,7 @@ impl KnownItem {
         matches!(self, KnownItem::Tag(Tag::NewPage))
     }
 
-    /// Whether an area begins behind the item.
+    /// Whether an area begins after the item.
     pub fn begins_area(self) -> bool
         ensures { result ≡ begins_area (meant_by self) }
     {
@@ -41,7 +41,7 @@ impl KnownItem {
         matches!(self, KnownItem::Char(_) | KnownItem::Tag(Tag::NewLine(_)))
     }
 
-    /// Whether the item only sets values that are in force behind it: a tag that puts nothing and begins nothing.
+    /// Whether the item only sets values that are in force after it: a tag that puts nothing and begins nothing.
     pub fn is_setting(self) -> bool
         ensures { result ≡ is_setting (meant_by self) }
     {

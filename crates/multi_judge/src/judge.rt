@@ -4,7 +4,6 @@ ghost use Rattle.std.specs.Prelude.{◌≡◌, ◌+◌, ◌-◌, ◌≤◌, ◌=
 ghost use Rattle.multi_judge.specs.Prelude.{charged, AreWidthsOf, Does, looks, JudgesTag, IsLimited, IsReady, IsSmall, Judges, is_inside, rectangle};
 
 use crate::area::Area;
-use crate::attributes::whole_sign;
 use crate::state::State;
 use crate::terms::Terms;
 use multi_meaning::{Rectangle, SyntaxError};
@@ -36,7 +35,7 @@ pub fn judge_tag<'a>(
             state.pages += 1;
             state.cycle += u32::from(state.attributes.on) + u32::from(state.attributes.off);
             // a new page has the whole sign
-            state.attributes.rectangle = whole_sign(sign);
+            state.attributes.rectangle = sign.start.rectangle;
             state.area = Area::default();
             Ok(())
         }

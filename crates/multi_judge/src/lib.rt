@@ -1,7 +1,7 @@
 //! What is kept of the items of a string, from the left: whether the next one offends, and where a character stands.
 //!
 //! [`Pass`] keeps the attributes in force and the running sums of the present area. By them it judges one item, or all characters
-//! behind one that only lengthen its line. [`LineTable`] has the lines of a whole area, by which [`place_at`] places a character.
+//! after one that only lengthen its line. [`LineTable`] has the lines of a whole area, by which [`place_at`] places a character.
 //! `multi_layout` reads strings with them.
 #![tactic(auto)]
 

@@ -1,7 +1,7 @@
-//! The running sums of a line's characters: widths saturate, and a count begins again behind its last number.
+//! The running sums of a line's characters: widths saturate, and a count begins again after its last number.
 
 ghost use Rattle.std.specs.Prelude.{◌≡◌, ℕ, ◌+◌, ◌^◌, ◌<◌, ◌≤◌, true, false, not, Some, List, [], ◌∷◌, ◌++◌};
-ghost use Rattle.multi_judge.specs.Prelude.{AllPass, list_any, unwrap_or, line_number, Spot, is_glyph, room_for, average, clashes, IsSameBefore, PutsCharacter, IsBehindOne, IsOpen, kept_width, IsMost, line_sum, IsCharacter, character_of};
+ghost use Rattle.multi_judge.specs.Prelude.{AllPass, list_any, unwrap_or, line_number, Spot, is_glyph, room_for, average, clashes, IsSameBefore, PutsCharacter, IsBehindOne, IsOpen, kept_width, IsMost, line_sum, IsCharacter, character_of, TellsClash};
 
 use crate::attributes::Attributes;
 
@@ -9,7 +9,7 @@ use crate::attributes::Attributes;
 #[derive(Clone, Copy, Default)]
 pub(crate) struct Segment {
     /// Their width in pixels, with the gaps between them.
-    pub(crate) width: u64,
+    pub(crate) width: u32,
     /// How many there are.
     pub(crate) count: u64,
     /// The character spacing of the last one's font, in pixels, if there is one.
@@ -23,9 +23,9 @@ pub struct Line {
     /// The line justification of the present segment, the largest so far; 0 where there is no character.
     pub(crate) present: u8,
     /// The widths in pixels of the segments before the present one.
-    pub(crate) left: u64,
-    pub(crate) centre: u64,
-    pub(crate) right: u64,
+    pub(crate) left: u32,
+    pub(crate) centre: u32,
+    pub(crate) right: u32,
     /// The present segment.
     pub(crate) part: Segment,
     /// Whether a character isn't full.
@@ -54,7 +54,7 @@ impl Line {
         let spacing = here.font.char_spacing;
         if !self.any {
             (self.present, self.left, self.centre) = (just, 0, 0);
-            self.part.width = u64::from(cell_width);
+            self.part.width = u32::from(cell_width);
             self.part.count = 1;
             self.part.last = Some(spacing);
             self.has_parts = just < 5;
@@ -78,7 +78,7 @@ impl Line {
             Some(earlier) => gap_or_average(here.spacing, earlier, spacing),
             None => 0,
         };
-        let more = u64::from(gap) + u64::from(cell_width);
+        let more = u32::from(gap) + u32::from(cell_width);
         self.part.width = self.part.width.saturating_add(more);
         self.part.count = self.part.count.wrapping_add(1);
         self.part.last = Some(spacing);
@@ -90,16 +90,15 @@ impl Line {
     /// Puts a character with these attributes, whose cell has this width in pixels, on the line, and works out the most that the present
     /// segment may have then. If it clashes, nothing changes, and the answer is false.
     #[inline(always)]
-    pub(crate) fn put(&mut self, here: &Attributes, cell_width: u8, most: &mut u64) -> bool
-        ensures apart { (line : List Spot) (s : Spot) → AllPass is_glyph line → self.old ≡ line_sum line
-            → s.at.line_just ≡ here.now.line_just → not result ≡ list_any (clashes s) line }
+    pub(crate) fn put(&mut self, here: &Attributes, cell_width: u8, most: &mut u32) -> bool
+        ensures apart { TellsClash here.now.line_just self.old (not result) }
         ensures open { (self.old.any ≡ true → IsOpen here.now.line_just self.old) → result ≡ true }
         ensures put { result ≡ true → PutsCharacter self.old (character_of here.now cell_width) self.new }
         ensures most { IsMost here.now.rectangle.width self.old most.old → IsMost here.now.rectangle.width self.new most.new }
     {
         if !self.any {
             self.add(here, cell_width);
-            *most = u64::from(here.rectangle.width);
+            *most = u32::from(here.rectangle.width);
             return true;
         }
         let just = here.line_just.number();
@@ -116,7 +115,7 @@ impl Line {
     }
 
     /// The width of the characters with a line justification, in pixels: left 2, centre 3, right 4, full 5.
-    pub(crate) fn width(&self, just: u8) -> u64
+    pub(crate) fn width(&self, just: u8) -> u32
         ensures { result ≡ kept_width just self.now }
     {
         match just {
@@ -137,10 +136,10 @@ pub(crate) fn gap_or_average(given: Option<u8>, earlier: u8, later: u8) -> u8
 }
 
 /// The most that a part may have within a length into which those before it fit: in the middle 3, at the end 4, else at the start or alone.
-pub(crate) fn room_for(just: u8, start: u64, middle: u64, length: u16) -> u64
+pub(crate) fn room_for(just: u8, start: u32, middle: u32, length: u16) -> u32
     ensures room { result ≡ room_for just start middle length }
 {
-    let length = u64::from(length);
+    let length = u32::from(length);
     if (start == 0) & (middle == 0) {
         return length;
     }

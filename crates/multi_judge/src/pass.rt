@@ -1,7 +1,7 @@
 //! One pass over a string from the left: what is kept of its items, and how each of them is judged.
 
 ghost use Rattle.std.specs.Prelude.{◌≡◌, ◌+◌, ◌^◌, false, true, List, [], OnOk};
-ghost use Rattle.multi_judge.specs.Prelude.{charged, entry_in, looks, is_bracket, Words, SignData, AreWidthsOf, laid_items, Meaning, Shows, present_area, IsFilledOf, IsFilledReady, IsFilledRun, line_in_force, IsOctet, meant_by, IsPassBehind, IsPassReady, JudgesCell, JudgesItem, PutsCell, IsStateOf};
+ghost use Rattle.multi_judge.specs.Prelude.{charged, entry_in, looks, is_bracket, Words, SignData, AreWidthsOf, InEachSign, laid_items, Meaning, Shows, present_area, IsFilledOf, IsFilledReady, IsFilledRun, line_in_force, Does, IsOctet, meant_by, IsPassBehind, IsPassReady, JudgesCell, JudgesItem, PutsCell, IsStateOf};
 
 use crate::fill::Split;
 use crate::item::KnownItem;
@@ -14,7 +14,7 @@ use multi_tag::Tag;
 use multi_token::{Entry, Source};
 use sign_font::FontCells;
 
-/// What is kept behind some items of a string.
+/// What is kept after some items of a string.
 ///
 /// Its calls take as `WORDS` whether lines are filled. Only where they are does it keep more than the state.
 #[derive(Clone, Copy)]
@@ -65,20 +65,55 @@ impl Pass {
                     None => Err(SyntaxError::CharacterNotDefined),
                 }
             }
-            KnownItem::Tag(tag) => {
-                let here = self.state.attributes.page_just;
-                let ended = match tag {
-                    Tag::NewLine(_) => Some(self.state.area.group_for(here).line),
-                    _ => None,
-                };
-                judge_tag(sign, &mut self.state, cells, source, tag)?;
-                if WORDS && matches!(tag, Tag::NewPage | Tag::NewLine(_) | Tag::Rect { .. }) {
-                    self.split = None;
-                    self.order = 0;
-                }
-                Ok(ended)
-            }
+            KnownItem::Tag(tag) => self.pass_tag::<WORDS>(sign, cells, source, tag),
         }
+    }
+
+    /// Judges what a tag says, as [`Pass::judge_item`] does.
+    #[inline(always)]
+    pub fn pass_tag<'a, const WORDS: bool>(
+        &mut self,
+        sign: &Terms<'a>,
+        cells: &mut FontCells<'a>,
+        source: &mut Source<'_>,
+        tag: Tag,
+    ) -> Result<Option<Line>, SyntaxError>
+        requires ready { IsPassReady WORDS self.old }
+        ensures judged { JudgesItem WORDS sign.now self.old (Does tag) result self.new }
+        ensures cells { AreWidthsOf sign.now self.old.state.attributes.font.number cells.old
+            → OnOk result (AreWidthsOf sign.now self.new.state.attributes.font.number cells.new) }
+        ensures steps { source.new ≡ charged source.old (looks (Does tag)) }
+    {
+        let here = self.state.attributes.page_just;
+        let ended = match tag {
+            Tag::NewLine(_) => Some(self.state.area.group_for(here).line),
+            _ => None,
+        };
+        judge_tag(sign, &mut self.state, cells, source, tag)?;
+        if WORDS && matches!(tag, Tag::NewPage | Tag::NewLine(_) | Tag::Rect { .. }) {
+            self.split = None;
+            self.order = 0;
+        }
+        Ok(ended)
+    }
+
+    /// Judges a character by its number, as [`Pass::judge_item`] does. It isn't put into its callers' code, since tags that show a
+    /// character are few.
+    #[inline(never)]
+    pub fn judge_number<'a, const WORDS: bool>(
+        &mut self,
+        sign: &Terms<'a>,
+        cells: &mut FontCells<'a>,
+        source: &mut Source<'_>,
+        number: u16,
+    ) -> Result<Option<Line>, SyntaxError>
+        requires ready { IsPassReady WORDS self.old }
+        ensures judged { JudgesItem WORDS sign.now self.old (Shows number) result self.new }
+        ensures cells { AreWidthsOf sign.now self.old.state.attributes.font.number cells.old
+            → OnOk result (AreWidthsOf sign.now self.new.state.attributes.font.number cells.new) }
+        ensures steps { source.new ≡ charged source.old (looks (Shows number)) }
+    {
+        self.judge_item::<WORDS>(sign, cells, source, KnownItem::Char(number))
     }
 
     /// Judges an octet that is no bracket as a character of the font in force, by what its table has for the octet.
@@ -91,8 +126,8 @@ impl Pass {
         requires ready { IsPassReady WORDS self.old }
         requires known { entry ≡ entry_in cells.now entry.octet }
         requires plain { is_bracket entry.octet ≡ false }
-        ensures judged { (sign : SignData) → AreWidthsOf sign self.old.state.attributes.font.number cells.now
-            → JudgesItem WORDS sign self.old (Shows entry.octet) result self.new }
+        ensures judged { InEachSign cells.now self.old.state.attributes.font.number (λ sign.
+            JudgesItem WORDS sign self.old (Shows entry.octet) result self.new) }
         ensures behind { OnOk result (IsPassBehind WORDS self.new) }
         ensures same { OnOk result (self.new.state.attributes ≡ self.old.state.attributes) }
     {

@@ -22,7 +22,7 @@ pub fn place_at(attributes: &Attributes, area: &Area, lines: &[CountedLine], wid
     let spare = attributes.rectangle.width.saturating_sub(size);
     // the part so far is no wider than the whole, nor has it more characters
     let before = (part.count.min(u64::from(line.characters)) as u16).saturating_sub(1);
-    let right = part.width.min(u64::from(size));
+    let right = u64::from(part.width.min(u32::from(size)));
     let bottom = lines.last().copied().unwrap_or_default().bottom;
     Place {
         column: u64::from(attributes.rectangle.left)
@@ -43,10 +43,10 @@ pub fn is_full(attributes: &Attributes, area: &Area, lines: &[CountedLine]) -> b
     let just = attributes.line_just.number();
     let group = area.group_for(attributes.page_just);
     let line = line_at(lines, group.ended);
-    group.line.width(just) == u64::from(line.width(just))
+    group.line.width(just) == u32::from(line.width(just))
 }
 
-/// The counted line behind so many ended ones.
+/// The counted line after so many ended ones.
 fn line_at(lines: &[CountedLine], ended: u64) -> CountedLine
     ensures line { (line : CountedLine) → slice_get lines.now ended ≡ Some line → result ≡ line }
 {

@@ -4,10 +4,10 @@ ghost use Rattle.std.specs.Prelude.{◌≡◌, ◌+◌, ◌*◌, ◌^◌, ◌≤
 ghost use Rattle.multi_judge.specs.Prelude.{IsSound, Spot, area_of, is_glyph, conflicts, AddsBreak, AddsCharacter, area_sum, IsLimited, IsStateOf, whole_times};
 
 use crate::area::Area;
-use crate::attributes::{Attributes, whole_sign};
+use crate::attributes::Attributes;
 use crate::terms::Terms;
 
-/// The running state behind some items of a string.
+/// The running state after some items of a string.
 #[derive(Clone, Copy)]
 pub struct State {
     /// The pages so far, the present one with them: 1 to the sign's limit.
@@ -23,8 +23,8 @@ pub struct State {
 /// The most that the present segment of a line and the present group of an area may have, in pixels.
 #[derive(Clone, Copy, Default)]
 pub(crate) struct Limits {
-    pub(crate) width: u64,
-    pub(crate) height: u64,
+    pub(crate) width: u32,
+    pub(crate) height: u32,
 }
 
 impl State {
@@ -35,22 +35,10 @@ impl State {
         ensures font { result.attributes.font.number ≡ sign.now.defaults.font }
         ensures sound { IsSound sign.now }
     {
-        let defaults = sign.defaults;
         State {
             pages: 1,
             cycle: 0,
-            attributes: Attributes {
-                font: sign.font,
-                line_just: sign.line_just,
-                page_just: sign.page_just,
-                spacing: None,
-                fore: defaults.fore,
-                back: defaults.back,
-                on: defaults.page_on,
-                off: defaults.page_off,
-                flash: None,
-                rectangle: whole_sign(sign),
-            },
+            attributes: sign.start,
             area: Area::default(),
             // known where there is a character, and where there is a group
             limits: Limits::default(),

@@ -1,8 +1,8 @@
 //! The counted lines of an area, as drawing needs them.
 
 ghost use Rattle.std.specs.Prelude.{◌≡◌, ℕ, ◌<◌, ◌≤◌, ◌==◌, length, List, [], ◌∷◌, ◌++◌, if◌then◌else◌};
-ghost use Rattle.multi_judge.specs.Prelude.{page_number, Spot, IsNarrow, line_sum, group_lines, line_count, line_entry, TableLines, IsOrdered, split_lines};
-ghost use Rattle.multi_judge.specs.Table.{width_in};
+ghost use Rattle.multi_judge.specs.Prelude.{page_number, Spot, IsNarrow, line_sum, group_lines, HasNoLine, HasNoLineBehind, line_count, line_entry, TableLines, IsOrdered, split_lines};
+ghost use Rattle.multi_judge.specs.internal.Table.{width_in};
 
 use crate::line::Line;
 use arrayvec::ArrayVec;
@@ -42,7 +42,7 @@ impl Model for LineTable {
 
 impl CountedLine {
     /// What is kept of a line with this height of its group down to its bottom.
-    pub fn of(line: &Line, bottom: u64) -> CountedLine
+    pub fn of(line: &Line, bottom: u32) -> CountedLine
         requires narrow { (spots : List Spot) × (line.now ≡ line_sum spots) × IsNarrow spots }
         requires low { bottom ≤ 1024 }
         ensures entry { (spots : List Spot) → line.now ≡ line_sum spots → IsNarrow spots → result ≡ line_entry spots bottom }
@@ -78,7 +78,7 @@ impl CountedLine {
 impl LineTable {
     /// A table of no line.
     pub fn new() -> LineTable
-        ensures none { (just : ℕ) → group_lines just result ≡ [] }
+        ensures none { HasNoLine result }
     {
         LineTable {
             lines: ArrayVec::new(),
@@ -89,18 +89,18 @@ impl LineTable {
 
     /// Takes all lines out.
     pub fn clear(&mut self)
-        ensures none { (just : ℕ) → group_lines just self.new ≡ [] }
+        ensures none { HasNoLine self.new }
     {
         self.lines.clear();
         self.middle = 0;
         self.bottom = 0;
     }
 
-    /// Puts a line behind those of the group with this page justification, top 2, middle 3 or bottom 4. No group behind it has a line.
+    /// Puts a line after those of the group with this page justification, top 2, middle 3 or bottom 4. No group after it has a line.
     pub fn push(&mut self, page_just: u8, line: CountedLine)
         requires known { (2 ≤ page_just) × (page_just ≤ 4) }
         requires room { line_count self.old < 128 }
-        requires last { (just : ℕ) → page_just < just → just ≤ 4 → group_lines just self.old ≡ [] }
+        requires last { HasNoLineBehind page_just self.old }
         ensures pushed { (just : ℕ) → (2 ≤ just) × (just ≤ 4) → group_lines just self.new
             ≡ (if just == page_just then group_lines just self.old ++ line ∷ [] else group_lines just self.old) }
     {

@@ -3,7 +3,7 @@ use Rattle.multi_layout.proofs.Common.{IsItemAt, Place, IfSome, IsBeside, IsRunD
 use Rattle.multi_layout.proofs.PieceLemmas.{first_begins, first_piece}
 use Rattle.multi_layout.proofs.WalkLemmas.{item_is, map_split, spell_of-append, total, within_between}
 
--- the lines of an area are those behind one of its items too
+-- the lines of an area are those after one of its items too
 counted_more : (sign : SignData) (before behind : List LaidItem) (item : LaidItem) (lines : LineTable) → begins_area (meant item) ≡ false
     → HasCounted (whole_area sign before (item ∷ behind)) lines → HasCounted (whole_area sign (before ++ item ∷ []) behind) lines
 counted_more sign before behind item lines plain counted = first_of (search (rules, append_assoc, map-append, same_area), grind (arith, append_assoc, map-append, same_area))

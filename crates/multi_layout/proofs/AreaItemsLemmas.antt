@@ -17,7 +17,7 @@ pub record SoFar (words : Bool) (sign : SignData) (octets : List ℕ) (before be
   pub placed : IsPlaced sign octets (items_of (before ++ pieces)) (items_of left) at
   pub read : IsReadOf words sign (items_of (before ++ pieces)) kept.state.area.present kept lines
 
--- where an area begins behind pieces
+-- where an area begins after pieces
 module _ (words : Bool) (sign : SignData) (kind : sign.line_fill ≡ fill_of words) (before behind : List LaidItem) (laid : map meant (before ++ behind) ≡ laid_meanings sign (items_of (before ++ behind)))
     (begins : present_area sign (map meant before) ≡ []) where
   abbrev ms : List Meaning
@@ -112,7 +112,7 @@ module _ {words : Bool} {sign : SignData} {octets : List ℕ} {before behind : L
   pub area_ended : (next : NextItem) → IsFirst (items_of so.left) (Some next) → begins_area (meant_by next.item) ≡ true → EndsArea (map meaning (items_of so.left))
   area_ended next first begins = grind (arith)
 
-  -- the table has all lines behind the last one
+  -- the table has all lines after the last one
   pub all_counted : IsSound sign → (lines' : LineTable) → EndsGroup kept.state.area lines lines' → HasCounted (laid_area words sign (map meaning (items_of done))) lines'
   all_counted sound lines' known =
       let ms = map meaning (items_of done) in

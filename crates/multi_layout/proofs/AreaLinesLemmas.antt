@@ -1,4 +1,4 @@
--- The first reading of an area from a cursor on, which goes behind the settings before the first other item; and its runs.
+-- The first reading of an area from a cursor on, which goes past the settings before the first other item; and its runs.
 use Rattle.multi_layout.proofs.Common.{IsDrawnUpTo, is_setting, IsItemAt, ◌≡◌, ℕ, Bool, true, ◌+◌, ◌-◌, ◌<◌, ◌≤◌, false, ◌⊎◌, inl, inr, slice_get, None, length, map, List, [], ◌∷◌, ◌++◌, Some, Option, refl, sym, ap, subst, ◌∙◌, arith, append-nil, ◌^◌, map-append, unwrap_or, IsPlain, spelling_some, SignData, cell_in, IsSound, standing, laid_items, EndsArea, begins_area, meaning, Shows, present_area, NextItem, Pass, State, LineTable, meant_by, fill_of, IsStateOf, width_in, unsized_if, IsBehindCharacter, lengthened_by, behind_stays, state_beside, cell_of_width, Cursor, AreaLines, IsReadOf, IsFirst, IsPlaced, items_of, laid_meanings, meant, LaidItem, spell_of, Layer, BitPlane, IsPageDrawn, IsAreaDrawn, spelling, length-append, All-nil, present_area-nothing, same_area, IsRunPassed, front_taken, lengthened_more, lengthened_none, plain_passed, EndsGroup, ReadsOn}
 use Rattle.multi_layout.proofs.AreaReadLemmas.{next_fine, read_state, step_stays}
 use Rattle.multi_layout.proofs.PieceLemmas.{read_unplaced, first_piece}
@@ -21,12 +21,12 @@ pub record IsReadFrom (words : Bool) (sign : SignData) (octets : List ℕ) (laye
   pub drawn : IsPageDrawn sign octets layer page cursor plane
   pub so : SoFar words sign octets drawn.before drawn.behind at kept lines
 
--- behind a setting before which nothing else was read the cursor stands behind it, and else where it was (own)
+-- after a setting before which nothing else was read the cursor stands after it, and else where it was (own)
 abbrev pub GoesOn : Cursor → ℕ → NextItem → State → Cursor → Type 0
 GoesOn cursor at next state cursor' =
     ((cursor.at ≡ at) × (is_setting (meant_by next.item) ≡ true) × (cursor' ≡ record { at = cursor.at + next.len; state = state })) ⊎ (cursor' ≡ cursor)
 
--- it isn't behind what was read
+-- it isn't after what was read
 pub goes_within : {cursor cursor' : Cursor} {at : ℕ} (next : NextItem) {state : State} → GoesOn cursor at next state cursor' → cursor.at ≤ at → (cursor.at ≤ cursor'.at) × (cursor'.at ≤ at + next.len)
 goes_within next goes on = grind (arith)
 
@@ -37,7 +37,7 @@ module _ {words : Bool} {sign : SignData} {octets : List ℕ} {layer : Layer} {p
   pub so_then : SoFar words sign octets r.drawn.before r.drawn.behind (at + next.len) kept' lines'
   so_then = let n = so_read r.so same next is in read_on r.so next n (at + next.len) refl plain kept' lines' (reads (items_of (r.drawn.before ++ r.so.pieces)) n.0.item r.so.read (so_next r.so next n))
 
-  -- with a setting, where nothing else was read, the cursor goes behind it
+  -- with a setting, where nothing else was read, the cursor goes past it
   pub set_before : IsSound sign → sign.line_fill ≡ fill_of words → cursor.at ≡ at → is_setting (meant_by next.item) ≡ true
       → IsReadFrom words sign octets layer page plane (record { at = cursor.at + next.len; state = kept'.state }) (at + next.len) kept' lines'
   set_before sound kind here setting =

@@ -5,7 +5,7 @@ use Rattle.multi_judge.proofs.PassedLemmas.{state_of, tag_unsized}
 use Rattle.multi_layout.proofs.FilledLemmas.{laid_narrow, laid_room}
 use Rattle.multi_judge.proofs.PlacingLemmas as steps
 use Rattle.multi_judge.specs.declared.line.Line.{Line}
-use Rattle.multi_judge.specs.FillSums.{EndsLine}
+use Rattle.multi_judge.specs.internal.FillSums.{EndsLine}
 use Rattle.multi_layout.proofs.KnownLinesLemmas.{entry_ended, known_pushed, known_unchanged, pushed_room, Pushed, behind_empty}
 
 -- WHAT IS KEPT
@@ -98,7 +98,7 @@ left_if {words} {sign} sound {items} {kept} r {item} {read} next lines' place pl
 own_group : (x : Meaning) (state : State) {ended : Option Line} {line : Line} → (has_place x ≡ false → ended ≡ None) → ended ≡ Some line → next_group state x ≡ page_number state.attributes.page_just
 own_group x state apart is = grind (arith)
 
--- an item ended this line of the present group, behind which none has a line: there is room for it, and with it the table is that of these items
+-- an item ended this line of the present group, after which none has a line: there is room for it, and with it the table is that of these items
 pub record IsLineEnded (words : Bool) (sign : SignData) (items : List Item) (lines : LineTable) (new : Pass) (line : Line) : Type 0 where
   pub just : (2 ≤ new.state.area.present) × (new.state.area.present ≤ 4)
   pub last : (just : ℕ) → new.state.area.present < just → just ≤ 4 → group_lines just lines ≡ []

@@ -1,5 +1,5 @@
--- What stands at an offset, read and looked up: how it is refused, and what is judged and read behind it, each for its steps.
-use Rattle.multi_layout.proofs.Common.{◌≡◌, ℕ, ◌+◌, ◌-◌, ◌^◌, ◌<◌, ◌≤◌, ◌*◌, inl, inr, List, [], ◌∷◌, ◌++◌, length, drop, map, slice_get, Option, Some, None, refl, sym, ap, subst, ◌∙◌, arith, Bool, slice_get_within, Counted, charged, IsPlain, SignData, SyntaxError, code_of, too_big, Meaning, Shows, meaning, offence, IsVerdict, pages_of, offence-faulty, IsTold, IsAt, at_end, Pass, IsPassOf, attributes_of, standing, cycle, ended_times}
+-- What stands at an offset, read and looked up: how it is refused, and what is judged and read after it, each for its steps.
+use Rattle.multi_layout.proofs.Common.{◌≡◌, ℕ, ◌+◌, ◌-◌, ◌^◌, ◌<◌, ◌≤◌, ◌*◌, inl, inr, List, [], ◌∷◌, ◌++◌, length, drop, map, slice_get, Option, Some, None, refl, sym, ap, subst, ◌∙◌, arith, Bool, slice_get_within, Counted, charged, IsPlain, SignData, SyntaxError, code_of, too_big, Meaning, Shows, meaning, offence, IsVerdict, pages_of, offence-faulty, IsTold, IsAt, at_end, Pass, IsPassOf, attributes_of, standing, cycle, ended_times, Result, Ok, Err}
 use Rattle.std.specs.Prelude.{option_map}
 use Rattle.std.proofs.lemmas.List.{length-drop}
 use Rattle.multi_token.specs.Run.{look_steps}
@@ -11,14 +11,16 @@ use Rattle.multi_token.proofs.PlaceLemmas.{single_token}
 use Rattle.sign_font.specs.Sign.{FontData}
 use Rattle.multi_meaning.specs.Steps.{item_steps, looks}
 use Rattle.multi_meaning.specs.Verdict.{Refused}
-use Rattle.multi_meaning.specs.kept.ItemAt.{IsFaultRead, IsBracketedRead}
+use Rattle.multi_meaning.specs.internal.ItemAt.{IsFaultRead, IsBracketedRead}
 use Rattle.multi_meaning.proofs.StepsLemmas.{item_most, rest_most}
-use Rattle.multi_layout.specs.kept.Told.{IsRefused}
-use Rattle.multi_judge.specs.Judging.{IsBehind, ReadSoFar, entry_in}
+use Rattle.multi_judge.specs.declared.line.Line.{Line}
+use Rattle.multi_layout.specs.internal.Bracketed.{IsBracketedJudged, JudgesBracketed}
+use Rattle.multi_layout.specs.internal.Told.{IsRefused}
+use Rattle.multi_judge.specs.internal.Judging.{IsBehind, ReadSoFar, entry_in}
 use Rattle.multi_judge.proofs.ReadLemmas.{nothing_read, read_more, refused_at_bracket, refused_here, steps_at_bracket, steps_at_end, steps_here, accepted_at_end, cycle_at_end, kept_pages, kept_times}
 use Rattle.multi_judge.proofs.LookLemmas.{added, looked_at, so_far_few}
 use Rattle.multi_judge.proofs.RunReadLemmas.{octet_steps}
-use Rattle.multi_judge.specs.State.{whole_times}
+use Rattle.multi_judge.specs.internal.State.{whole_times}
 use Rattle.multi_judge.proofs.FilledJudgedLemmas.{attributes_here}
 
 -- what a look tells of the octet
@@ -142,6 +144,30 @@ module _ (sign : SignData) (octets : List ℕ) (at : ℕ) (font : FontData) (ent
         steps = omega (arith, one, read, counted, steps_here sign octets at i.before IsKept i.so_far t at_is token (code_of error) is);
       }
 
+-- what begins with a bracket, read and judged in one
+module _ (sign : SignData) (octets : List ℕ) (at : ℕ) (font : FontData) (entry : Entry) (words : Bool) (pass : Pass) (source : Counted) (i : IsAt sign octets at font (Some entry) (IsPassOf words sign pass) source) (short : length octets < 2 ^ 32) {new : Pass} {judged : Counted} where
+  module _ {len : ℕ} {result : Result (Option Line) SyntaxError} (j : IsBracketedJudged words sign source at 0 len pass result new judged) where
+    item : IsBracketedRead octets at len j.means j.steps
+    item = subst (λ (os : List ℕ). IsBracketedRead os at len j.means j.steps) i.same (subst (IsBracketedRead source.octets at len j.means) (omega arith) j.item)
+
+  pub bracket_refused : (error : SyntaxError) → JudgesBracketed words sign source at pass (Err error) new judged → IsRefused sign octets (record { error = error; at = at }) judged
+  bracket_refused error (inl (steps, reads, fault)) =
+      fault_refused sign octets at font entry (IsPassOf words sign pass) source i short error steps (subst (λ (os : List ℕ). IsFaultRead os at (code_of error) steps) i.same fault) judged reads
+  bracket_refused error (inr (len, j)) =
+      item_offends sign octets at font entry (IsPassOf words sign pass) source i short len j.means j.steps (item j) j.read judged j.reads j.judges error (j.item_judged (map meaning i.so_far.items) i.so_far.is)
+
+  module _ {len : ℕ} {ended : Option Line} (j : IsBracketedJudged words sign source at 0 len pass (Ok ended) new judged) where
+    pub bracket_within : at + len ≤ length judged.octets
+    bracket_within =
+        let (fine, of, apart, on) = j.item_judged (map meaning i.so_far.items) i.so_far.is in
+        within_behind sign octets at font entry (IsPassOf words sign pass) source i short len j.means j.steps (item j) j.read judged j.reads j.judges (IsPassOf words sign new) fine of
+
+    pub bracket_behind : (font' : FontData) (next : Option Entry) (looked : Counted) → next ≡ option_map (entry_in font') (slice_get judged.octets (at + len)) → looked ≡ charged judged (look_steps (length judged.octets) (at + len))
+        → IsAt sign octets (at + len) font' next (IsPassOf words sign new) looked
+    bracket_behind font' next looked next_is step =
+        let (fine, of, apart, on) = j.item_judged (map meaning i.so_far.items) i.so_far.is in
+        item_behind sign octets at font entry (IsPassOf words sign pass) source i short len j.means j.steps (item j) j.read judged j.reads j.judges (IsPassOf words sign new) fine of font' next looked next_is step
+
 -- WHERE JUDGING BEGINS AND ENDS
 
 -- nothing is read yet, but what stands first
@@ -155,7 +181,7 @@ at_start sign octets font IsKept is first old new same fresh entry step = record
   steps = omega (arith, added old new (look_steps (length octets) 0) step (omega (arith, fresh)), fresh);
 }
 
--- the state has the pages and times of its items, and the values in force behind them
+-- the state has the pages and times of its items, and the values in force after them
 told : (words : Bool) (sign : SignData) (pass : Pass) (items : List Meaning) → IsPassOf words sign pass items
     → (pass.state.pages ≡ pages_of items) × (pass.state.cycle ≡ cycle (ended_times sign items)) × (pass.state.attributes ≡ attributes_of (standing sign items))
 told words sign pass items p = grind (arith, kept_pages, kept_times, attributes_here)

@@ -1,6 +1,6 @@
 -- A character stands beside the one before it, where both have the same attributes.
 use Rattle.multi_layout.proofs.Common.{Full, not-false, ◌*◌, ◌⊎◌, inl, inr, state-limits, area_of, IfSome, not, spelling_some, IsBeside, CountedLine, meant_by, Option, ◌≡◌, ℕ, ◌+◌, ◌-◌, ◌^◌, ◌<◌, ◌≤◌, Bool, true, false, cond, ◌==◌, List, [], ◌∷◌, ◌++◌, length, take, map, Some, None, refl, sym, ap, subst, ◌∙◌, arith, append_assoc, rules, if◌then◌else◌, count_by, option_map, unwrap_or, eq-eqb, line_number, page_number, BitPlane, SignData, CellData, cell_in, cell_numbered, Place, Glyph, Put, Spot, Standing, group_of, in_area, in_group, is_break, is_glyph, lines_of, segment, spots, standing, glyph_width, height_of, width_of, Meaning, Shows, unsized_offence, place_of, standing_push, Attributes, Cursor, NextItem, Layer, State, AreaLines, HasCounted, IsAreaDrawn, IsNextDrawn, IsRunDrawn, StandsAt, IsBetween, meant, IsBehindCharacter, lengthened_by, IsStateOf, PlacesCharacter, attributes_of, area_sum, group_lines, unsized-undefined, state_beside, conflicts, behind_added, character-accepted, character-free, slice_index_or, sum_by_push, line_before, glyph_put, own_group, filter_yes, width_push, spots_more, last_or_push, DrawsCharacter, NextStandsAt, behind_stays, average_same}
-use Rattle.multi_judge.specs.Adding.{AddsCharacter, character_of}
+use Rattle.multi_judge.specs.internal.Adding.{AddsCharacter, character_of}
 use Rattle.multi_tag.specs.declared.just.LineJust.{LineJust}
 use Rattle.sign_font.specs.Cell.{SizedCell}
 use Rattle.multi_meaning.specs.Place.{spread, start}
@@ -143,7 +143,7 @@ module _ {sign : SignData} {octets : List ℕ} {layer : Layer} {page : ℕ} {rea
       pub clash : (before : List Spot) (s : Spot) → cursor.state.area ≡ area_sum (area_of s before) → is_glyph s ≡ true → s.at.page_just ≡ cursor.state.attributes.page_just → s.at.line_just ≡ cursor.state.attributes.line_just → not free ≡ conflicts before s
       pub added : free ≡ true → AddsCharacter cursor.state width new
 
-    -- it stands at this place, and this is the state behind it
+    -- it stands at this place, and this is the state after it
     pub record IsPut (place : Place) (new : State) : Type 0 where
       pub state_is : IsStateOf sign (items ++ Shows number ∷ []) new
       pub character : IsBehindCharacter new

@@ -17,16 +17,16 @@ pub use Rattle.multi_judge.proofs.PlaceLemmas.{open_entry, ended_most, lines_clo
 pub use Rattle.multi_judge.proofs.ReadLemmas.{at_end, goes_on, pass_ready, limited_of}
 pub use Rattle.multi_judge.proofs.RunLemmas.{behind_stays, state_beside, each_group, kept_height_is, average_same}
 pub use Rattle.multi_judge.proofs.RunReadLemmas.{behind_first, cell_of_width, front_taken, lengthened_more, lengthened_none}
-pub use Rattle.multi_judge.specs.FilledState.{IsFilledOf}
-pub use Rattle.multi_judge.specs.Judging.{IsAt}
-pub use Rattle.multi_judge.specs.KnownItem.{ends_line, is_setting, meant_by, IsOctet}
-pub use Rattle.multi_judge.specs.PassState.{IsPassOf, fill_of, IsPassReady}
-pub use Rattle.multi_judge.specs.Passed.{laid_area, next_group, IsItemPassed, IsItemJudged}
-pub use Rattle.multi_judge.specs.Placing.{PlacesCharacter, TellsEnd}
-pub use Rattle.multi_judge.specs.Run.{IsBehindCharacter, lengthened_by, line_in_force, IsRunPassed, kept_height}
-pub use Rattle.multi_judge.specs.State.{IsStateOf, IsReady, attributes_of}
-pub use Rattle.multi_judge.specs.Sums.{area_sum, group_sum, line_sum}
-pub use Rattle.multi_judge.specs.Table.{group_lines, table_of, line_count, line_entry}
+pub use Rattle.multi_judge.specs.internal.FilledState.{IsFilledOf}
+pub use Rattle.multi_judge.specs.internal.Judging.{IsAt}
+pub use Rattle.multi_judge.specs.internal.KnownItem.{ends_line, is_setting, meant_by, IsOctet}
+pub use Rattle.multi_judge.specs.internal.PassState.{IsPassOf, fill_of, IsPassReady}
+pub use Rattle.multi_judge.specs.internal.Passed.{laid_area, next_group, IsItemPassed, IsItemJudged}
+pub use Rattle.multi_judge.specs.internal.Placing.{PlacesCharacter, TellsEnd}
+pub use Rattle.multi_judge.specs.internal.Run.{IsBehindCharacter, lengthened_by, line_in_force, IsRunPassed, kept_height}
+pub use Rattle.multi_judge.specs.internal.State.{IsStateOf, IsReady, attributes_of}
+pub use Rattle.multi_judge.specs.internal.Sums.{area_sum, group_sum, line_sum}
+pub use Rattle.multi_judge.specs.internal.Table.{group_lines, table_of, line_count, line_entry}
 pub use Rattle.multi_judge.specs.declared.area.Area.{Area}
 pub use Rattle.multi_judge.specs.declared.area.Group.{Group}
 pub use Rattle.multi_judge.specs.declared.attributes.Attributes.{Attributes}
@@ -47,13 +47,13 @@ pub use Rattle.multi_meaning.specs.Address.{in_area, area_of, Spot, Standing, pu
 unfoldable pub use Rattle.multi_meaning.specs.Address.{spots, standing}
 pub use Rattle.multi_meaning.specs.Codes.{code_of}
 pub use Rattle.multi_meaning.specs.Picture.{Lights, shown_colour, is_lit_at, picture, in_plane}
-unfoldable pub use Rattle.multi_meaning.specs.kept.Places.{has_colour}
+unfoldable pub use Rattle.multi_meaning.specs.internal.Places.{has_colour}
 pub use Rattle.multi_meaning.specs.Laid.{too_big, laid_spot, laid_items, laid_item, laid_of, laid_out}
 pub use Rattle.multi_meaning.specs.Line.{height_of, glyph_width, width_of}
-pub use Rattle.multi_meaning.specs.kept.Bounds.{EndsArea, has_place, BeginsPage, EndsPage}
+pub use Rattle.multi_meaning.specs.internal.Bounds.{EndsArea, has_place, BeginsPage, EndsPage}
 pub use Rattle.multi_meaning.specs.Meaning.{Meaning, begins_area, is_new_page, Does, meaning, Shows, Faulty, meanings, meaning_of_tag}
 pub use Rattle.multi_meaning.specs.Offence.{offence, first_code, conflicts}
-pub use Rattle.multi_meaning.specs.kept.Fine.{unsized_offence, IsAccepted, IsOrderly, IsFine, never_big}
+pub use Rattle.multi_meaning.specs.internal.Fine.{unsized_offence, IsAccepted, IsOrderly, IsFine, never_big}
 unfoldable pub use Rattle.multi_meaning.specs.Offence.{offence_by}
 unfoldable pub use Rattle.multi_meaning.specs.Place.{place_of}
 pub use Rattle.multi_meaning.specs.Times.{cycle, ended_times, times_at, Times, page_times, shown_within}
@@ -62,8 +62,8 @@ pub use Rattle.multi_meaning.specs.Words.{each_after, some_after}
 pub use Rattle.multi_meaning.specs.declared.fault.SyntaxError.{SyntaxError}
 pub use Rattle.multi_meaning.specs.declared.place.Place.{Place}
 pub use Rattle.multi_meaning.specs.declared.times.Shown.{Shown}
-pub use Rattle.multi_meaning.specs.kept.ItemAt.{IsFaultAt, IsItemAt}
-pub use Rattle.multi_meaning.specs.kept.Present.{present_area, IsPlacing, IsNarrowArea, ended_lines, IsNarrow, standing_behind}
+pub use Rattle.multi_meaning.specs.internal.ItemAt.{IsFaultAt, IsItemAt}
+pub use Rattle.multi_meaning.specs.internal.Present.{present_area, IsPlacing, IsNarrowArea, ended_lines, IsNarrow, standing_behind}
 pub use Rattle.multi_tag.proofs.JustLemmas.{page_number_known}
 pub use Rattle.multi_tag.specs.Just.{page_number, line_number}
 unfoldable pub use Rattle.multi_tag.specs.TagOf.{tag_of}
@@ -90,13 +90,13 @@ pub use Rattle.multi_layout.specs.Pages.{IsSized, page_count, IsDrawnFew, IsRead
 pub use Rattle.multi_layout.specs.declared.cursor.Cursor.{Cursor}
 pub use Rattle.multi_layout.specs.declared.paint.Layer.{Layer}
 pub use Rattle.multi_layout.specs.declared.read.AreaLines.{AreaLines}
-pub use Rattle.multi_layout.specs.kept.AreaDrawing.{BeginsNoArea, HasCounted, IsAreaDrawn, IsDrawnTo, IsDrawnUpTo, IsFilledBy, IsInArea, whole_area, IsPageDrawn, HasKnown, HasRoom, IsCountedBy, known_lines, ReadsArea}
-pub use Rattle.multi_layout.specs.kept.AreaReading.{IsNextRead, IsReadOf, next_steps, EndsGroup, ReadsOn, KnowsArea, KnowsOn}
-pub use Rattle.multi_layout.specs.kept.Cursors.{IsBetween, IsFirst, IsItemRead, IsRead, items_of, meant, LaidItem, spell_of, IsPlaced, laid_meanings, IsPieceFirst, pieces_of, PassesTag}
-pub use Rattle.multi_layout.specs.kept.PageDrawing.{IsFilledFew, IsPagePassed, IsPageStart, IsStartOf, IsReadTwice}
-pub use Rattle.multi_layout.specs.kept.Passing.{IsAtPage, IsOnTheWay, IsPageSkipped, IsPassing, unplaced, IsAtStart}
-pub use Rattle.multi_layout.specs.kept.RunDrawing.{DrawsNext, IsBeside, IsNextDrawn, IsRunDrawn, StandsAt, DrawsCharacter, NextStandsAt}
-pub use Rattle.multi_layout.specs.kept.Told.{IsTold, IsToldOf}
+pub use Rattle.multi_layout.specs.internal.AreaDrawing.{BeginsNoArea, HasCounted, IsAreaDrawn, IsDrawnTo, IsDrawnUpTo, IsFilledBy, IsInArea, whole_area, IsPageDrawn, HasKnown, HasRoom, IsCountedBy, known_lines, ReadsArea}
+pub use Rattle.multi_layout.specs.internal.AreaReading.{IsNextRead, IsReadOf, next_steps, EndsGroup, ReadsOn, KnowsArea, KnowsOn}
+pub use Rattle.multi_layout.specs.internal.Cursors.{IsBetween, IsFirst, IsItemRead, IsRead, items_of, meant, LaidItem, spell_of, IsPlaced, laid_meanings, IsPieceFirst, pieces_of, PassesTag}
+pub use Rattle.multi_layout.specs.internal.PageDrawing.{IsFilledFew, IsPagePassed, IsPageStart, IsStartOf, IsReadTwice}
+pub use Rattle.multi_layout.specs.internal.Passing.{IsAtPage, IsOnTheWay, IsPageSkipped, IsPassing, unplaced, IsAtStart}
+pub use Rattle.multi_layout.specs.internal.RunDrawing.{DrawsNext, IsBeside, IsNextDrawn, IsRunDrawn, StandsAt, DrawsCharacter, NextStandsAt}
+pub use Rattle.multi_layout.specs.internal.Told.{IsTold, IsToldOf}
 pub use Rattle.multi_meaning.proofs.ItemAtLemmas.{does_tag, fault_there, item_few}
 pub use Rattle.multi_judge.proofs.LimitLemmas.{limited_none, behind_added}
 pub use Rattle.multi_judge.proofs.PlacingLemmas.{plain_passed, character-accepted, character-free, order, break-accepted, break-free}

@@ -3,9 +3,9 @@ use Rattle.multi_layout.proofs.Common.{cases_Option, empty_area, largest_laid, c
 use Rattle.multi_meaning.specs.Words.{largest}
 use Rattle.multi_layout.proofs.PieceLemmas.{read_tag, read_unfilled}
 use Rattle.multi_judge.specs.declared.item.KnownItem.TheVariants as known
-use Rattle.multi_meaning.specs.kept.Places.{laid}
+use Rattle.multi_meaning.specs.internal.Places.{laid}
 use Rattle.multi_meaning.specs.Filling.{filled}
-use Rattle.multi_meaning.specs.kept.Fits.{area_fits}
+use Rattle.multi_meaning.specs.internal.Fits.{area_fits}
 use Rattle.multi_meaning.specs.Fit.{line_fits}
 use Rattle.multi_layout.proofs.DrawLemmas.{group_with}
 use Rattle.multi_layout.proofs.WalkLemmas.{map_split, meanings_split, laid_here, never_offends, state_moved}
@@ -112,7 +112,7 @@ module _ (sign : SignData) (items rest : List Meaning) where
 pub laid_group_is : (sign : SignData) (items : List Meaning) (j : ℕ) → in_group j (present_area sign (laid_items Words sign items items)) ≡ filled (Some (standing sign items).rectangle.width) (in_group j (present_area sign items))
 laid_group_is sign items j = grind (arith, are_laid Words sign items items [] (sym (append-nil items)), groups sign items [] j, append-nil items)
 
--- the groups of the present area, laid out among the items so far, are those among all, where the area ends behind them
+-- the groups of the present area, laid out among the items so far, are those among all, where the area ends after them
 same_groups : (sign : SignData) (items rest : List Meaning) → EndsArea rest → (j : ℕ)
     → in_group j (in_area (standing sign items).area (spots sign (laid_items Words sign (items ++ rest) (items ++ rest)))) ≡ in_group j (present_area sign (laid_items Words sign items items))
 same_groups sign items rest ends j =
@@ -145,7 +145,7 @@ module _ (sign : SignData) where
   laid_fits_next items (Does tag) fine fits = first_of (search (rules, fits_next, laid_tag, offends_as_laid, standing_here), grind (arith, fits_next, laid_tag, offends_as_laid, standing_here))
   laid_fits_next items (Faulty code) fine fits = let wrong : ◌≡◌ {A = Option ℕ} (Some code) None = sym (offence-faulty (too_big Words) sign items code) ∙ fine in absurd cc
 
-  -- behind the items of an accepted string it does
+  -- after the items of an accepted string it does
   pub laid_fits_always : sign.line_fill ≡ Words → (items : List Item) → offences sign items ≡ [] → Fits (map meaning items)
   laid_fits_always words = push_ind (λ items. offences sign items ≡ [] → Fits (map meaning items)) (λ none. fits_first sign) (λ items item ih none.
       let (earlier, here) = last_fine sign items item none in

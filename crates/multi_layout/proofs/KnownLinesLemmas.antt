@@ -4,7 +4,7 @@ use Rattle.multi_meaning.specs.Words.{largest}
 
 -- ONE MORE LINE
 
--- a line is put behind those of the group with a page justification
+-- a line is put after those of the group with a page justification
 abbrev pub Pushed : ℕ → CountedLine → LineTable → LineTable → Type 0
 Pushed page_just line old new = (just : ℕ) → (2 ≤ just) × (just ≤ 4) → group_lines just new ≡ (if just == page_just then group_lines just old ++ line ∷ [] else group_lines just old)
 
@@ -37,15 +37,15 @@ module _ (present just : ℕ) (area : List Spot) where
   known_most = first_of (search (rules, cases_lt, ended_most, known_before, known_from), grind (arith, cases_lt, ended_most, known_before, known_from))
 
 module _ (area : List Spot) (table : LineTable) where
-  -- behind the groups that have items it doesn't matter which is the present one
+  -- after the groups that have items it doesn't matter which is the present one
   pub known_later : (n m : ℕ) → largest (λ (t : Spot). page_number t.at.page_just) area < n → largest (λ (t : Spot). page_number t.at.page_just) area < m → HasKnown n area table → HasKnown m area table
   known_later n m first second has just low high = first_of (search (rules, cases_lt, group_behind, known_before, known_none), grind (arith, cases_lt, group_behind, known_before, known_none))
 
-  -- behind them all, all lines are known
+  -- after them all, all lines are known
   pub counted_at_end : (n : ℕ) → largest (λ (t : Spot). page_number t.at.page_just) area < n → largest (λ (t : Spot). page_number t.at.page_just) area ≤ 4 → HasKnown n area table → HasCounted area table
   counted_at_end n first known has just low high = known_later n 5 first (omega arith) has just low high ∙ ap table_of (known_before 5 just area (omega arith))
 
-  -- the groups behind have no lines
+  -- the groups after have no lines
   pub behind_empty : (present : ℕ) → largest (λ (t : Spot). page_number t.at.page_just) area ≤ present → 2 ≤ present → HasKnown present area table → (just : ℕ) → present < just → just ≤ 4 → group_lines just table ≡ []
   behind_empty present on some has just behind high = has just (omega arith) high ∙ ap table_of (known_none present just area (group_behind just area (omega arith)))
 

@@ -3,6 +3,7 @@ pub mod AreaItemsLemmas
 pub mod AreaLinesLemmas
 pub mod AreaReadLemmas
 pub mod AtLemmas
+pub mod BracketedLemmas
 mod BesideLemmas
 pub mod Common
 pub mod DrawLemmas

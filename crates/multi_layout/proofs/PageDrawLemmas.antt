@@ -68,7 +68,7 @@ area_passed {sign} {source = source} {filled = filled} {plane} {plane'} d on ste
   fills = subst (IsFilledBy sign filled plane') (omega (arith, at)) (filled_then sign filled plane plane' _ _ fills fills');
 }
 
--- an area is passed, and begins with this item: the one behind it
+-- an area is passed, and begins with this item: the one after it
 pub record IsNextArea (sign : SignData) (octets : List ℕ) (layer : Layer) (page : ℕ) (next : NextItem) (cursor : Cursor) (plane : BitPlane) : Type 0 where
   pub before : List LaidItem
   pub rest : List LaidItem

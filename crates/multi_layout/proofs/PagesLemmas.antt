@@ -11,7 +11,7 @@ use Rattle.multi_layout.specs.CheckedData.{CheckedData}
 
 -- ---- what is kept where the cursor stands
 
--- the state has the pages and times of these items, and the values in force behind them
+-- the state has the pages and times of these items, and the values in force after them
 pub record IsClockOf (sign : SignData) (items : List Meaning) (state : State) : Type 0 where
   pub pages : state.pages ≡ pages_of items
   pub times : state.cycle ≡ cycle (ended_times sign items)
@@ -68,7 +68,7 @@ module _ {sign : SignData} {octets : List ℕ} {old cursor : Cursor} (s : IsInPa
   pub passed_last : slice_get octets cursor.at ≡ None → IsPageSkipped sign octets old cursor
   passed_last end = grind (arith, clock_of s.between, within sign octets s.before s.behind cursor.at s.between.placed, none_at_end sign octets s.before s.behind cursor.at s.between.placed, at_end octets cursor.at, all_meant s.between, times_are_all sign passed, ended_count sign passed, append-nil)
 
-  -- an item stands behind the cursor, of which this was read
+  -- an item stands after the cursor, of which this was read
   module _ {next : NextItem} (first : IsFirst s.behind (Some next)) where
     pub stands : IsPassing sign octets s.before (first.0 ∷ first.1) cursor
     stands = subst (λ (l : List Item). IsPassing sign octets s.before l cursor) first.2 s.between
@@ -80,11 +80,11 @@ module _ {sign : SignData} {octets : List ℕ} {old cursor : Cursor} (s : IsInPa
       counted : new.state.pages ≡ old.state.pages + cond (is_new_page (meant_by next.item)) 1 0
       counted = omega (arith, (clock_of b).pages, (clock_of s.between).pages, s.same, ap pages_of with, pages_of-push passed (meant_by next.item))
 
-      -- behind another item than an `np`
+      -- after another item than an `np`
       pub in_page_more : is_new_page (meant_by next.item) ≡ false → IsInPage sign octets old new
       in_page_more none = grind (arith, counted, clock_of b, clock_of s.between, with, cycle-stays sign passed (meant_by next.item))
 
-      -- behind an `np` the page is passed
+      -- after an `np` the page is passed
       pub passed_page : is_new_page (meant_by next.item) ≡ true → old.at ≤ cursor.at → new.at ≡ cursor.at + next.len → IsPageSkipped sign octets old new
       passed_page page on at = grind (arith, new_page_is (meant_by next.item), with, clock_of b, clock_of s.between, standing_push sign passed (Does NewPage), times_are sign passed (map meaning first.1), all_meant stands, within sign octets (s.before ++ first.0 ∷ []) first.1 new.at b.placed, ended_count sign passed, counted, spelling_some first.0, cycle-grows sign passed (Does NewPage))
 
@@ -124,19 +124,19 @@ module _ {sign : SignData} {octets : List ℕ} {start behind : Cursor} (p : IsPa
   pub off_here : start.state.cycle ≤ time → behind.state.attributes.on ≤ time - start.state.cycle → time - start.state.cycle < behind.state.attributes.on + behind.state.attributes.off → Off ≡ shown_within (page_times sign (meanings octets)) time
   off_here began over off = grind (arith, shown_off)
 
-  -- where it is over another page begins behind it, at the time or before
+  -- where it is over another page begins after it, at the time or before
   pub page_behind : start.state.cycle ≤ time → behind.state.attributes.on + behind.state.attributes.off ≤ time - start.state.cycle → time < cycle (page_times sign (meanings octets))
       → (behind.state.pages ≡ start.state.pages + 1) × (start.at < behind.at) × (behind.at ≤ length octets) × (behind.state.cycle ≤ time) × IsAtPage sign octets behind
   page_behind began over below = first_of (search (rules, cycle_push), grind (arith, cycle_push))
 
--- before the last page another begins behind it
+-- before the last page another begins after it
 pub page_follows : {sign : SignData} {octets : List ℕ} {start behind : Cursor} → IsPageSkipped sign octets start behind → start.state.pages < pages_of (meanings octets)
     → (behind.state.pages ≡ start.state.pages + 1) × (start.at < behind.at) × (behind.at ≤ length octets) × IsAtPage sign octets behind
 page_follows p more = first_of (search (rules), grind (arith))
 
 -- ---- a page that is passed
 
--- behind it the one after it is next, of the same string with whatever count
+-- after it the one after it is next, of the same string with whatever count
 pub turns_to : (old new : CheckedData) (next : NextPage) (cursor : Cursor) (page : ℕ) → IsNextPage old next page → IsPagePassed old.sign old.source.octets next.cursor cursor
     → new.sign ≡ old.sign → new.source.octets ≡ old.source.octets → IsNextPage new (record { cursor = cursor }) (page + 1)
 turns_to old new next cursor page is passed sign octets = rw (sign, octets) (λ more. grind arith)
@@ -189,7 +189,7 @@ module _ (old : PagesState) (start next : NextPage) (u : IsUnderWay old start.cu
   none_yet : (n : ℕ) → cond (old.next == page_count old.string) n 0 ≡ 0
   none_yet n = ap (λ b. cond b n 0) (ne_eqb old.next (page_count old.string) (λ e. omega (arith, e, more)))
 
-  -- behind one more page
+  -- after one more page
   module _ (string : CheckedData) (plane : BitPlane) (sign_kept : string.sign ≡ old.string.sign) (size_kept : (plane.width ≡ old.plane.width) × (plane.height ≡ old.plane.height))
       (on : IsReadOn old.string.source string.source start next) (f : IsFilledFew old.string.sign old.plane plane start.cursor next.cursor) (begins : IsNextPage string next (old.next + 1)) where
     abbrev pub moved : ℕ → PagesState

@@ -1,5 +1,5 @@
 -- The next item of an accepted string.
-use Rattle.multi_layout.proofs.Common.{common_steps, none_more, last_fine, ◌≡◌, ℕ, IsRead, true, false, ◌+◌, ◌^◌, ◌<◌, ◌≤◌, inl, inr, List, [], ◌∷◌, ◌++◌, length, drop, map, slice_get, Some, None, refl, sym, ap, subst, ◌∙◌, arith, append_assoc, append-nil, rules, not, All, length-append, map-append, All-head, All-tail, filter-append, Counted, RisesBetween, charged, Token, IsPlain, Item, spelling, spell, item_of, single_token, spelling_some, rises_then, Off, SignData, each_after, laid_item, Faulty, Meaning, meaning, BeginsPage, Does, has_place, is_new_page, offence, unsized_offence, offence_by, offences, pages_of, IsFaultAt, IsItemAt, offence-faulty, standing_push, present_area-new, length-meanings, each_after-append, each_after_length, push_ind, some_after-append, NextItem, IsReady, IsStateOf, meant_by, ready, pages_of-push, NewPage, LineFill, Standing, spots, standing, present_area, ended_times, State, Shows, Cursor, IsBetween, IsFirst, IsPlaced, LaidItem, items_of, laid_meanings, meant, spell_of, IsItemRead, IsPassing, unplaced, PassesTag, font_numbered, is_bracket, IsItem, HasNoItem, IsTokenOf, one_item_begins, charged-zero, IsFine, none_front, none_last, none_mapped, none_of, right_nil, ended_times-push, standing_behind}
+use Rattle.multi_layout.proofs.Common.{◌⊎◌, nat_tests, common_steps, none_more, last_fine, ◌≡◌, ℕ, IsRead, true, false, ◌+◌, ◌^◌, ◌<◌, ◌≤◌, inl, inr, List, [], ◌∷◌, ◌++◌, length, drop, map, slice_get, Some, None, refl, sym, ap, subst, ◌∙◌, arith, append_assoc, append-nil, rules, not, All, length-append, map-append, All-head, All-tail, filter-append, Counted, RisesBetween, charged, Token, IsPlain, Item, spelling, spell, item_of, single_token, spelling_some, rises_then, Off, SignData, each_after, laid_item, Faulty, Meaning, meaning, BeginsPage, Does, has_place, is_new_page, offence, unsized_offence, offence_by, offences, pages_of, IsFaultAt, IsItemAt, offence-faulty, standing_push, present_area-new, length-meanings, each_after-append, each_after_length, push_ind, some_after-append, NextItem, IsReady, IsStateOf, meant_by, ready, pages_of-push, NewPage, LineFill, Standing, spots, standing, present_area, ended_times, State, Shows, Cursor, IsBetween, IsFirst, IsPlaced, LaidItem, items_of, laid_meanings, meant, spell_of, IsItemRead, IsPassing, unplaced, PassesTag, font_numbered, is_bracket, IsItem, HasNoItem, IsTokenOf, one_item_begins, charged-zero, IsFine, none_front, none_last, none_mapped, none_of, right_nil, ended_times-push, standing_behind}
 use Rattle.std.proofs.Math.Seq.{drop-append_seam, take-append_seam}
 use Rattle.std.proofs.lemmas.List.Concat.{flat_map-append}
 
@@ -55,6 +55,10 @@ module _ (sign : SignData) (octets : List ℕ) (before behind : List Item) (at :
 pub no_bracket : (octet : ℕ) → is_bracket octet ≡ false → IsPlain octet
 no_bracket octet none = grind (arith)
 
+-- any other is one of the two
+pub a_bracket : (octet : ℕ) → is_bracket octet ≡ true → (octet ≡ 91) ⊎ (octet ≡ 93)
+a_bracket octet is = grind (arith, nat_tests)
+
 -- and is an item
 pub octet_item : (octets : List ℕ) (at octet : ℕ) → length octets < 2 ^ 63 → slice_get octets at ≡ Some octet → IsPlain octet → IsItemAt octets at 1 (Shows octet)
 octet_item octets at octet room here plain = grind (arith, single_token octets at octet room here plain)
@@ -91,7 +95,7 @@ module _ (sign : SignData) (octets : List ℕ) (before rest : List Item) (item :
   pub never_faulty : (code : ℕ) → meaning item ≡ Faulty code → ⊥
   never_faulty code e = first_of (search (rules, none_offends, offence-faulty), grind (arith, none_offends, offence-faulty))
 
-  -- behind it the rest stands
+  -- after it the rest stands
   pub placed_more : (new : ℕ) → new ≡ at + length (spelling item) → IsPlaced sign octets (before ++ item ∷ []) rest new
   placed_more new to = first_of (search (rules, append-nil, append_assoc, length-append, spell-append), grind (arith, append-nil, append_assoc, length-append, spell-append))
 
@@ -137,7 +141,7 @@ module _ (sign : SignData) (octets : List ℕ) (before rest : List LaidItem) (it
   pub never_offends : unsized_offence sign (map meant before) (meant item) ≡ None
   never_offends = grind (arith, none_front sign (unsized_offence sign) (map meant before ++ meant item ∷ []) (map meant rest), map-append meant before (item ∷ rest), append_assoc (map meant before) (meant item ∷ []) (map meant rest), none_last)
 
-  -- behind it the cursor stands before the rest
+  -- after it the cursor stands before the rest
   pub between_more : (new : Cursor) → new.at ≡ cursor.at + length (spelling item.item) → IsStateOf sign (map meant before ++ meant item ∷ []) new.state
       → IsBetween sign octets (before ++ item ∷ []) rest new
   between_more new at st = search (rules, sym (append_assoc before (item ∷ []) rest), append_assoc, map-append, placed_more)
@@ -206,7 +210,7 @@ module _ (sign : SignData) where
   pub same_unplaced : (ms : List Meaning) → Same ms
   same_unplaced = push_ind Same (refl, refl, refl) (λ ms x same. grind (arith, placed_behind, unplaced_stays ms x, standing_push, ended_times-push, append-nil, pages_of-push, unplaced_grows ms x))
 
-  -- an item that places nothing offends behind them just where it does behind all
+  -- an item that places nothing offends after them just where it does after all
   pub offends_unplaced : (setting : LineFill) (ms : List Meaning) (x : Meaning) → has_place x ≡ false → unsized_offence sign (unplaced ms) x ≡ offence setting sign ms x
   unfolding offence_by
   offends_unplaced setting ms (Does NewPage) e = grind (arith, same_unplaced ms)
@@ -233,11 +237,11 @@ module _ {sign : SignData} {octets : List ℕ} {before rest : List Item} {item :
     state_is = subst (λ ms. IsStateOf sign (unplaced ms) new.state) (sym (map-append meaning before (item ∷ []))) st;
   }
 
-  -- behind an item that is placed the state stays
+  -- after an item that is placed the state stays
   pub passing_placed : (new : Cursor) → has_place (meant_by next.item) ≡ true → new.at ≡ cursor.at + next.len → new.state ≡ cursor.state → IsPassing sign octets (before ++ item ∷ []) rest new
   passing_placed new e at same = grind (arith, common_steps, passing_with, unplaced_stays)
 
-  -- behind another it is that with it
+  -- after another it is that with it
   pub passing_tag : (new : Cursor) → has_place (meant_by next.item) ≡ false → new.at ≡ cursor.at + next.len
       → IsStateOf sign (unplaced (map meaning before) ++ meant_by next.item ∷ []) new.state → IsPassing sign octets (before ++ item ∷ []) rest new
   passing_tag new e at st =

@@ -7,7 +7,7 @@ use Rattle.multi_layout.specs.Pages.{PagesState, TurnsPage}
 use Rattle.multi_layout.specs.declared.pages.PageView.{PageView}
 use Rattle.multi_layout.specs.contracts.pages.Pages.{the_row}
 
--- behind the last page nothing has changed, and else the view showed the plane of the page that was next (own)
+-- after the last page nothing has changed, and else the view showed the plane of the page that was next (own)
 abbrev pub Turned : PagesState → PagesState → Option PageView → Type 0
 Turned old new None = new ≡ old
 Turned old new (Some view) = TurnsPage old new × (view.plane.now ≡ new.plane)

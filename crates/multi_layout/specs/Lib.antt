@@ -4,4 +4,4 @@ pub mod Limits
 pub mod NextPage
 pub mod Pages
 pub mod Prelude
-pub mod kept
+pub mod internal

@@ -4,7 +4,7 @@ use Rattle.multi_token.specs.Counted.{Counted}
 use Rattle.multi_layout.specs.declared.checked.NextPage.{NextPage}
 use Rattle.multi_layout.specs.CheckedData.{CheckedData}
 use Rattle.multi_layout.specs.Pages.{page_count}
-use Rattle.multi_layout.specs.kept.PageDrawing.{IsPageStart, IsReadTwice}
+use Rattle.multi_layout.specs.internal.PageDrawing.{IsPageStart, IsReadTwice}
 
 -- the page of this number is next to be drawn, if there is one (own)
 abbrev pub IsNextPage : CheckedData → NextPage → ℕ → Type 0

@@ -12,7 +12,7 @@ use Rattle.multi_meaning.specs.Verdict.{pages_of}
 use Rattle.multi_layout.specs.declared.cursor.Cursor.{Cursor}
 use Rattle.multi_layout.specs.CheckedData.{CheckedData}
 use Rattle.multi_layout.specs.Limits.{plane_limit, plane_octets, reading_limit}
-use Rattle.multi_layout.specs.kept.PageDrawing.{IsPageStart}
+use Rattle.multi_layout.specs.internal.PageDrawing.{IsPageStart}
 
 -- the string and the plane as they are, what is drawn, the page that comes next, and both counts at the start (own)
 pub record PagesState : Type 0 where

@@ -12,29 +12,32 @@ pub use Rattle.page_plane.specs.Plane.{BitPlane}
 pub use Rattle.multi_meaning.specs.Codes.{code_of}
 pub use Rattle.multi_meaning.specs.Picture.{Lights, picture, is_lit_at, shown_colour, pixel_at}
 pub use Rattle.multi_meaning.specs.Meaning.{Meaning, begins_area, meanings}
-pub use Rattle.multi_meaning.specs.kept.Bounds.{has_place}
-pub use Rattle.multi_meaning.specs.kept.Fine.{unsized_offence}
-pub use Rattle.multi_meaning.specs.kept.ItemAt.{IsFaultRead, IsItemAt, IsBracketedRead}
+pub use Rattle.multi_meaning.specs.internal.Bounds.{has_place}
+pub use Rattle.multi_meaning.specs.internal.Fine.{unsized_offence}
+pub use Rattle.multi_meaning.specs.internal.ItemAt.{IsFaultRead, IsItemAt, IsBracketedRead}
 pub use Rattle.multi_meaning.specs.Steps.{judging_steps, looks}
 pub use Rattle.multi_meaning.specs.Times.{shown}
 pub use Rattle.multi_meaning.specs.Verdict.{Accepted, IsVerdict, IsCycle, Refused}
-pub use Rattle.multi_judge.specs.KnownItem.{meant_by, IsOctet}
-pub use Rattle.multi_judge.specs.Passed.{next_group}
-pub use Rattle.multi_judge.specs.PassState.{fill_of, IsPassOf}
-pub use Rattle.multi_judge.specs.Run.{IsBehindCharacter}
-pub use Rattle.multi_judge.specs.State.{IsReady, IsStateOf, IsLimited}
-pub use Rattle.multi_judge.specs.Table.{group_lines}
+pub use Rattle.multi_judge.specs.internal.KnownItem.{meant_by, IsOctet}
+pub use Rattle.multi_judge.specs.internal.Passed.{next_group}
+pub use Rattle.multi_judge.specs.internal.PassState.{fill_of, IsPassOf}
+pub use Rattle.multi_judge.specs.internal.Run.{IsBehindCharacter}
+pub use Rattle.multi_judge.specs.internal.State.{IsReady, IsStateOf, IsLimited}
+pub use Rattle.multi_judge.specs.internal.Table.{group_lines}
 pub use Rattle.multi_judge.specs.declared.item.KnownItem.TheVariants.{Char}
-pub use Rattle.multi_judge.specs.Judging.{IsAt}
+pub use Rattle.multi_judge.specs.internal.Judging.{IsAt}
 pub use Rattle.multi_layout.specs.Pages.{IsDrawnFew, IsReadFew, IsSized, TakesFew, page_count, ShowsAt, IsUnderWay, PagesState, pages_state}
 pub use Rattle.multi_layout.specs.declared.paint.Layer.{Layer}
-pub use Rattle.multi_layout.specs.kept.AreaDrawing.{IsPageDrawn, HasCounted, IsAreaDrawn, IsFilledBy, whole_area, IsCountedBy, ReadsArea}
-pub use Rattle.multi_layout.specs.kept.AreaReading.{EndsGroup, IsNextRead, IsReadOf, KnowsArea, KnowsOn, ReadsOn, next_steps}
-pub use Rattle.multi_layout.specs.kept.Cursors.{PassesTag, IsBetween, IsItemRead, IsRead, IsWithin, LaidItem}
-pub use Rattle.multi_layout.specs.kept.PageDrawing.{IsFilledFew, IsPagePassed, IsPageStart, IsReadTwice, IsStartOf}
-pub use Rattle.multi_layout.specs.kept.Passing.{IsAtStart, IsOnTheWay, IsPageSkipped}
-pub use Rattle.multi_layout.specs.kept.RunDrawing.{DrawsNext, IsNextDrawn, DrawsCharacter}
+pub use Rattle.multi_layout.specs.internal.AreaDrawing.{IsPageDrawn, HasCounted, IsAreaDrawn, IsFilledBy, whole_area, IsCountedBy, ReadsArea}
+pub use Rattle.multi_layout.specs.internal.AreaReading.{EndsGroup, IsNextRead, IsReadOf, KnowsArea, KnowsOn, ReadsOn, next_steps}
+pub use Rattle.multi_layout.specs.internal.Cursors.{PassesTag, IsBetween, IsItemRead, IsRead, IsWithin, LaidItem}
+pub use Rattle.multi_layout.specs.internal.PageDrawing.{IsFilledFew, IsPagePassed, IsPageStart, IsReadTwice, IsStartOf}
+pub use Rattle.multi_layout.specs.internal.Passing.{IsAtStart, IsOnTheWay, IsPageSkipped}
+pub use Rattle.multi_layout.specs.internal.RunDrawing.{DrawsNext, IsNextDrawn, DrawsCharacter}
 pub use Rattle.multi_layout.specs.Limits.{check_limit, reading_limit, drawing_limit}
 pub use Rattle.multi_layout.specs.NextPage.{IsNextPage, IsReadOn}
-pub use Rattle.multi_layout.specs.kept.Told.{IsToldOf, IsRefused, IsTold}
+pub use Rattle.multi_layout.specs.internal.Told.{IsToldOf, IsRefused, IsTold}
 pub use Rattle.multi_layout.specs.CheckedData.{CheckedData}
+pub use Rattle.multi_layout.specs.internal.Bracketed.{JudgesAhead, JudgesBracketed, JudgesRead}
+pub use Rattle.multi_judge.specs.internal.PassState.{IsPassReady}
+pub use Rattle.sign_font.specs.Text.{AreWidthsOf}

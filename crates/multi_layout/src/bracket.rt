@@ -18,7 +18,7 @@ pub(crate) fn is_bracket(octet: u8) -> bool
 /// The item that begins with this bracket at an offset, which was read, or the error of a bracket with which none begins and of a
 /// tag that has no value.
 ///
-/// The octet behind the bracket is read, and for a tag at most 26 from there on, since no tag with a value has more. Only what has
+/// The octet after the bracket is read, and for a tag at most 26 from there on, since no tag with a value has more. Only what has
 /// none is read to its last bracket.
 #[inline(always)]
 pub(crate) fn read_spelled(
@@ -54,7 +54,7 @@ pub(crate) fn read_spelled(
 
 /// The error of a single opening bracket at an offset with which no tag begins that has a value.
 #[inline(never)]
-fn fault_of(source: &mut Source<'_>, at: usize) -> SyntaxError
+pub(crate) fn fault_of(source: &mut Source<'_>, at: usize) -> SyntaxError
     requires stands { slice_get source.old.octets at ≡ Some 91 }
     requires single { slice_get source.old.octets (at + 1) ≢ Some 91 }
     requires none { HasNoTagAt source.old.octets at }

@@ -69,11 +69,12 @@ impl<'a> Checked<'a> {
     ///
     /// A string with one page or a cycle of 0 always shows page 0, with the clock as its phase. Otherwise the clock is taken
     /// modulo the cycle: each page in turn is shown for its on time, and then nothing for its off time, over and over. This
-    /// takes at most 9n + 1 steps over a string of n octets.
+    /// takes at most 9n + 1 steps over a string of n octets, and none where it has one page.
     pub fn locate(&mut self, clock: u64) -> Shown
         ensures shown { result ≡ shown self.old.sign self.old.source.octets clock }
         ensures kept { self.new.sign ≡ self.old.sign }
         ensures steps { RisesBetween self.old.source self.new.source 0 (check_limit (length self.old.source.octets)) }
+        ensures one { page_count self.old ≡ 1 → self.new.source ≡ self.old.source }
     {
         let mut start = Cursor::new(&self.terms);
         find_shown(&self.terms, &mut self.source, self.told, clock, &mut start)
@@ -87,7 +88,7 @@ impl<'a> Checked<'a> {
         NextPage { cursor }
     }
 
-    /// Draws the next page as [`Checked::draw`] does, and goes on to the one behind it. The room for the lines of an area is lent. The
+    /// Draws the next page as [`Checked::draw`] does, and goes on to the one after it. The room for the lines of an area is lent. The
     /// plane must have the sign's size.
     ///
     /// Reading goes on where the page before ended, so that all pages together take no more steps over the string than [`Checked::draw`]
@@ -132,6 +133,7 @@ pub(crate) fn find_shown(
     ensures shown { result ≡ shown sign.now source.old.octets clock }
     ensures begins { IsStartOf sign.now source.old.octets result start.new }
     ensures steps { RisesBetween source.old source.new 0 (check_limit (length source.old.octets)) }
+    ensures one { told.pages ≡ 1 → source.new ≡ source.old }
 {
     if told.pages == 1 || told.cycle == 0 {
         return Shown::Page {

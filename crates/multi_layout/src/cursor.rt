@@ -8,7 +8,7 @@ use multi_judge::{KnownItem, NextItem, State, Terms, judge_tag};
 use multi_tag::Tag;
 use multi_token::Source;
 
-/// A place between two items of an accepted string: the offset of the next, and the state behind those before it.
+/// A place between two items of an accepted string: the offset of the next, and the state after those before it.
 #[derive(Clone, Copy)]
 pub(crate) struct Cursor {
     pub(crate) at: usize,
@@ -27,7 +27,7 @@ impl Cursor {
         }
     }
 
-    /// Goes behind the page that begins here, and lays nothing out: behind the `np` that ends it, or to the end of the string.
+    /// Goes past the page that begins here, and lays nothing out: after the `np` that ends it, or to the end of the string.
     pub(crate) fn pass_page(&mut self, sign: &Terms<'_>, source: &mut Source<'_>)
         requires { IsOnTheWay sign.now source.old.octets self.old }
         ensures passed { IsPageSkipped sign.now source.old.octets self.old self.new }
@@ -48,7 +48,7 @@ impl Cursor {
         }
     }
 
-    /// Goes behind the next item, a tag that was read, and puts what it says into force. It isn't put into its callers' code, since
+    /// Goes past the next item, a tag that was read, and puts what it says into force. It isn't put into its callers' code, since
     /// characters are many more.
     #[inline(never)]
     pub(crate) fn pass_tag(&mut self, sign: &Terms<'_>, source: &mut Source<'_>, next: NextItem)
@@ -79,7 +79,7 @@ impl Cursor {
 
 /// Reads the item of an accepted string that begins with this octet, which was read at an offset.
 ///
-/// It takes at most 9 steps for each octet behind that one. It is put into its callers' code, since most items are characters.
+/// It takes at most 9 steps for each octet after that one. It is put into its callers' code, since most items are characters.
 #[inline(always)]
 pub(crate) fn read_item(source: &mut Source<'_>, at: usize, first: u8) -> NextItem
     requires within { IsWithin source.old.octets at }

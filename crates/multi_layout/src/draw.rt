@@ -13,7 +13,7 @@ use multi_token::Source;
 use page_plane::Plane;
 use sign_font::LineFill;
 
-/// Draws the page that begins at a cursor, with room for the lines of its areas, and goes behind it. Each area is read, and then drawn.
+/// Draws the page that begins at a cursor, with room for the lines of its areas, and goes past it. Each area is read, and then drawn.
 pub(crate) fn draw_page(
     sign: &Terms<'_>,
     source: &mut Source<'_>,
@@ -44,7 +44,7 @@ pub(crate) fn draw_page(
     }
 }
 
-/// Draws the area that begins at a cursor, and goes behind its last item: it is read for its lines, and then once more to put its cells.
+/// Draws the area that begins at a cursor, and goes past its last item: it is read for its lines, and then once more to put its cells.
 fn draw_area(
     sign: &Terms<'_>,
     source: &mut Source<'_>,
@@ -85,7 +85,7 @@ fn draw_area(
     }
 }
 
-/// Draws what the next item puts, and goes behind it. A character stands beside the one before it, at the place given, or where its line
+/// Draws what the next item puts, and goes past it. A character stands beside the one before it, at the place given, or where its line
 /// says if there is none. It gives the place beside this one, if that is known.
 #[inline(always)]
 fn draw_item(
@@ -113,7 +113,7 @@ fn draw_item(
                 unreachable!();
             };
             let width = cell.width();
-            let advance = u64::from(width) + u64::from(state.attributes.gap());
+            let advance = u32::from(width) + u32::from(state.attributes.gap());
             cursor.at += next.len;
             let mut place = match beside {
                 Some(place) => {
@@ -131,7 +131,7 @@ fn draw_item(
             if let LineJust::Full = attributes.line_just {
                 return None;
             }
-            place.column += advance;
+            place.column += u64::from(advance);
             Some(place)
         }
         KnownItem::Tag(tag) => {

@@ -9,6 +9,7 @@ mod bracket;
 mod checked;
 mod cursor;
 mod draw;
+mod judge;
 mod pages;
 mod paint;
 mod read;
@@ -16,8 +17,8 @@ mod verdict;
 
 pub use checked::{Checked, NextPage};
 pub use multi_meaning::{
-    Shown, SyntaxError, broken_bracket_stands, keeps_breaks, one_verdict, refusal_stands,
-    smaller_fits,
+    Shown, SyntaxError, broken_bracket_stands, item_refusal_stands, keeps_breaks, one_verdict,
+    refusal_stands, smaller_fits,
 };
 pub use pages::{PageView, Pages};
 pub use read::AreaLines;

@@ -13,7 +13,7 @@ use multi_token::Source;
 #[derive(Drop)]
 pub struct AreaLines {
     pub(crate) lines: LineTable,
-    /// The offset behind the area's last item.
+    /// The offset after the area's last item.
     pub(crate) end: usize,
     /// The item that stands there, if the string goes on.
     pub(crate) next: Option<NextItem>,
@@ -30,7 +30,7 @@ impl AreaLines {
     }
 }
 
-/// Reads the area that begins at a cursor into the table, whatever was read before, by whether lines are filled. The cursor goes behind
+/// Reads the area that begins at a cursor into the table, whatever was read before, by whether lines are filled. The cursor goes past
 /// the settings with which the area begins, and puts them into force, so that the second reading begins there.
 pub(crate) fn read_lines<const WORDS: bool>(
     sign: &Terms<'_>,
@@ -79,7 +79,7 @@ pub(crate) fn read_lines<const WORDS: bool>(
     end_group(&kept.state.area, &mut read.lines);
 }
 
-/// Goes behind the next item of an area, and puts the lines that it ends into the table: the last one of a group that it leaves, and
+/// Goes past the next item of an area, and puts the lines that it ends into the table: the last one of a group that it leaves, and
 /// the one that it ends itself.
 fn pass_item<const WORDS: bool>(
     sign: &Terms<'_>,

@@ -3,8 +3,9 @@
 ghost use Rattle.std.specs.Prelude.{◌≡◌, ℕ, ◌+◌, ◌^◌, ◌<◌, ◌≤◌, [], length, IfOk, IfErr, OnOk, OnErr, None};
 ghost use Rattle.multi_layout.specs.Prelude.{default_fault, under, FontData, SignData, judging_steps, code_of, Accepted, IsVerdict, Refused, check_limit, reading_limit, IsSized, ShowsAt, TakesFew, IsRefused, IsTold, IsAt, IsPassOf};
 
-use crate::bracket::{is_bracket, read_spelled};
+use crate::bracket::is_bracket;
 use crate::checked::{Checked, Told};
+use crate::judge::judge_bracketed;
 use crate::pages::draw_told;
 use crate::read::AreaLines;
 use multi_judge::{Pass, State, Terms, judge_run};
@@ -177,7 +178,7 @@ fn judge_string(sign: &Terms<'_>, source: &mut Source<'_>) -> Result<Told, Offen
     Ok(Told { pages, cycle })
 }
 
-/// Judges the items of a string from the first on: an item that begins with a bracket, or a character and those behind it that only
+/// Judges the items of a string from the first on: an item that begins with a bracket, or a character and those after it that only
 /// lengthen its line. The pass stays where its caller has it, since in registers there are too few places for it.
 #[inline(never)]
 fn judge_items<'a, const WORDS: bool>(
@@ -198,14 +199,10 @@ fn judge_items<'a, const WORDS: bool>(
     let mut next = source.look(at, cells.advances());
     while let Some(entry) = next {
         if is_bracket(entry.octet) {
-            let spelled = match read_spelled(source, at, entry.octet) {
-                Ok(spelled) => spelled,
+            match judge_bracketed::<WORDS>(sign, pass, &mut cells, source, at, entry.octet) {
+                Ok(len) => at += len,
                 Err(error) => return Err(Offence { error, at }),
-            };
-            if let Err(error) = pass.judge_item::<WORDS>(sign, &mut cells, source, spelled.item) {
-                return Err(Offence { error, at });
             }
-            at += spelled.len;
             next = source.look(at, cells.advances());
         } else {
             if let Err(error) = pass.judge_octet::<WORDS>(&cells, entry) {

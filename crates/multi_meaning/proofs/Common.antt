@@ -25,17 +25,18 @@ pub use Rattle.sign_font.specs.declared.parts.LineFill.TheVariants.{Words, Off}
 pub use Rattle.multi_meaning.specs.Address.{Put, Glyph, Break, Cover, Spot, put_at, Standing, is_break, is_glyph, group_of, segment, in_area, in_group, area_of, lines_of, spot_at}
 unfoldable pub use Rattle.multi_meaning.specs.Address.{standing, spots}
 pub use Rattle.multi_meaning.specs.Attributes.{is_inside, whole_sign, given_rectangle, given_line_just, given_page_just, given_spacing, given_flash, rectangle, default_font, given_font, in_force}
-unfoldable pub use Rattle.multi_meaning.specs.kept.Places.{has_colour, places}
+unfoldable pub use Rattle.multi_meaning.specs.internal.Places.{has_colour, places}
 pub use Rattle.multi_meaning.specs.Filling.{dropped, filled, is_space, CutAt, cut_at_last, longest_prefix, longer, soft_break, broken_off, fill, filled_line}
-pub use Rattle.multi_meaning.specs.Fit.{line_fits, fit, SmallerFits}
-pub use Rattle.multi_meaning.specs.kept.Fits.{area_fits, room_for}
+pub use Rattle.multi_meaning.specs.Fit.{line_fits, fit}
+pub use Rattle.multi_meaning.specs.FillLaw.{SmallerFits}
+pub use Rattle.multi_meaning.specs.internal.Fits.{area_fits, room_for}
 pub use Rattle.multi_meaning.specs.Laid.{laid_spot, fill_at, too_big, laid_fits, laid_items, laid_of, laid_item, laid_out}
-pub use Rattle.multi_meaning.specs.kept.Places.{laid}
+pub use Rattle.multi_meaning.specs.internal.Places.{laid}
 pub use Rattle.multi_meaning.specs.Line.{width_of, height_of, char_gap, glyph_width, given_gap, bearers, line_height}
 pub use Rattle.multi_meaning.specs.Meaning.{Meaning, Shows, Does, Faulty, begins_area, meaning, is_new_page, meanings, meaning_of_tag, said_by}
-pub use Rattle.multi_meaning.specs.kept.Bounds.{EndsArea, has_place, BeginsPage, EndsPage}
+pub use Rattle.multi_meaning.specs.internal.Bounds.{EndsArea, has_place, BeginsPage, EndsPage}
 unfoldable pub use Rattle.multi_meaning.specs.Offence.{offence_by, goes_back, offence, conflicts}
-unfoldable pub use Rattle.multi_meaning.specs.kept.Fine.{unsized_offence, never_big}
+unfoldable pub use Rattle.multi_meaning.specs.internal.Fine.{unsized_offence, never_big}
 pub use Rattle.multi_meaning.specs.Picture.{thing_at, Thing, colour_of, shown_colour, is_lit_at, pixel_at, picture}
 unfoldable pub use Rattle.multi_meaning.specs.Picture.{things_among, things, in_plane}
 unfoldable pub use Rattle.multi_meaning.specs.Place.{place_of}
@@ -47,8 +48,8 @@ pub use Rattle.multi_meaning.specs.Words.{some_after, each_after, largest, succe
 pub use Rattle.multi_meaning.specs.declared.attributes.FlashTimes.{FlashTimes}
 pub use Rattle.multi_meaning.specs.declared.attributes.Rectangle.{Rectangle}
 pub use Rattle.multi_meaning.specs.declared.times.Shown.TheVariants.{Page}
-pub use Rattle.multi_meaning.specs.kept.Present.{IsPlacing, ended_lines, standing_behind, present_area, IsFilledOn, IsNarrow, IsNarrowArea}
+pub use Rattle.multi_meaning.specs.internal.Present.{IsPlacing, ended_lines, standing_behind, present_area, IsFilledOn, IsNarrow, IsNarrowArea}
 pub use Rattle.sign_font.specs.Sound.{IsWithin, IsSound}
 pub use Rattle.std.proofs.lemmas.Option.{none-some, slice_get-get_or}
-pub use Rattle.multi_meaning.specs.kept.Fine.{IsFine, IsOrderly, IsAccepted}
+pub use Rattle.multi_meaning.specs.internal.Fine.{IsFine, IsOrderly, IsAccepted}
 pub use Rattle.std.proofs.lemmas.Grind.{common_steps}

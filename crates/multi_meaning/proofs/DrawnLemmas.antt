@@ -63,7 +63,7 @@ covered_put sign page phase colour all column row before x put puts =
     grind (arith, spots_more sign before x put puts, push, filter_map-append, last_or-append, append-nil, cases_Option')
 
 module _ (sign : SignData) (phase colour : ℕ) (all : List Spot) (column row : ℕ) where
-  -- a pixel has the background in force behind some items
+  -- a pixel has the background in force after some items
   abbrev HasBackground : List Meaning → Type 0
   HasBackground items = has_colour sign (standing sign items).page phase colour all (spots sign items) column row ≡ (shown_colour sign (standing sign items).back == colour)
 
@@ -119,7 +119,7 @@ module _ (sign : SignData) (page phase colour : ℕ) (all : List Spot) (column r
       grind (arith, some_after-append, filter_map-append, append-nil, maps_none (pick page column row) (some_after f more), some_all')
 
 module _ (sign : SignData) (before : List Meaning) where
-  -- behind a new page all is of a later page
+  -- after a new page all is of a later page
   later_behind : (rest : List Meaning) → (more : List Spot) × (spots sign (before ++ Does NewPage ∷ rest) ≡ spots sign before ++ more) × All (IsFrom ((standing sign before).page + 1)) more
   later_behind rest = (
     record { at = standing sign before; put = Cover ((standing sign before).page + 1) (standing sign before).back } ∷ spots_behind sign (before ++ Does NewPage ∷ []) rest,

@@ -9,7 +9,7 @@ use Rattle.multi_meaning.proofs.WordLemmas.{cases_Option, each_after_push, front
 use Rattle.multi_meaning.specs.FillLaw.{KeepsBreaks}
 use Rattle.multi_meaning.proofs.RoomLemmas.{OpenLinesFit, open_lines_fit}
 
--- a list with another item in one place, and more behind it, is the same in every other place
+-- a list with another item in one place, and more after it, is the same in every other place
 get_other : (xs ys zs : List Spot) (a b d : Spot) (n : ℕ) → (n ≡ length xs → ⊥) → n < length (xs ++ a ∷ ys) → slice_index_or (xs ++ b ∷ (ys ++ zs)) n d ≡ slice_index_or (xs ++ a ∷ ys) n d
 get_other xs ys zs a b d n other within =
     grind (arith, set_at xs a (ys ++ zs) b (length xs) refl, get_or-set_other (xs ++ a ∷ (ys ++ zs)) (length xs) n b d other, append_assoc xs (a ∷ ys) zs, get_or_append_left (xs ++ a ∷ ys) zs d n within)
@@ -65,7 +65,7 @@ module _ (sign : SignData) (items : List Meaning) (number : ℕ) (cell : CellDat
     size : length (own all) ≡ length (closed ++ space ∷ open')
     size = whole_length Words all s.at.area (page_number s.at.page_just) (Some width) same ∙ ap length old
 
-    -- an item that stays as it is laid, before the space or behind it
+    -- an item that stays as it is laid, before the space or after it
     record Stays (some : List Meaning) (x : Meaning) : Type 0 where
       same' : after' some x ≡ before' some x
       least : count some ≤ count (some ++ x ∷ [])
@@ -106,7 +106,7 @@ module _ (sign : SignData) (items : List Meaning) (number : ℕ) (cell : CellDat
           ]
     ]
 
-    -- these items as far as the space, and behind it
+    -- these items as far as the space, and after it
     record Broken (some : List Meaning) : Type 0 where
       late : length closed < count some
       front : List Meaning

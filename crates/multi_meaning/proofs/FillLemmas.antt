@@ -4,7 +4,7 @@ use Rattle.std.proofs.lemmas.List.Concat.{flat_map-append}
 use Rattle.multi_meaning.proofs.WordLemmas.{extent-append-le, cases_Option, longest_push, longest_all, longest_short, is_cut, none_take, filter_none, All-around, Cut, cut, cut_from, cut_more, longer_part, part, cut_push, cut_behind_is, cut_behind_push, after_last_is, last_push, ended_is}
 use Rattle.multi_meaning.proofs.GroupLemmas.{filter_all, lines_ind, open_glyphs, glyph_put, break_put, glyphs_around, ended_break}
 
--- what stands behind characters makes no segment narrower
+-- what stands after characters makes no segment narrower
 pub segment_front : (just : ℕ) (line behind : List Spot) → width_of (segment just line) ≤ width_of (segment just (line ++ behind))
 segment_front just line behind = grind (arith, extent-append-le, filter-append)
 
@@ -78,7 +78,7 @@ module _ (width : ℕ) where
       let is_cut' = is_cut is_space (cs ++ s ∷ []) in
       grind (arith, broken_fits (cs ++ s ∷ []), longest_push, longest_all, length-append, drop_all, take_all, append-nil, fill_still n, is_cut')
 
-  -- one more character behind characters whose last line fits: every break is kept, and the last line is broken at its last space
+  -- one more character after characters whose last line fits: every break is kept, and the last line is broken at its last space
   -- where it no longer fits
   pub fill_push : (n : ℕ) (cs : List Spot) (s : Spot) → length cs < n → line_fits width (parts n cs).open' ≡ true
       → fill n width (cs ++ s ∷ []) ≡ (parts n cs).closed ++ relaid ((parts n cs).open' ++ s ∷ [])
@@ -103,7 +103,7 @@ module _ (width : ℕ) where
   abbrev pub front : List Spot → List Spot
   front g = flat_map (filled_line width) (cut is_break g).closed
 
-  -- the characters behind the last `nl`, as they are filled
+  -- the characters after the last `nl`, as they are filled
   abbrev pub last_parts : List Spot → Filled width
   last_parts g = parts width (length (cut is_break g).open') (cut is_break g).open'
 
@@ -128,7 +128,7 @@ module _ (width : ℕ) where
   more_filled : (g : List Spot) (s : Spot) → filled (Some width) (g ++ s ∷ []) ≡ front g ++ filled_line width ((cut is_break g).open' ++ s ∷ [])
   more_filled g s = ap (flat_map (filled_line width)) (cut_behind_push is_break g s) ∙ flat_map_push (filled_line width) (cut is_break g).closed ((cut is_break g).open' ++ s ∷ [])
 
-  -- one more `nl` stands behind the filled group
+  -- one more `nl` stands after the filled group
   pub filled_break : (g : List Spot) (s : Spot) → All IsPlacing g → is_break s ≡ true → filled (Some width) (g ++ s ∷ []) ≡ filled (Some width) g ++ s ∷ []
   filled_break g s placing b = grind (arith, glyphs_before, open_glyphs, break_behind, fill_is, more_filled, filled_is, append_assoc)
 
@@ -178,7 +178,7 @@ filled_none o = grind arith
 pub filled_behind : (o : Option ℕ) (g : List Spot) (s : Spot) → All IsPlacing g → is_break s ≡ true → filled o (g ++ s ∷ []) ≡ filled o g ++ s ∷ []
 filled_behind o g s placing b = grind (arith, filled_break)
 
--- a cut list with characters behind it
+-- a cut list with characters after it
 cut_glyphs : (ys : List Spot) (c : Cut Spot) → AllPass is_glyph ys → cut_from is_break c ys ≡ record { closed = c.closed; open' = c.open' ++ ys }
 cut_glyphs [] c h = ap (λ l. let d : Cut Spot = record { closed = c.closed; open' = l } in d) (sym (append-nil c.open'))
 cut_glyphs (y ∷ ys) c h = grind (arith, All-head, append_assoc, cut_glyphs ys (longer_part is_break c y) (All-tail (λ x. is_glyph x ≡ true) y ys h))
@@ -189,7 +189,7 @@ cut_with ys xs h = fold-append (cut_more is_break) (record { closed = []; open' 
 pub ends_open : (width : ℕ) (xs : List Spot) → Ends width xs → (cut is_break xs).open' ≡ []
 ends_open width xs ends = grind (arith, cut_push)
 
--- the open line of a filled group stands behind its last end of a line
+-- the open line of a filled group stands after its last end of a line
 pub open_line_is : (width : ℕ) (g : List Spot) → All IsPlacing g → after_last is_break (filled (Some width) g) ≡ open_line width g
 open_line_is width g placing =
     grind (arith, after_last_is, filled_is width g placing, cut_with (open_line width g) (ended width g) (open_line_glyphs width g placing), ends_open width (ended width g) (ended_ends width g placing))
@@ -243,7 +243,7 @@ pub word_grows : (line : List Spot) (s : Spot) (o : Option (CutAt Spot)) → is_
 word_grows line s o word e = last_push is_space line s ∙ rw (word, e) refl
 
 module _ (width : ℕ) (g : List Spot) (s : Spot) (placing : All IsPlacing g) (glyph : is_glyph s ≡ true) (fits : line_fits width (open_line width g) ≡ true) where
-  -- the group with an item behind it, by what its open line becomes
+  -- the group with an item after it, by what its open line becomes
   behind : (y : Spot) → relaid width (open_line width g ++ s ∷ []) ≡ open_line width g ++ y ∷ [] → filled (Some width) (g ++ s ∷ []) ≡ filled (Some width) g ++ y ∷ []
   behind y is = grind (arith, filled_character, append_assoc, filled_is)
 
@@ -255,7 +255,7 @@ module _ (width : ℕ) (g : List Spot) (s : Spot) (placing : All IsPlacing g) (g
   pub drops : line_fits width (open_line width g ++ s ∷ []) ≡ false → is_space s ≡ true → filled (Some width) (g ++ s ∷ []) ≡ filled (Some width) g ++ dropped s ∷ []
   drops h space = behind (dropped s) (rw (h, word_begins (open_line width g) s space) refl)
 
-  -- another that doesn't fit, where the line has a space: the last one ends the line, and what stands behind it begins the next
+  -- another that doesn't fit, where the line has a space: the last one ends the line, and what stands after it begins the next
   pub breaks : (c : CutAt Spot) → line_fits width (open_line width g ++ s ∷ []) ≡ false → is_space s ≡ false → cut_at_last is_space (open_line width g) ≡ Some c
       → filled (Some width) (g ++ s ∷ []) ≡ ((ended width g ++ c.before) ++ dropped c.item ∷ []) ++ (c.behind ++ s ∷ [])
   breaks c h word found = grind (arith, filled_character, word_grows, append_assoc, behind)
@@ -264,7 +264,7 @@ module _ (width : ℕ) (g : List Spot) (s : Spot) (placing : All IsPlacing g) (g
   pub stays : line_fits width (open_line width g ++ s ∷ []) ≡ false → is_space s ≡ false → cut_at_last is_space (open_line width g) ≡ None → filled (Some width) (g ++ s ∷ []) ≡ filled (Some width) g ++ s ∷ []
   stays h word none = behind s (rw (h, word_grows (open_line width g) s None word none) refl)
 
--- characters behind a group end no line
+-- characters after a group end no line
 ended_glyphs : (xs ys : List Spot) → AllPass is_glyph ys → ended_lines (xs ++ ys) ≡ ended_lines xs
 ended_glyphs xs ys glyphs = ended_is is_break (xs ++ ys) ∙ ap (λ (d : Cut Spot). d.closed) (cut_with ys xs glyphs) ∙ sym (ended_is is_break xs)
 

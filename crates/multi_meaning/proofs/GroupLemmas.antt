@@ -2,7 +2,7 @@
 use Rattle.multi_meaning.proofs.Common.{length_push, get_or_at, nat_tests, ◌≡◌, ℕ, Bool, true, false, ◌==◌, List, [], ◌∷◌, ◌++◌, None, refl, ◌∙◌, append-nil, arith, cond, length, sym, ap, append_assoc, ◌+◌, ◌<◌, ◌≤◌, ◌&&◌, slice_index_or, ◌-◌, ◌*◌, if◌then◌else◌, nat_le, Some, and_parts, cases_Bool, false≢true, All-weaker, filter-append, All-filter, All-nil, All-head, All-tail, All-push, All-cons, filter, AllPass, All, after_last, count_by, list_any, sum_by, sum_by_push, sum_by-cons, page_number, SignData, CellData, cell_numbered, Spot, is_glyph, Standing, Put, is_break, in_area, in_group, area_of, lines_of, segment, Glyph, standing, char_gap, glyph_width, width_of, IsPlacing, ended_lines, largest, fit, area_fits, is_space, Meaning, ⊎_elim, ◌/◌, find, eq-eqb, ne_eqb, or_cases, cond_both, filter_passes, All-append, line_number, given_gap, bearers, line_height, SmallerFits, room_for}
 use Rattle.multi_meaning.proofs.WordLemmas.{All-around, Cut, cut, cut_ind, cut_push, after_last_is, ended_is, All-split, largest_most, cut_behind_is, cut_ind_all, part, extent_push, extent-append-le, cut_with_item}
 
--- an item that passes, put behind a list
+-- an item that passes, put after a list
 pub filter_yes : {X : Type 0} (p : X → Bool) (xs : List X) (x : X) → p x ≡ true → filter p (xs ++ x ∷ []) ≡ filter p xs ++ x ∷ []
 filter_yes p xs x h = filter-append p xs (x ∷ []) ∙ rw h refl
 
@@ -71,7 +71,7 @@ pub bearers_empty : (b : Spot) → is_glyph b ≡ false → bearers (b ∷ []) �
 bearers_empty b n = rw n refl
 
 -- what holds of nothing, and stays with a line of characters and its end, holds of the lines of placing items that an `nl` ended and
--- of what they are cut from; what stands open behind them is characters
+-- of what they are cut from; what stands open after them is characters
 module _ (P : List Spot → List (List Spot) → Type 0) (none : P [] [])
     (more : (before : List Spot) (lines : List (List Spot)) (line : List Spot) (s : Spot) → AllPass is_glyph line → is_break s ≡ true
     → P before lines → P (before ++ (line ++ s ∷ [])) (lines ++ (line ++ s ∷ []) ∷ [])) where
@@ -154,7 +154,7 @@ lines_within height area fits all =
     let All_filter'' = All-filter (λ t. page_number t.at.page_just == 3) High area all in
     grind (arith, lines_high, All-filter (λ t. page_number t.at.page_just == 2) High area all, All_filter'', All_filter', sum_least line_height, fit_each)
 
--- what stands behind an item of a segment makes it no narrower
+-- what stands after an item of a segment makes it no narrower
 wider : (j : ℕ) (open' rest : List Spot) (y : Spot) → is_glyph y ≡ true → line_number y.at.line_just ≡ j → 1 ≤ glyph_width y → width_of (segment j open') < width_of (segment j (open' ++ y ∷ rest))
 wider j open' rest y glyph just wide =
     grind (arith, nat_tests, filter-append (λ t. is_glyph t && (line_number t.at.line_just == j)) open' (y ∷ rest), extent_push glyph_width char_gap (segment j open') y, extent-append-le glyph_width char_gap (segment j rest) (segment j open' ++ y ∷ []), append_assoc)

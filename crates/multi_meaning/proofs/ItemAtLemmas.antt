@@ -17,7 +17,7 @@ use Rattle.multi_token.proofs.PlaceLemmas.{drop_read}
 use Rattle.multi_token.specs.Spelling.{is_bracket}
 use Rattle.multi_meaning.specs.Meaning.{Meaning}
 use Rattle.multi_meaning.specs.Steps.{again, item_steps, looks, rest_steps}
-use Rattle.multi_meaning.specs.kept.ItemAt.{IsFaultAt, IsFaultRead, IsItemAt, IsBracketedRead}
+use Rattle.multi_meaning.specs.internal.ItemAt.{IsFaultAt, IsFaultRead, IsItemAt, IsBracketedRead}
 use Rattle.multi_meaning.proofs.StepsLemmas.{never_again}
 use Rattle.multi_token.specs.declared.token.Kind.TheVariants as kinds
 
@@ -84,7 +84,7 @@ pub fault_there : {octets : List ℕ} {at code : ℕ} (steps : ℕ) → IsFaultR
 fault_there steps (inl (none, is, counted)) = inl (none, is)
 fault_there steps (inr (len, item)) = inr (len, item_there steps item)
 
--- an item without a fault takes few steps behind its bracket
+-- an item without a fault takes few steps after its bracket
 pub item_few : {octets : List ℕ} {at len : ℕ} {means : Meaning} {steps : ℕ} → ((code : ℕ) → means ≡ Faulty code → ⊥) → IsBracketedRead octets at len means steps → (1 ≤ len) × (steps ≤ 9 * len - 9)
 item_few {octets} {at} {len} {means} {steps} sound (t, at_is, len_is, token, meant, counted) = by (item_of octets t) refl
   where

@@ -4,7 +4,7 @@ use Rattle.multi_meaning.proofs.WordLemmas.{All-around, each_after_push, front_i
 use Rattle.multi_meaning.proofs.GroupLemmas.{placing_group, in_area_placing}
 use Rattle.multi_meaning.proofs.FillLemmas.{LaidAs, filled_laid, filled_behind}
 use Rattle.multi_meaning.proofs.StandingLemmas.{spots_push, spots_with, standing_push, spots_more, spots_nothing, spots_placed}
-use Rattle.multi_meaning.specs.kept.Fits as plain
+use Rattle.multi_meaning.specs.internal.Fits as plain
 
 -- the spots of a group of an area
 abbrev pub members : ℕ → ℕ → List Spot → List Spot
@@ -92,7 +92,7 @@ module _ (setting : LineFill) (all : List Spot) where
     group_whole = group_laid all [] (sym (append-nil all)) ∙ ap (λ n. take n whole) whole_length ∙ take_all (length whole) whole (omega arith)
 
 module _ (setting : LineFill) (sign : SignData) where
-  -- the same is in force behind them, and what they put is laid as it is in the string
+  -- the same is in force after them, and what they put is laid as it is in the string
   abbrev AreLaid : List Meaning → List Meaning → Type 0
   AreLaid all some = (standing sign (laid_items setting sign all some) ≡ standing sign some) × (spots sign (laid_items setting sign all some) ≡ laid setting (spots sign all) (spots sign some))
 
@@ -189,7 +189,7 @@ module _ (setting : LineFill) (sign : SignData) (items : List Meaning) where
   pub same_fill : HasFill setting (fill_at setting (standing sign items)) (standing sign items).area (spots sign items)
   same_fill = grind (arith, spots_placed)
 
-  -- a placing item behind whose group goes this spot, as it is filled, is laid as this spot
+  -- a placing item after whose group goes this spot, as it is filled, is laid as this spot
   pub laid_placing : (x : Meaning) (put : Put) (y : Spot) → put_at sign.defaults (standing sign items) x ≡ Some put → is_member (standing sign items).area (page_number (standing sign items).page_just) (spot_of put) ≡ true
       → filled (fill_at setting (standing sign items)) (group_of (spot_of put) (spots sign items) ++ spot_of put ∷ []) ≡ filled (fill_at setting (standing sign items)) (group_of (spot_of put) (spots sign items)) ++ y ∷ []
       → laid_items setting sign (items ++ x ∷ []) (items ++ x ∷ []) ≡ laid_items setting sign items items ++ laid_of x (Some y) ∷ []
@@ -294,7 +294,7 @@ module _ (sign : SignData) (items : List Meaning) where
   pub same_width : (put : Put) → HasWidth Words (standing sign items).rectangle.width (standing sign items).area (all ++ record { at = standing sign items; put = put } ∷ [])
   same_width put = All-push (λ (x : Spot). x.at.area ≡ (standing sign items).area → fill_at Words x.at ≡ Some (standing sign items).rectangle.width) all (record { at = standing sign items; put = put }) (same_fill Words sign items) (λ same. refl)
 
-  -- an `nl` behind them
+  -- an `nl` after them
   module _ (gap : Option ℕ) where
     abbrev nl : Spot
     nl = record { at = standing sign items; put = Break gap }

@@ -126,7 +126,7 @@ rows_as_laid_out = refl
 abbrev spot_with : Option FlashTimes → Put → Spot
 spot_with flash put = record { at = record first { page = 1; area = 1; fore = 3; flash = flash }; put = put }
 
--- the cell of `A`, and behind its last row more bits, all set
+-- the cell of `A`, and after its last row more bits, all set
 abbrev letter : Put
 letter = Glyph (record { number = 65; width = 3; bits = 0x5e ∷ 0xff ∷ [] })
 

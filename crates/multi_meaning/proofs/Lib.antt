@@ -4,6 +4,7 @@ pub mod FillLawLemmas
 pub mod FillLemmas
 pub mod GroupLemmas
 pub mod ItemAtLemmas
+pub mod ItemRefusalLemmas
 pub mod LaidItemLemmas
 pub mod LayoutExamples
 pub mod RoomLemmas

@@ -1,9 +1,9 @@
--- What is in force behind the items of an accepted string: the rectangle is inside the sign, and every font is at least one
+-- What is in force after the items of an accepted string: the rectangle is inside the sign, and every font is at least one
 use Rattle.multi_meaning.proofs.Common.{◌≡◌, ℕ, ◌+◌, ◌≤◌, Bool, true, ◌&&◌, ◌||◌, ◌==◌, List, [], ◌∷◌, ◌++◌, Option, None, sym, ◌∙◌, arith, IfSome, inl, inr, false, cond, length, Some, refl, ap, option_map, map, length-append, All, cons_option, find, after_last, nat_tests, All-nil, All-head, All-tail, All-filter, All-weaker, filter-append, or_parts, cases_eq, map-append, Defaults, SignData, CellData, FontData, font_numbered, cell_numbered, NewPage, NewLine, Back, Rect, LineFill, Off, Words, page_number, Item, Rectangle, Meaning, Shows, Does, begins_area, meaning, given_rectangle, whole_sign, Standing, standing, Spot, put_at, spots, is_glyph, is_break, Put, Glyph, Break, in_group, lines_of, segment, glyph_width, height_of, offence_by, offence, conflicts, present_area, some_after, area_fits, line_fits, too_big, fill_at, filled, offences, IsSome, All-drop, le-leb, not-false, none-some, IsSound, default_font, given_font, IsNarrow, IsNarrowArea, IsFine, rules}
 use Rattle.multi_meaning.proofs.StandingLemmas.{spots_all, offence-rectangle, standing_push, offence-undefined, offence-character, offence-break, rectangle_stays, present_area-placing, present_area-nothing, present_area-cover, present_area-new, last_fine}
 use Rattle.multi_meaning.proofs.WordLemmas.{left_nil, none_of, push_ind, right_nil, some_after_push, some_after-append, cases_Option, after_last_push}
 use Rattle.multi_meaning.proofs.GroupLemmas.{lines_within, area_placing, in_group_other, own_group, placing_group, fit_each, sum_least}
-use Rattle.multi_meaning.specs.kept.FillOpen.{AllOpenFit}
+use Rattle.multi_meaning.specs.internal.FillOpen.{AllOpenFit}
 use Rattle.multi_meaning.proofs.FillLemmas.{nothing_fits, segment_front, filled_behind, filled_none}
 
 module _ (sign : SignData) where
@@ -15,7 +15,7 @@ module _ (sign : SignData) where
   pub none_last : (f : List Meaning → Meaning → Option ℕ) (items : List Meaning) (item : Meaning) → some_after f (items ++ item ∷ []) ≡ [] → f items item ≡ None
   none_last f items item none = none_of (f items item) [] (right_nil (some_after f items) (cons_option (f items item) []) (sym (some_after_push f items item) ∙ none))
 
-  -- what holds before the first item, and behind each that doesn't offend if it holds before it, holds behind them all
+  -- what holds before the first item, and after each that doesn't offend if it holds before it, holds after them all
   pub each_ind : (f : List Meaning → Meaning → Option ℕ) (P : List Meaning → Type 0) → P [] → ((before : List Meaning) (x : Meaning) → f before x ≡ None → P before → P (before ++ x ∷ []))
       → (items : List Meaning) → some_after f items ≡ [] → P items
   each_ind f P first step = push_ind (λ items. some_after f items ≡ [] → P items) (λ none. first)
@@ -26,7 +26,7 @@ abbrev pub IsInSign : SignData → Rectangle → Type 0
 IsInSign sign r = (r.left + r.width ≤ sign.width) × (r.top + r.height ≤ sign.height)
 
 module _ (sign : SignData) (big : List Spot → Spot → Bool) where
-  -- behind the items of an accepted string the rectangle in force is inside the sign
+  -- after the items of an accepted string the rectangle in force is inside the sign
   pub rectangle_inside : (items : List Meaning) → some_after (offence_by big sign) items ≡ [] → IsInSign sign (standing sign items).rectangle
   unfolding standing
   rectangle_inside = each_ind sign (offence_by big sign) (λ before. IsInSign sign (standing sign before).rectangle) (omega arith, omega arith)
@@ -101,7 +101,7 @@ module _ (setting : LineFill) (sign : SignData) (P : Rectangle → List Spot →
   unfolding standing spots
   first_holds = first (whole_sign sign)
 
-  -- the area behind an item, by what it is and by the rectangle before the item
+  -- the area after an item, by what it is and by the rectangle before the item
   holds_by : (before : List Meaning) (x : Meaning) (area : List Spot) → given_rectangle sign x ≡ None → present_area sign (before ++ x ∷ []) ≡ area
       → P (standing sign before).rectangle area → Holds (before ++ x ∷ [])
   holds_by before x area gives is holds = grind (arith, rectangle_stays)
@@ -113,7 +113,7 @@ module _ (setting : LineFill) (sign : SignData) (P : Rectangle → List Spot →
       → Holds before → Holds (before ++ x ∷ [])
   holds_placing before x put gives stays puts placing fine old = grind (arith, holds_by, present_area-placing)
 
-  -- it holds behind one more item that doesn't offend
+  -- it holds after one more item that doesn't offend
   pub next_holds : (before : List Meaning) (x : Meaning) → offence setting sign before x ≡ None → Holds before → Holds (before ++ x ∷ [])
   next_holds before (Shows number) none old = elim (cases_Option (cell_numbered (standing sign before).font number)) [
     | inl undefined ↦ absurd (none-some 7 (sym none ∙ offence-undefined (too_big setting) sign before number undefined))
@@ -142,7 +142,7 @@ fits_joined : (sign : SignData) (before : List Meaning) (put : Put) → let spot
     (is_glyph spot || is_break spot) ≡ true → too_big Off (spots sign before) spot ≡ false → Fitting spot.at.rectangle (present_area sign before) → Fitting spot.at.rectangle (present_area sign before ++ spot ∷ [])
 fits_joined sign before put placing small old = not-false _ (or_parts _ _ small).1
 
--- behind one more item that doesn't offend the present area fits the rectangle in force, if it does before it
+-- after one more item that doesn't offend the present area fits the rectangle in force, if it does before it
 pub fits_next : (sign : SignData) (before : List Meaning) (x : Meaning) → offence Off sign before x ≡ None → area_fits (standing sign before).rectangle.height (present_area sign before) ≡ true
     → area_fits (standing sign (before ++ x ∷ [])).rectangle.height (present_area sign (before ++ x ∷ [])) ≡ true
 fits_next sign = next_holds Off sign Fitting (λ r. fits_none r.height) (fits_joined sign)
@@ -151,7 +151,7 @@ fits_next sign = next_holds Off sign Fitting (λ r. fits_none r.height) (fits_jo
 pub fits_first : (sign : SignData) → area_fits (standing sign []).rectangle.height (present_area sign []) ≡ true
 fits_first sign = first_holds Off sign Fitting (λ r. fits_none r.height) (fits_joined sign)
 
--- behind the items of an accepted string the present area fits the rectangle in force
+-- after the items of an accepted string the present area fits the rectangle in force
 pub area_fits_always : (sign : SignData) (items : List Meaning) → IsFine sign items → area_fits (standing sign items).rectangle.height (present_area sign items) ≡ true
 area_fits_always sign = holds_always Off sign Fitting (λ r. fits_none r.height) (fits_joined sign)
 
@@ -162,7 +162,7 @@ module _ (sign : SignData) (sound : IsSound sign) (some : IsSome (font_numbered 
       + length (lines_of (in_group 4 (present_area sign items))) ≤ 128
   room_of fits within = grind (arith, lines_within, area_high_all, All-weaker High (λ (s : Spot). 1 ≤ s.at.font.height))
 
-  -- and so has that behind the items of an accepted string
+  -- and so has that after the items of an accepted string
   pub room : IsFine sign items → length (lines_of (in_group 2 (present_area sign items))) + length (lines_of (in_group 3 (present_area sign items)))
       + length (lines_of (in_group 4 (present_area sign items))) ≤ 128
   room none = room_of (area_fits_always sign items none) (rectangle_within sign (too_big Off) items none)
@@ -195,7 +195,7 @@ module _ (setting : LineFill) (fill : Rectangle → Option ℕ) (is : (at : Stan
         | inr other ↦ grind (arith, in_group_other, old)
       ]
 
--- behind the items of an accepted string the present line of each group fits the rectangle in force
+-- after the items of an accepted string the present line of each group fits the rectangle in force
 pub lines_fit_always : (sign : SignData) (items : List Meaning) → IsFine sign items → LinesFit (standing sign items).rectangle.width (present_area sign items)
 lines_fit_always sign = holds_always Off sign (Fits Off (λ r. None) (λ at. refl) sign) (none_fit Off (λ r. None) (λ at. refl) sign) (fits_joins Off (λ r. None) (λ at. refl) sign)
 
@@ -238,7 +238,7 @@ module _ (sign : SignData) (sound : IsSound sign) (items : List Meaning) (fits :
   pub narrow_of : IsNarrowArea (present_area sign items)
   narrow_of = λ just low top. (narrow just, height just low top)
 
--- and so is that behind the items of an accepted string
+-- and so is that after the items of an accepted string
 pub narrow_area : (sign : SignData) → IsSound sign → (items : List Meaning) → IsFine sign items → IsNarrowArea (present_area sign items)
 narrow_area sign sound items none = search (rules, narrow_of, lines_fit_always, area_fits_always, rectangle_width_within, rectangle_within)
 

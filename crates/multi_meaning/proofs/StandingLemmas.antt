@@ -16,7 +16,7 @@ spots_all sign P items x new old = grind (arith, common_steps, spots_push, cases
 pub width_push : (characters : List Spot) (s : Spot) → width_of (characters ++ s ∷ []) ≡ width_of characters + gap_before char_gap characters s + glyph_width s
 width_push characters s = extent_push glyph_width char_gap characters s
 
--- the values in force behind one more item
+-- the values in force after one more item
 pub standing_push : (sign : SignData) (before : List Meaning) (x : Meaning) → standing sign (before ++ x ∷ []) ≡ standing_behind sign (standing sign before) x
 unfolding standing
 standing_push sign before x = grind (arith, sum_by_push, filter_map-append, last_or-append)
@@ -52,7 +52,7 @@ module _ (sign : SignData) where
       (λ behind x ih.
       grind (arith, append_assoc items behind (x ∷ []), behind_push (standing sign items).area (standing sign items).rectangle (items ++ behind) x ih))
 
-  -- all spots of a string in the area behind some items have the rectangle in force there
+  -- all spots of a string in the area after some items have the rectangle in force there
   pub same_rectangle : (items behind : List Meaning) → All (SameRectangle items) (spots sign (items ++ behind))
   same_rectangle items = push_ind (λ behind. All (SameRectangle items) (spots sign (items ++ behind)))
       (subst (λ l. All (SameRectangle items) (spots sign l)) (sym (append-nil items)) (All-weaker (λ s. IsBehind s.at.area s.at.rectangle items) (SameRectangle items) (λ s h. h.1) (spots sign items) (spots_placed items)))
@@ -94,16 +94,16 @@ module _ (sign : SignData) (items : List Meaning) (x : Meaning) where
   pub present_area-new : begins_area x ≡ true → present_area sign (items ++ x ∷ []) ≡ []
   present_area-new begins = grind (arith, area_push, other_area, filter_none, spots_placed)
 
--- what the items behind some others put
+-- what the items after some others put
 abbrev pub spots_behind : SignData → List Meaning → List Meaning → List Spot
 spots_behind sign before behind = some_after (λ more item. spot_at sign.defaults (standing sign (before ++ more)) item) behind
 
--- all items are some and those behind them
+-- all items are some and those after them
 pub spots_split : (sign : SignData) (before behind : List Meaning) → spots sign (before ++ behind) ≡ spots sign before ++ spots_behind sign before behind
 unfolding spots
 spots_split sign before behind = some_after-append (λ before item. spot_at sign.defaults (standing sign before) item) before behind
 
--- the items behind some others leave what these put
+-- the items after some others leave what these put
 pub spots_append : (sign : SignData) (before behind : List Meaning) → (more : List Spot) × (spots sign (before ++ behind) ≡ spots sign before ++ more)
 spots_append sign before behind = (spots_behind sign before behind, spots_split sign before behind)
 
@@ -145,13 +145,13 @@ falls_not : (sign : SignData) (before more : List Meaning)
 unfolding standing
 falls_not sign before more = grind (arith, sum_by-append)
 
--- what the items behind some others put is of their page or a later one
+-- what the items after some others put is of their page or a later one
 pub pages_behind : (sign : SignData) (before behind : List Meaning) → All (IsFrom (standing sign before).page) (spots_behind sign before behind)
 pages_behind sign before behind =
     some_all (λ x. Unit {0}) (IsFrom (standing sign before).page) (λ more item. spot_at sign.defaults (standing sign (before ++ more)) item) behind (grind (arith, All-contains_itself, All-weaker)) (λ more x _. grind (arith, (falls_not sign before more).0))
 
 module _ (sign : SignData) (before : List Meaning) where
-  -- an item that begins an area, and the items behind it, place nothing in the area that ends
+  -- an item that begins an area, and the items after it, place nothing in the area that ends
   ends_next : (x : Meaning) (rest : List Meaning) → begins_area x ≡ true
       → in_area (standing sign before).area (spots sign (before ++ x ∷ rest)) ≡ in_area (standing sign before).area (spots sign before)
   ends_next x rest begins =
@@ -167,7 +167,7 @@ module _ (sign : SignData) (before : List Meaning) where
       → in_area (standing sign before).area (spots sign (before ++ behind)) ≡ in_area (standing sign before).area (spots sign before)
   area_ends behind ends = grind (arith, append-nil, ends_next)
 
-  -- a character joins its area, and the items behind it come after it
+  -- a character joins its area, and the items after it come after it
   pub area_with_glyph : (number : ℕ) (cell : CellData) (rest : List Meaning) → cell_numbered (standing sign before).font number ≡ Some cell →
       let at = standing sign before in let spot : Spot = record { at = at; put = Glyph cell } in
       (more : List Spot) × (in_area at.area (spots sign (before ++ Shows number ∷ rest)) ≡ in_area at.area (spots sign before) ++ spot ∷ more)

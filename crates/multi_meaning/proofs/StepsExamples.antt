@@ -1,4 +1,4 @@
--- The steps of items and of what stands behind them, computed.
+-- The steps of items and of what stands after them, computed.
 use Rattle.multi_meaning.proofs.Common.{◌≡◌, [], ◌∷◌, map, refl}
 use Rattle.multi_token.specs.Spelling.{Char}
 use Rattle.multi_meaning.specs.Steps.{item_steps, items_steps, rest_steps}
@@ -15,6 +15,6 @@ three_characters = refl
 the_end_is_read : rest_steps [] ≡ 1
 the_end_is_read = refl
 
--- a closing bracket, an opening one at the end, and one with two octets behind it before the next bracket
+-- a closing bracket, an opening one at the end, and one with two octets after it before the next bracket
 broken_brackets : map rest_steps ((93 ∷ []) ∷ (91 ∷ []) ∷ (91 ∷ 110 ∷ 108 ∷ 91 ∷ []) ∷ []) ≡ 3 ∷ 4 ∷ 9 ∷ []
 broken_brackets = refl

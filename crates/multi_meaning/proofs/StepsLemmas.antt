@@ -252,12 +252,12 @@ rest_some (bracket ∷ behind) = by (bracket == 91)
     by false = omega arith
 
 -- each of a front
-All-split-at : {X : Type 0} (P : X → Type 0) (xs ys : List X) → All P (xs ++ ys) → All P xs
+pub All-split-at : {X : Type 0} (P : X → Type 0) (xs ys : List X) → All P (xs ++ ys) → All P xs
 All-split-at P [] ys h = All-nil P
 All-split-at P (x ∷ xs) ys h = All-cons P x xs (All-head P x (xs ++ ys) h) (All-split-at P xs ys (All-tail P x (xs ++ ys) h))
 
 -- the first item that offends, if one does
-record Offends (sign : SignData) (items : List Item) : Type 0 where
+pub record Offends (sign : SignData) (items : List Item) : Type 0 where
   pub before : List Item
   pub item : Item
   pub more : List Item
@@ -266,7 +266,7 @@ record Offends (sign : SignData) (items : List Item) : Type 0 where
   pub code : ℕ
   pub offends : offence sign.line_fill sign (map meaning before) (meaning item) ≡ Some code
 
-first_offence : (sign : SignData) (items : List Item) → (offences sign items ≡ []) ⊎ Offends sign items
+pub first_offence : (sign : SignData) (items : List Item) → (offences sign items ≡ []) ⊎ Offends sign items
 first_offence sign = push_ind (λ items. (offences sign items ≡ []) ⊎ Offends sign items) (inl refl) (λ items item ih. elim ih [
   | inl none ↦ by items item none (offence sign.line_fill sign (map meaning items) (meaning item)) refl
   | inr found ↦ inr (record {

@@ -68,7 +68,7 @@ module _ (pages before after : List Times) (here : Times) (is : pages ≡ before
   unfolding shown_within
   shown_off t from until = grind (arith, nat_tests, stands, begins, none_before, begins_later, ends, find_none)
 
--- behind the last item the present page is the last
+-- after the last item the present page is the last
 pub times_are_all : (sign : SignData) (before : List Meaning) → page_times sign before ≡ ended_times sign before ++ times_at (standing sign before) ∷ []
 unfolding page_times
 times_are_all sign before = refl

@@ -17,12 +17,12 @@ one_verdict sign octets v = (
   (λ is. ((reading octets).items, (reading octets).rest, each_string_has_a_reading octets, is)),
 )
 
--- the offences behind one more item
+-- the offences after one more item
 pub offences_push : (sign : SignData) (items : List Item) (item : Item) (o : Option ℕ) → offences sign items ≡ [] → offence sign.line_fill sign (map meaning items) (meaning item) ≡ o
     → offences sign (items ++ item ∷ []) ≡ cons_option (option_map (λ code. (code, length (spell items))) o) []
 offences_push sign items item o none is = grind (arith, some_after_push (fault_at sign) items item)
 
--- the first fault of these items is that of every string that goes on behind them
+-- the first fault of these items is that of every string that goes on after them
 first_stands : (sign : SignData) (items : List Item) (more : List ℕ) (fault : ℕ × ℕ) (faults : List (ℕ × ℕ)) → All IsItem items → offences sign items ≡ fault ∷ faults → verdict sign (spell items ++ more) ≡ Refused fault.0 fault.1
 unfolding verdict verdict_on
 first_stands sign items more fault faults each first = grind (arith, each_string_has_a_reading (spell items ++ more), reading_begins, some_after-append)

@@ -61,7 +61,7 @@ push_ind_from P step (y ∷ ys) xs h = subst P (append_assoc xs (y ∷ []) ys) (
 pub push_ind : {X : Type 0} (P : List X → Type 0) → P [] → ((xs : List X) (x : X) → P xs → P (xs ++ x ∷ [])) → (xs : List X) → P xs
 push_ind P none step xs = push_ind_from P step xs [] none
 
--- what holds of no items, and of each of these behind those before it, holds of every front of them
+-- what holds of no items, and of each of these after those before it, holds of every front of them
 pub front_ind : {X : Type 0} (all : List X) (P : List X → Type 0) → P [] → ((some more : List X) (x : X) → all ≡ some ++ x ∷ more → P some → P (some ++ x ∷ [])) → (some more : List X) → all ≡ some ++ more → P some
 front_ind {X} all P none step = push_ind (λ some. (more : List X) → all ≡ some ++ more → P some) (λ more is. none) (λ some x ih more is. step some more x (is ∙ append_assoc some (x ∷ []) more) (ih (x ∷ more) (is ∙ append_assoc some (x ∷ []) more)))
 
@@ -133,7 +133,7 @@ module _ {X : Type 0} (p : X → Bool) where
   last_push [] x = grind arith
   last_push (y ∷ xs) x = grind (arith, last_push xs x)
 
-  -- a cut gives the list's parts, and none that passes stands behind
+  -- a cut gives the list's parts, and none that passes stands after
   pub record IsCut (xs : List X) (c : CutAt X) : Type 0 where
     pub parts : xs ≡ c.before ++ c.item ∷ c.behind
     pub passes : p c.item ≡ true
@@ -161,7 +161,7 @@ pub extent-append-le : {X : Type 0} (size : X → ℕ) (gap : X → X → ℕ) (
 extent-append-le size gap ys xs = push_ind (λ ys. extent size gap xs ≤ extent size gap (xs ++ ys)) (omega (arith, ap (extent size gap) (append-nil xs)))
     (λ ys y ih. omega (arith, ih, extent_push size gap (xs ++ ys) y, ap (extent size gap) (append_assoc xs ys (y ∷ [])))) ys
 
--- the parts that are closed, and what stands behind them
+-- the parts that are closed, and what stands after them
 pub record Cut (X : Type 0) : Type 0 where
   pub closed : List (List X)
   pub open' : List X
@@ -263,7 +263,7 @@ module _ {X : Type 0} (p : X → Bool) where
   abbrev pub cut_if : Bool → Cut X → X → Cut X
   cut_if b c x = cond b (record { closed = c.closed ++ (c.open' ++ x ∷ []) ∷ []; open' = [] }) (record { closed = c.closed; open' = c.open' ++ x ∷ [] })
 
-  -- what stands behind the last item that passes is the open part
+  -- what stands after the last item that passes is the open part
   pub after_last_is : (xs : List X) → after_last p xs ≡ (cut p xs).open'
   after_last_is = cut_ind p (λ xs c. after_last p xs ≡ c.open') refl (λ xs c x e ih. after_last_push xs x ∙ rw e refl) (λ xs c x e ih. after_last_push xs x ∙ rw (e, ih) refl)
 

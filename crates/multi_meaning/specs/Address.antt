@@ -29,7 +29,7 @@ pub record Standing : Type 0 where
   pub flash : Option FlashTimes
   pub rectangle : Rectangle
 
--- where the item behind some items stands, and what is in force there; pages are counted from 0, and areas from 0
+-- where the item after some items stands, and what is in force there; pages are counted from 0, and areas from 0
 -- through all pages (NTCIP 1203 v03, MULTI)
 unfoldable pub standing : SignData → List Meaning → Standing
 standing sign before = record {
@@ -113,7 +113,7 @@ group_of spot spots = in_group (page_number spot.at.page_just) (area_of spot spo
 abbrev pub lines_of : List Spot → List (List Spot)
 lines_of group = cut_behind is_break group
 
--- the line of a spot, as far as the spots before it go: what stands behind the last `nl` of its group (NTCIP 1203 v03, MULTI tag 'nl')
+-- the line of a spot, as far as the spots before it go: what stands after the last `nl` of its group (NTCIP 1203 v03, MULTI tag 'nl')
 abbrev pub line_before : List Spot → Spot → List Spot
 line_before before spot = after_last is_break (group_of spot before)
 

@@ -14,7 +14,7 @@ use Rattle.multi_meaning.specs.declared.attributes.FlashTimes.{FlashTimes}
 use Rattle.multi_meaning.specs.declared.attributes.Rectangle.{Rectangle}
 use Rattle.multi_meaning.specs.Meaning.{Meaning, Does}
 
--- an attribute in force behind some items is the value that the last of them which gives it gives, else its default
+-- an attribute in force after some items is the value that the last of them which gives it gives, else its default
 -- (NTCIP 1203 v03, MULTI)
 abbrev pub in_force : {A : Type 0} → (Meaning → Option A) → A → List Meaning → A
 in_force given default before = unwrap_or (last_or None (filter_map given before)) default

@@ -29,7 +29,7 @@ cut_at_last p (x ∷ xs) =
     option_map_or (λ c. Some (record c { before = x ∷ c.before })) (cut_at_last p xs)
     (if p x then Some (record { before = []; item = x; behind = xs }) else None)
 
--- a cut list with more items behind it (own)
+-- a cut list with more items after it (own)
 abbrev pub longer : {X : Type 0} → List X → CutAt X → CutAt X
 longer more c = record c { behind = c.behind ++ more }
 
@@ -48,7 +48,7 @@ abbrev pub dropped : Spot → Spot
 dropped space = record space { put = Break None }
 
 -- where characters that don't fit one line are broken: at the last space among the longest prefix that fits and the
--- character behind it; so where that character is a space it is this one, and else the last space that fits (own)
+-- character after it; so where that character is a space it is this one, and else the last space that fits (own)
 abbrev pub soft_break : ℕ → List Spot → Option (CutAt Spot)
 soft_break width characters =
     let most = length (longest_prefix (line_fits width) characters) + 1 in
@@ -65,7 +65,7 @@ abbrev pub fill : ℕ → ℕ → List Spot → List Spot
 fill zero width characters = characters
 fill (suc n) width characters = broken_off (fill n width) characters (soft_break width characters)
 
--- a line that an `nl` ends or that is its group's last, filled; the `nl` stays behind its characters (own)
+-- a line that an `nl` ends or that is its group's last, filled; the `nl` stays after its characters (own)
 abbrev pub filled_line : ℕ → List Spot → List Spot
 filled_line width line = fill (length (filter is_glyph line)) width (filter is_glyph line) ++ filter is_break line
 

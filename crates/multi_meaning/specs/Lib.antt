@@ -14,4 +14,4 @@ pub mod Steps
 pub mod Times
 pub mod Verdict
 pub mod Words
-pub mod kept
+pub mod internal

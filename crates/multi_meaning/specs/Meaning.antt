@@ -34,12 +34,12 @@ meaning (Tag body) = meaning_of_tag (tag_of body)
 abbrev pub meanings : List ℕ → List Meaning
 meanings octets = map meaning (reading octets).items
 
--- a page begins behind the item (NTCIP 1203 v03, MULTI tag 'np')
+-- a page begins after the item (NTCIP 1203 v03, MULTI tag 'np')
 abbrev pub is_new_page : Meaning → Bool
 is_new_page (Does NewPage) = true
 is_new_page _ = false
 
--- an area begins behind the item: at each new page and at each rectangle (NTCIP 1203 v03, MULTI tags 'np' and 'tr')
+-- an area begins after the item: at each new page and at each rectangle (NTCIP 1203 v03, MULTI tags 'np' and 'tr')
 abbrev pub begins_area : Meaning → Bool
 begins_area (Does NewPage) = true
 begins_area (Does (Rect x y w h)) = true

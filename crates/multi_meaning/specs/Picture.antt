@@ -16,7 +16,7 @@ use Rattle.multi_meaning.specs.Place.{place_of}
 use Rattle.multi_meaning.specs.Words.{some_after}
 use Rattle.page_plane.specs.Plane.{BitPlane, is_lit}
 
--- a character is lit at a phase of its page: on first in the first `on` tenths of each flash, off first behind the first `off`
+-- a character is lit at a phase of its page: on first in the first `on` tenths of each flash, off first after the first `off`
 -- ones, and always without a flash or where both its times are 0 (NTCIP 1203 v03, MULTI tag 'fl'; the times of 0 are own)
 abbrev pub is_lit_at : ℕ → Option FlashTimes → Bool
 is_lit_at phase None = true

@@ -16,7 +16,7 @@ start just length size = if just == 3 then (length - size) / 2 else (if just == 
 abbrev pub spread : ℕ → ℕ → ℕ → ℕ
 spread j k spare = j * spare / (k - 1)
 
--- the place of a character, from the spots before it and all spots: in its segment behind the characters before it, and on
+-- the place of a character, from the spots before it and all spots: in its segment after the characters before it, and on
 -- the bottom of its line, which stands under the counted lines before (own)
 unfoldable pub place_of : List Spot → List Spot → Spot → Place
 place_of before all spot =

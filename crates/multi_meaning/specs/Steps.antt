@@ -22,7 +22,7 @@ again (Faulty code) body = length body + 1 + min 3 (length body)
 again means body = 0
 
 -- the steps of an item, with so many octets from its first one on: that octet is read and looked up in the font in force. A
--- doubled bracket takes a read and a look more; a tag a read of the octet behind its bracket, one for each of 26 octets from there
+-- doubled bracket takes a read and a look more; a tag a read of the octet after its bracket, one for each of 26 octets from there
 -- on, or of as many as there are, and what it is judged by (own)
 abbrev pub item_steps : ℕ → Item → ℕ
 item_steps left (Char number) = if is_bracket number then 4 else 2
@@ -32,7 +32,7 @@ item_steps left (Tag body) = 3 + min 26 (left - 1) + again (meaning (Tag body)) 
 abbrev pub items_steps : ℕ → List Item → ℕ
 items_steps n items = sum_by (λ k. k) (each_after (λ before item. item_steps (n - length (spell before)) item) items)
 
--- the steps behind the last item: the end is read. A broken bracket is read and looked up, and the octet behind it is read; of
+-- the steps after the last item: the end is read. A broken bracket is read and looked up, and the octet after it is read; of
 -- an opening one also 26 octets from there on or as many as there are, and then those up to the next bracket or the end (own)
 abbrev pub rest_steps : List ℕ → ℕ
 rest_steps [] = 1

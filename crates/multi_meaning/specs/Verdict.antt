@@ -1,9 +1,9 @@
 -- The verdict on a string: its first item that offends, or its pages (NTCIP 1203 v03, dmsMultiSyntaxError).
-use Rattle.std.specs.Prelude.{◌≡◌, ◌↔◌, ℕ, ◌+◌, List, [], ◌∷◌, ◌++◌, map, length, drop, Option}
+use Rattle.std.specs.Prelude.{◌≡◌, ◌↔◌, ℕ, ◌+◌, List, [], ◌∷◌, ◌++◌, map, length, drop, take, Option}
 use Rattle.std.specs.List.{All, count_by}
 use Rattle.std.specs.Option.{option_map}
 use Rattle.multi_token.specs.Broken.{IsOpen, StaysBroken}
-use Rattle.multi_token.specs.Spelling.{Item, IsItem, spell, IsReading}
+use Rattle.multi_token.specs.Spelling.{Item, IsItem, BeginsWith, spelling, spell, IsReading}
 use Rattle.multi_token.specs.Reading.{reading}
 use Rattle.sign_font.specs.Sign.{SignData}
 use Rattle.multi_meaning.specs.Meaning.{Meaning, meaning, is_new_page}
@@ -21,7 +21,7 @@ fault_at sign before item =
 abbrev pub offences : SignData → List Item → List (ℕ × ℕ)
 offences sign items = some_after (fault_at sign) items
 
--- a rest behind the items is a broken bracket, which is 3 unsupportedTag at its first octet (own)
+-- a rest after the items is a broken bracket, which is 3 unsupportedTag at its first octet (own)
 abbrev pub broken : List Item → List ℕ → List (ℕ × ℕ)
 broken items [] = []
 broken items (octet ∷ rest) = (3, length (spell items)) ∷ []
@@ -66,6 +66,12 @@ OneVerdict = (sign : SignData) (octets : List ℕ) (v : Verdict) → IsVerdict s
 abbrev pub RefusalStands : Type 0
 RefusalStands = (sign : SignData) (octets : List ℕ) (code at : ℕ) → verdict sign octets ≡ Refused code at → ¬ (IsOpen (drop at octets))
     → (more : List ℕ) → verdict sign (octets ++ more) ≡ Refused code at
+
+-- a law: a refusal for an item is that of every string with the same octets up to the end of that item, however it goes on (own)
+abbrev pub ItemRefusalStands : Type 0
+ItemRefusalStands = (sign : SignData) (octets : List ℕ) (code at : ℕ) → verdict sign octets ≡ Refused code at
+    → (item : Item) (rest more : List ℕ) → BeginsWith (drop at octets) item rest
+    → verdict sign (take at octets ++ (spelling item ++ more)) ≡ Refused code at
 
 -- a law: a refusal for a bracket that stays broken stands for every string with the same octets up to there (own)
 abbrev pub BrokenBracketStands : Type 0

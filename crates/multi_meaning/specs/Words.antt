@@ -17,7 +17,7 @@ successive [] = []
 successive (x ∷ []) = []
 successive (x ∷ y ∷ xs) = (x, y) ∷ successive (y ∷ xs)
 
--- the parts of a list that is cut behind each item that passes p; no part is empty (own)
+-- the parts of a list that is cut after each item that passes p; no part is empty (own)
 abbrev pub cut_behind : {X : Type 0} → (X → Bool) → List X → List (List X)
 cut_behind p [] = []
 cut_behind p (x ∷ xs) = if p x then (x ∷ []) ∷ cut_behind p xs else onto_first x (cut_behind p xs)

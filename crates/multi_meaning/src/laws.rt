@@ -1,9 +1,8 @@
 //! What holds of the definitions.
 
-ghost use Rattle.multi_meaning.specs.FillLaw.{KeepsBreaks};
-ghost use Rattle.multi_meaning.specs.Fit.{SmallerFits};
+ghost use Rattle.multi_meaning.specs.FillLaw.{KeepsBreaks, SmallerFits};
 ghost use Rattle.multi_meaning.specs.Steps.{JudgingIsLinear};
-ghost use Rattle.multi_meaning.specs.Verdict.{BrokenBracketStands, OneVerdict, RefusalStands};
+ghost use Rattle.multi_meaning.specs.Verdict.{BrokenBracketStands, ItemRefusalStands, OneVerdict, RefusalStands};
 
 /// A law of the definitions: every string has exactly one verdict.
 pub fn one_verdict()
@@ -15,6 +14,13 @@ pub fn one_verdict()
 #[tactic(auto, using(crate::proofs::VerdictLemmas::refusal_stands))]
 pub fn refusal_stands()
     ensures { RefusalStands }
+{}
+
+/// A law of the definitions: if a string is refused for an item, so is every string with the same octets up to the end of that item, with
+/// the same error at the same position.
+#[tactic(auto, using(crate::proofs::ItemRefusalLemmas::item_refusal_stands))]
+pub fn item_refusal_stands()
+    ensures { ItemRefusalStands }
 {}
 
 /// A law of the definitions: if a string is refused for a bracket that stays broken, so is every string with the same octets up

@@ -14,8 +14,8 @@ mod times;
 pub use attributes::{FlashTimes, Rectangle};
 pub use fault::SyntaxError;
 pub use laws::{
-    broken_bracket_stands, judging_is_linear, keeps_breaks, one_verdict, refusal_stands,
-    smaller_fits,
+    broken_bracket_stands, item_refusal_stands, judging_is_linear, keeps_breaks, one_verdict,
+    refusal_stands, smaller_fits,
 };
 pub use place::Place;
 pub use times::Shown;

@@ -1,4 +1,4 @@
--- Tags that stand in octets, by what was read of those behind their opening bracket.
+-- Tags that stand in octets, by what was read of those after their opening bracket.
 use Rattle.std.proofs.Common.{◌≡◌, ℕ, suc, ◌+◌, ◌-◌, ◌^◌, ◌<◌, ◌≤◌, List, [], ◌∷◌, ◌++◌, Some, length, take, drop, refl, sym, ap, subst, ◌∙◌, arith, append_assoc, length-append, length-take, length-drop}
 use Rattle.std.specs.Prelude.{min, slice_get, slice_range}
 use Rattle.std.specs.List.{All}
@@ -25,7 +25,7 @@ pub body_long : (body : List ℕ) (tag : Tag) → Spells body tag → 2 ≤ leng
 unfolding Spells SpellsSmall
 body_long body tag (name, rest, is, f) = omega (arith, ap length is, length-append (table name).name rest, (short_names name).some, length-map body to_ascii_lowercase)
 
--- where nothing stands behind a name, no number of a character is read
+-- where nothing stands after a name, no number of a character is read
 no_hex : (name : Name) (number : ℕ) → read_rest name [] ≡ Some (HexChar number) → ⊥
 no_hex names.NewPage number e = cc
 no_hex _ number e = cc

@@ -1,14 +1,13 @@
 -- Forms before a closing bracket: what was read is their value.
-use Rattle.std.proofs.Common.{◌≡◌, rules, ℕ, ◌+◌, ◌^◌, ◌≤◌, false, true, List, [], ◌∷◌, ◌++◌, Option, Some, None, lit≤, refl, sym, ap, subst, ◌∙◌, inl, inr, append_assoc}
+use Rattle.std.proofs.Common.{◌≡◌, ℕ, ◌+◌, ◌^◌, ◌≤◌, false, true, List, [], ◌∷◌, ◌++◌, Option, Some, None, lit≤, refl, sym, ap, subst, ◌∙◌, inl, inr, append_assoc}
 use Rattle.std.proofs.lemmas.Option.{none-some, same_Some}
 use Rattle.std.proofs.lemmas.List.Elements.{All-head}
-use Rattle.multi_tag.specs.declared.name.Name.{Name}
 use Rattle.multi_tag.specs.declared.name.Name.TheVariants as names
 use Rattle.multi_tag.specs.declared.tag.Tag.TheVariants.{Font, PageTime, Flash}
 use Rattle.multi_tag.specs.Number.{IsDigit}
 use Rattle.multi_tag.specs.Form.{Form, IsNumber, d, d?, h, ◌means◌, between}
 use Rattle.multi_tag.specs.Body.{table}
-use Rattle.multi_tag.specs.Part.{IsCut, IsPartBefore, HasNoPartBefore, HasOne, bounds, in_range, times}
+use Rattle.multi_tag.specs.Part.{IsCut, IsPartBefore, HasNoPartBefore, in_range, times}
 use Rattle.multi_tag.proofs.CutLemmas.{cut_before, one_front, one_first}
 use Rattle.multi_tag.proofs.NumberLemmas.{no_digit, digits_optional, number_written, written_number, optional_written, written_optional}
 
@@ -60,16 +59,8 @@ pub bracket_stops : ¬ (IsDigit 10 93)
 bracket_stops = no_digit 10 93 (lit≤ tt)
 
 -- where no number or none stands before a bracket, no number does
-number_lacks : (low high : ℕ) (octets : List ℕ) → HasNoPartBefore 93 (d? low high) octets → HasNoPartBefore 93 (d low high) octets
+pub number_lacks : (low high : ℕ) (octets : List ℕ) → HasNoPartBefore 93 (d? low high) octets → HasNoPartBefore 93 (d low high) octets
 number_lacks low high octets none front behind n is f = none front behind (Some n) is (inr (n, f, refl))
-
--- what shows that no part stands there
-ruleset lacking = (means_no_part, number_lacks)
-
--- no number of the range before a bracket is no tag that has one at most
-pub one_no_part : (name : Name) → HasOne name → (octets : List ℕ) → HasNoPartBefore 93 (d? (bounds name).0 (bounds name).1) octets → HasNoPartBefore 93 (table name).rest octets
-one_no_part names.NewLine one octets none = search (rules, lacking)
-one_no_part _ one octets none = search (rules, lacking)
 
 pub optional_lacks : (low high : ℕ) (octets rest : List ℕ) → IsPartBefore 93 (d? low high) octets None rest → HasNoPartBefore 93 (d low high) octets
 optional_lacks low high octets rest (front, is, inr (n, f, lacks)) a behind v same g = none-some n lacks
@@ -117,7 +108,7 @@ flash_no_part octets none t o front behind tag is f =
       | inr (inr (inr (inr (v, (r, e, g), _)))) ↦ o (r ++ 93 ∷ behind) (whole (111 ∷ r) e) r behind v refl (inr g)
     ]
 
--- a font, and its version behind a comma
+-- a font, and its version after a comma
 pub font_no_part : (octets : List ℕ) (value : Option ℕ) (rest : List ℕ) → IsCut 10 5 octets value rest
     → ((o : Option ℕ) (behind : List ℕ) → in_range 1 255 value ≡ Some o → rest ≡ 93 ∷ behind → ⊥)
     → ((m : ℕ) (behind : List ℕ) → in_range 1 255 value ≡ Some (Some m) → rest ≡ 44 ∷ behind → HasNoPartBefore 93 (h 0 65535) behind)
@@ -136,7 +127,7 @@ font_version_part octets second rest m v (front, is, inr (n, f, same)) next =
     let (whole, e, both) = between_part 44 (d 1 255) (h 0 65535) octets m v second rest (front, is, rw (same_Some m n same) f) next in
     (whole, e, inr (inr ((m, v), both, refl)))
 
--- a number before a comma, and a form behind it
+-- a number before a comma, and a form after it
 module _ {V : Type 0} (form : Form V) (octets : List ℕ) where
   pub pair_no_first : HasNoPartBefore 44 (d 0 99999) octets → HasNoPartBefore 93 (between 44 (d 0 99999) form) octets
   pair_no_first none = between_no_part 44 (d 0 99999) form octets (λ x next (a, whole, g). absurd (none a next x whole g))

@@ -1,4 +1,4 @@
--- Octets behind an opening bracket: what was read of them is a tag that is closed there, or shows that there is none.
+-- Octets after an opening bracket: what was read of them is a tag that is closed there, or shows that there is none.
 use Rattle.std.proofs.Common.{◌≡◌, ℕ, ◌+◌, ◌-◌, ◌≤◌, List, [], ◌∷◌, ◌++◌, length, refl, sym, ap, ◌∙◌, arith, append_assoc}
 use Rattle.std.specs.Char.{to_ascii_lowercase}
 use Rattle.std.specs.Str.{str_to_ascii_lowercase}
@@ -37,7 +37,7 @@ begins_small body behind name rest e =
     map-append to_ascii_lowercase body behind ∙ (ap (λ ys. ys ++ str_to_ascii_lowercase behind) e ∙ append_assoc name rest (str_to_ascii_lowercase behind))
 
 module _ (octets rest : List ℕ) (name : Name) (begins : str_to_ascii_lowercase octets ≡ (table name).name ++ str_to_ascii_lowercase rest) where
-  -- a rest before a bracket closes a tag there, and what is behind it is no longer than the octets
+  -- a rest before a bracket closes a tag there, and what is after it is no longer than the octets
   pub closed_tag : (tag : Tag) (behind : List ℕ) → IsPartBefore 93 (table name).rest (str_to_ascii_lowercase rest) tag (str_to_ascii_lowercase behind)
       → (length behind ≤ length octets) × IsClosedTag octets tag (length octets - length behind)
   unfolding Spells SpellsSmall

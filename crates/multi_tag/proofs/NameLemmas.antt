@@ -22,7 +22,7 @@ pub no_name : (octets : List ℕ) → name_at_front octets ≡ None → HasNameA
 unfolding HasNameAtFront
 no_name octets e (name, rest, is) = none-some name (sym e ∙ (ap name_at_front is ∙ named name rest))
 
--- a body of one octet, or of two that are no name's with what stands behind them
+-- a body of one octet, or of two that are no name's with what stands after them
 pub no_short_name : (body : List ℕ) → length body < 2 → HasNameAtFront (str_to_ascii_lowercase body) → ⊥
 no_short_name [] short = no_name [] refl
 no_short_name (first ∷ []) short = no_name (to_ascii_lowercase first ∷ []) (grind (arith, nat_tests))

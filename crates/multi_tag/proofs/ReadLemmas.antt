@@ -15,7 +15,8 @@ use Rattle.multi_token.proofs.PlaceLemmas.{after_opening, length-tag}
 use Rattle.multi_tag.specs.declared.tag.Tag.{Tag}
 use Rattle.multi_tag.specs.declared.tag.TagFault.{TagFault}
 use Rattle.multi_tag.specs.declared.tag.TagFault.TheVariants.{Unsupported, Value}
-use Rattle.multi_tag.specs.Body.{table, Spells, SpellsSmall, SpellsNoTag, HasName, HasNameAtFront, IsReadOf}
+use Rattle.multi_tag.specs.Body.{table, Spells, SpellsSmall, HasName, HasNameAtFront}
+use Rattle.multi_tag.specs.Read.{SpellsNoTag, IsReadOf}
 use Rattle.multi_tag.specs.Closed.{IsClosedTag, HasNoClosedTag}
 use Rattle.multi_token.proofs.SpellingLemmas.{one_plain_front}
 use Rattle.multi_tag.proofs.AheadLemmas.{front_length, front_whole, whole_front}
@@ -36,7 +37,7 @@ pub record IsAnswer (body : List ℕ) (result : Result Tag TagFault) : Type 0 wh
   pub unsupported : (result ≡ Err Unsupported) ↔ (¬ (HasName body))
   pub value : (result ≡ Err Value) ↔ (HasName body × SpellsNoTag body)
 
--- a bracket that stands behind octets stands behind those of them that have none
+-- a bracket that stands after octets stands after those of them that have none
 front_has : (plain rest body behind : List ℕ) → All IsPlain plain → body ++ 93 ∷ behind ≡ plain ++ rest → (more : List ℕ) × (body ≡ plain ++ more)
 front_has [] rest body behind each e = (body, refl)
 front_has (c ∷ plain) rest [] behind each e =
@@ -121,6 +122,6 @@ module _ (octets front : List ℕ) (token : Token) (n : ℕ) (tag : IsTagOf octe
           value = (λ same. (says.1.0 cc, no), λ both. ap Err (says.1.1 both.0));
         }
 
-    -- a tag that was read took a step for each octet behind its first
+    -- a tag that was read took a step for each octet after its first
     pub token_steps : (read : Tag) → Spells (body_of octets token) read → length front ≡ token.len - 1
     token_steps read spells = omega (arith, front_lent (omega arith), length-tag octets token tag, (short_body (body_of octets token) read spells).few)

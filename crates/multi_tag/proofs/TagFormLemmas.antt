@@ -99,7 +99,7 @@ nothing_or_read value none also = or_read (nothing_read value) also (λ octets v
 pub optional_read : (low high : ℕ) → IsRead (form.d? low high) (reads.decimal? low high)
 optional_read low high = nothing_or_read None refl (means_read Some (digits_read 10 5 low high))
 
--- behind an octet
+-- after an octet
 pub after_read : {V : Type 0} {spells : Form V} {read : Reads V} (octet : ℕ) → IsRead spells read → IsRead (form.after octet spells) (reads.read_after octet read)
 after_read {V} {spells} {read} octet is = record {
   sound = sound;
@@ -114,7 +114,7 @@ after_read {V} {spells} {read} octet is = record {
     sound [] v e = absurd (none-some v e)
     sound (first ∷ rest) v e = begun first rest v (first == octet) refl e
 
--- the octets before the first of a kind, and those behind it
+-- the octets before the first of a kind, and those after it
 module _ (octet : ℕ) where
   parts_are : (octets front rest : List ℕ) → parts octet octets ≡ Some (front, rest) → octets ≡ front ++ octet ∷ rest
   parts_are [] front rest e = cc

@@ -7,7 +7,8 @@ use Rattle.multi_tag.specs.declared.name.Name.{Name}
 use Rattle.multi_tag.specs.declared.tag.Tag.{Tag}
 use Rattle.multi_tag.specs.declared.tag.TagFault.{TagFault}
 use Rattle.multi_tag.specs.declared.tag.TagFault.TheVariants.{Unsupported, Value}
-use Rattle.multi_tag.specs.Body.{table, Spells, SpellsSmall, HasName, HasNameAtFront, SpellsNoTag, OneTagAtMost}
+use Rattle.multi_tag.specs.Body.{table, Spells, SpellsSmall, HasName, HasNameAtFront}
+use Rattle.multi_tag.specs.Read.{SpellsNoTag, OneTagAtMost}
 use Rattle.multi_tag.specs.TagOf.{read_rest, listed, name_at_front, tag_behind, tag_of, TagOfIsTheTable}
 use Rattle.std.proofs.Math.Seq.{drop-append_seam}
 use Rattle.multi_tag.proofs.TagRowLemmas.{rest_read, begun, found}

@@ -1,4 +1,4 @@
--- Rows of the table: names as they are found, and what stands behind them as it is read.
+-- Rows of the table: names as they are found, and what stands after them as it is read.
 use Rattle.std.proofs.Common.{◌≡◌, ℕ, ◌≤◌, lit≤, true, false, List, [], ◌∷◌, ◌++◌, Option, Some, None, length, drop, refl, inl, inr}
 use Rattle.std.specs.Prelude.{nat_eq, find, option_map}
 use Rattle.std.specs.List.{starts_with, All}

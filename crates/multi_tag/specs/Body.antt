@@ -1,11 +1,10 @@
 -- The table of tags: their names, and the forms of what follows a name.
-use Rattle.std.specs.Prelude.{◌≡◌, ℕ, false, true, List, ◌++◌, Some, None, Result, Ok, codes, option_map}
+use Rattle.std.specs.Prelude.{◌≡◌, ℕ, false, true, List, ◌++◌, Some, None, codes, option_map}
 use Rattle.std.specs.Str.{str_to_ascii_lowercase}
 use Rattle.multi_tag.specs.declared.name.Name.{Name}
 use Rattle.multi_tag.specs.declared.name.Name.TheVariants as names
 use Rattle.multi_tag.specs.declared.tag.Tag.{Tag}
 use Rattle.multi_tag.specs.declared.tag.Tag.TheVariants.{NewPage, NewLine, LineJust, PageJust, Font, CharSpacing, CharSpacingEnd, PageTime, Flash, FlashEnd, Fore, Back, Rect, HexChar}
-use Rattle.multi_tag.specs.declared.tag.TagFault.{TagFault}
 use Rattle.multi_tag.specs.Octet.{comma, letter_o, letter_t}
 use Rattle.multi_tag.specs.Just.{line_just_of, page_just_of}
 use Rattle.multi_tag.specs.Form.{Form, nothing, d, d?, h, ◌means◌, ◌or◌, after, between}
@@ -73,16 +72,4 @@ HasNameAtFront octets = (name : Name) × (rest : List ℕ) × (octets ≡ (table
 unfoldable pub HasName : List ℕ → Type 0
 HasName body = HasNameAtFront (str_to_ascii_lowercase body)
 
--- a body spells no tag (NTCIP 1203 v03, MULTI)
-abbrev pub SpellsNoTag : List ℕ → Type 0
-SpellsNoTag body = (tag : Tag) → ¬ (Spells body tag)
-
--- every tag that a body spells is what was read of it (own)
-abbrev pub IsReadOf : List ℕ → Result Tag TagFault → Type 0
-IsReadOf body result = (tag : Tag) → Spells body tag → result ≡ Ok tag
-
 -- LAWS
-
--- a body spells at most one tag (own)
-abbrev pub OneTagAtMost : Type 0
-OneTagAtMost = (body : List ℕ) (a b : Tag) → Spells body a → Spells body b → a ≡ b

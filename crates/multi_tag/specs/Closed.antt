@@ -1,4 +1,4 @@
--- Tags in octets that begin behind an opening bracket.
+-- Tags in octets that begin after an opening bracket.
 use Rattle.std.specs.Prelude.{◌≡◌, ℕ, ◌+◌, ◌≤◌, List, ◌∷◌, ◌++◌, length}
 use Rattle.multi_token.specs.declared.token.Kind.TheVariants as kinds
 use Rattle.multi_token.specs.Tokens.{IsTagOf, body_of}

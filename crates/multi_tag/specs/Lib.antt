@@ -6,4 +6,5 @@ pub mod Just
 pub mod Number
 pub mod Octet
 pub mod Part
+pub mod Read
 pub mod TagOf

@@ -4,8 +4,6 @@ use Rattle.std.specs.List.{All}
 use Rattle.std.specs.Char.{digit_value}
 use Rattle.multi_tag.specs.Number.{IsDigit, number}
 use Rattle.multi_tag.specs.Form.{Form, d?, ◌means◌, ◌or◌, between}
-use Rattle.multi_tag.specs.declared.name.Name.{Name}
-use Rattle.multi_tag.specs.declared.name.Name.TheVariants as names
 
 -- the number that digits write, if there are digits (own)
 abbrev pub written : ℕ → List ℕ → Option ℕ
@@ -46,23 +44,3 @@ HasNoPartBefore {V} octet form octets = (front behind : List ℕ) (value : V) �
 -- one time, or two times with a letter between them (NTCIP 1203 v03, MULTI tags 'pt' and 'fl')
 abbrev pub times : ℕ → Form (Option ℕ × Option ℕ)
 times letter = (d? 0 255 means (λ first. (first, None))) or between letter (d? 0 255) (d? 0 255)
-
--- a tag with this name has one number at most behind it (own)
-abbrev pub HasOne : Name → Type 0
-HasOne names.NewLine = Unit {0}
-HasOne names.LineJust = Unit {0}
-HasOne names.PageJust = Unit {0}
-HasOne names.CharSpacing = Unit {0}
-HasOne names.Fore = Unit {0}
-HasOne names.Back = Unit {0}
-HasOne name = ⊥
-
--- the least and the largest number of a tag that has one at most (own)
-abbrev pub bounds : Name → ℕ × ℕ
-bounds names.NewLine = (0, 255)
-bounds names.LineJust = (2, 5)
-bounds names.PageJust = (2, 4)
-bounds names.CharSpacing = (0, 255)
-bounds names.Fore = (0, 9)
-bounds names.Back = (0, 9)
-bounds name = (0, 0)

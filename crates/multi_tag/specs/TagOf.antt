@@ -64,7 +64,7 @@ abbrev pub read_after : {V : Type 0} → ℕ → Reads V → Reads V
 read_after octet form [] = None
 read_after octet form (first ∷ rest) = if first == octet then form rest else None
 
--- the octets before the first of a kind, and those behind it, if one stands there (own)
+-- the octets before the first of a kind, and those after it, if one stands there (own)
 abbrev pub parts : ℕ → Reads (List ℕ × List ℕ)
 parts octet [] = None
 parts octet (first ∷ rest) =

@@ -11,7 +11,7 @@ use multi_token::Source;
 /// The tag that begins with the opening bracket at an offset, which was read already, and the number of octets that spell it; or
 /// `None` where no tag begins there, or one that has no value.
 ///
-/// The octets behind the bracket are read, 26 of them or as many as there are: no tag with a value has more.
+/// The octets after the bracket are read, 26 of them or as many as there are: no tag with a value has more.
 #[inline(always)]
 pub fn read_ahead(source: &mut Source<'_>, at: usize) -> Option<(Tag, usize)>
     requires stands { slice_get source.old.octets at ≡ Some 91 }

@@ -1,6 +1,6 @@
-//! Tags in octets behind an opening bracket, in one reading.
+//! Tags in octets after an opening bracket, in one reading.
 
-ghost use Rattle.std.specs.Prelude.{◌≡◌, ◌≢◌, ◌≤◌, ℕ, List, ◌∷◌, IfSome, IfNone, Some, None};
+ghost use Rattle.std.specs.Prelude.{◌≡◌, ◌≢◌, ◌≤◌, ℕ, List, ◌∷◌, ◌++◌, IfSome, IfNone, Some, None};
 ghost use Rattle.std.specs.Str.{str_to_ascii_lowercase};
 ghost use Rattle.multi_tag.specs.declared.name.Name.TheVariants as names;
 ghost use Rattle.multi_tag.specs.Body.{table};
@@ -8,7 +8,7 @@ ghost use Rattle.multi_tag.specs.Closed.{HasNoClosedTag, IsClosedTag};
 ghost use Rattle.multi_tag.specs.Form.{d, d?, h};
 ghost use Rattle.multi_tag.specs.Number.{IsDigit};
 ghost use Rattle.multi_tag.specs.Octet.{comma};
-ghost use Rattle.multi_tag.specs.Part.{HasNoPartBefore, HasOne, IsPartBefore, bounds, times};
+ghost use Rattle.multi_tag.specs.Part.{HasNoPartBefore, IsPartBefore, times};
 
 use crate::just::{LineJust, PageJust};
 use crate::name::{Name, read_name};
@@ -22,6 +22,18 @@ pub fn read_closed(octets: &[u8]) -> Option<(Tag, usize)>
     ensures none { IfNone result (HasNoClosedTag octets.now) }
 {
     let (name, rest) = read_name(octets)?;
+    read_named(octets, rest, name)
+}
+
+/// The same, where these octets begin with this name and go on with this rest.
+///
+/// It stands in its callers' code, so that one that knows the name reads the forms of that name alone.
+#[inline(always)]
+pub fn read_named(octets: &[u8], rest: &[u8], name: Name) -> Option<(Tag, usize)>
+    requires name { str_to_ascii_lowercase octets.now ≡ (table name).name ++ str_to_ascii_lowercase rest.now }
+    ensures some { IfSome result (λ (tag, len). IsClosedTag octets.now tag len) }
+    ensures none { IfNone result (HasNoClosedTag octets.now) }
+{
     let (tag, behind) = read_rest(rest, name)?;
     Some((tag, octets.len() - behind.len()))
 }
@@ -35,60 +47,56 @@ fn read_rest(octets: &[u8], name: Name) -> Option<(Tag, &[u8])>
 {
     match name {
         Name::NewPage => Some((Tag::NewPage, after_bracket(octets)?)),
-        Name::Font => font_tag(octets),
+        Name::Font => {
+            let (pick, behind) = read_font(octets)?;
+            Some((Tag::Font(pick), behind))
+        }
         Name::CharSpacingEnd => Some((Tag::CharSpacingEnd, after_bracket(octets)?)),
         Name::PageTime => {
             let (on, off, behind) = read_times(octets, b'o')?;
             Some((Tag::PageTime { on, off }, behind))
         }
-        Name::Flash => flash_tag(octets),
+        Name::Flash => {
+            let (off_first, on, off, behind) = read_flash(octets)?;
+            Some((Tag::Flash { off_first, on, off }, behind))
+        }
         Name::FlashEnd => Some((Tag::FlashEnd, after_bracket(octets)?)),
-        Name::Rect => rect_tag(octets),
+        Name::Rect => {
+            let (x, y, w, h, behind) = read_rect(octets)?;
+            Some((Tag::Rect { x, y, w, h }, behind))
+        }
         Name::HexChar => {
             let (number, behind) = read_hexadecimal(octets, 1)?;
             Some((Tag::HexChar(number), behind))
         }
-        _ => read_one(octets, name),
+        Name::NewLine => {
+            let (gap, behind) = read_optional(octets, 0, 255)?;
+            Some((Tag::NewLine(gap), behind))
+        }
+        Name::LineJust => {
+            let (just, behind) = read_optional(octets, 2, 5)?;
+            Some((Tag::LineJust(just.map(LineJust::of)), behind))
+        }
+        Name::PageJust => {
+            let (just, behind) = read_optional(octets, 2, 4)?;
+            Some((Tag::PageJust(just.map(PageJust::of)), behind))
+        }
+        Name::CharSpacing => {
+            let (pixels, behind) = read_optional(octets, 0, 255)?;
+            Some((Tag::CharSpacing(pixels?), behind))
+        }
+        Name::Fore => {
+            let (colour, behind) = read_optional(octets, 0, 9)?;
+            Some((Tag::Fore(colour), behind))
+        }
+        Name::Back => {
+            let (colour, behind) = read_optional(octets, 0, 9)?;
+            Some((Tag::Back(colour), behind))
+        }
     }
 }
 
-/// The least and the largest number of a tag that has one number at most; 0 and 0 for any other tag.
-fn bounds(name: Name) -> (u8, u8)
-    ensures { result ≡ bounds name }
-{
-    match name {
-        Name::NewLine | Name::CharSpacing => (0, 255),
-        Name::LineJust => (2, 5),
-        Name::PageJust => (2, 4),
-        Name::Fore | Name::Back => (0, 9),
-        _ => (0, 0),
-    }
-}
-
-/// What stands between the name of a tag that has one number at most and a bracket. All such tags are read here, so that the reading
-/// of a number stands once in what reads them.
-#[inline(always)]
-fn read_one(octets: &[u8], name: Name) -> Option<(Tag, &[u8])>
-    requires one { HasOne name }
-    ensures some { IfSome result (λ (tag, behind).
-        IsPartBefore 93 (table name).rest (str_to_ascii_lowercase octets.now) tag (str_to_ascii_lowercase behind.now)) }
-    ensures none { IfNone result (HasNoPartBefore 93 (table name).rest (str_to_ascii_lowercase octets.now)) }
-{
-    let (low, high) = bounds(name);
-    let (value, behind) = read_optional(octets, low, high)?;
-    match name {
-        Name::NewLine => Some((Tag::NewLine(value), behind)),
-        Name::LineJust => Some((Tag::LineJust(value.map(LineJust::of)), behind)),
-        Name::PageJust => Some((Tag::PageJust(value.map(PageJust::of)), behind)),
-        Name::CharSpacing => Some((Tag::CharSpacing(value?), behind)),
-        Name::Fore => Some((Tag::Fore(value), behind)),
-        Name::Back => Some((Tag::Back(value), behind)),
-        // Any other tag has more, or nothing.
-        _ => unreachable!(),
-    }
-}
-
-/// The octets behind a closing bracket, or `None` where they don't begin with it.
+/// The octets after a closing bracket, or `None` where they don't begin with it.
 #[inline(always)]
 fn after_bracket(octets: &[u8]) -> Option<&[u8]>
     ensures some { IfSome result (λ rest. str_to_ascii_lowercase octets.now ≡ 93 ∷ str_to_ascii_lowercase rest.now) }
@@ -141,7 +149,7 @@ fn read_coordinate(octets: &[u8]) -> Option<(u32, &[u8])>
 }
 
 /// One time, or two times with this letter between them, before a bracket. The letter is given as a small one.
-#[inline(always)]
+#[inline(never)]
 fn read_times(octets: &[u8], letter: u8) -> Option<(Option<u8>, Option<u8>, &[u8])>
     requires letter { ¬ (IsDigit 10 letter) }
     requires other { letter ≢ 93 }
@@ -164,74 +172,37 @@ fn read_times(octets: &[u8], letter: u8) -> Option<(Option<u8>, Option<u8>, &[u8
     Some((first, second, behind))
 }
 
-/// The tag of a flash, made anew of what was read, so that tags of shorter forms stand in no memory.
-#[inline(always)]
-fn flash_tag(octets: &[u8]) -> Option<(Tag, &[u8])>
-    ensures some { IfSome result (λ (tag, behind).
-        IsPartBefore 93 (table names.Flash).rest (str_to_ascii_lowercase octets.now) tag (str_to_ascii_lowercase behind.now)) }
-    ensures none { IfNone result (HasNoPartBefore 93 (table names.Flash).rest (str_to_ascii_lowercase octets.now)) }
-{
-    let (tag, behind) = read_flash(octets)?;
-    Some((tag, behind))
-}
-
-/// The times of a flash before a bracket: it is on first if they begin with a 't', and off first if they begin with an 'o'.
+/// The times of a flash before a bracket, first whether it is off first: it is on first if they begin with a 't', and off first if they
+/// begin with an 'o'.
 #[inline(never)]
-fn read_flash(octets: &[u8]) -> Option<(Tag, &[u8])>
-    ensures some { IfSome result (λ (tag, behind).
-        IsPartBefore 93 (table names.Flash).rest (str_to_ascii_lowercase octets.now) tag (str_to_ascii_lowercase behind.now)) }
+fn read_flash(octets: &[u8]) -> Option<(bool, Option<u8>, Option<u8>, &[u8])>
+    ensures some { IfSome result (λ (off_first, on, off, behind).
+        IsPartBefore 93 (table names.Flash).rest (str_to_ascii_lowercase octets.now) (Tag.Flash off_first on off)
+        (str_to_ascii_lowercase behind.now)) }
     ensures none { IfNone result (HasNoPartBefore 93 (table names.Flash).rest (str_to_ascii_lowercase octets.now)) }
 {
     let [first, rest @ ..] = octets else {
         return None;
     };
     match *first {
-        b']' => {
-            let tag = Tag::Flash {
-                off_first: false,
-                on: None,
-                off: None,
-            };
-            Some((tag, rest))
-        }
+        b']' => Some((false, None, None, rest)),
         b't' | b'T' => {
             let (on, off, behind) = read_times(rest, b'o')?;
-            let tag = Tag::Flash {
-                off_first: false,
-                on,
-                off,
-            };
-            Some((tag, behind))
+            Some((false, on, off, behind))
         }
         b'o' | b'O' => {
             let (off, on, behind) = read_times(rest, b't')?;
-            let tag = Tag::Flash {
-                off_first: true,
-                on,
-                off,
-            };
-            Some((tag, behind))
+            Some((true, on, off, behind))
         }
         _ => None,
     }
 }
 
-/// The tag of a font, made anew of what was read, so that tags of shorter forms stand in no memory.
-#[inline(always)]
-fn font_tag(octets: &[u8]) -> Option<(Tag, &[u8])>
-    ensures some { IfSome result (λ (tag, behind).
-        IsPartBefore 93 (table names.Font).rest (str_to_ascii_lowercase octets.now) tag (str_to_ascii_lowercase behind.now)) }
-    ensures none { IfNone result (HasNoPartBefore 93 (table names.Font).rest (str_to_ascii_lowercase octets.now)) }
-{
-    let (tag, behind) = read_font(octets)?;
-    Some((tag, behind))
-}
-
 /// A font, and its version after a comma, before a bracket.
 #[inline(never)]
-fn read_font(octets: &[u8]) -> Option<(Tag, &[u8])>
-    ensures some { IfSome result (λ (tag, behind).
-        IsPartBefore 93 (table names.Font).rest (str_to_ascii_lowercase octets.now) tag (str_to_ascii_lowercase behind.now)) }
+fn read_font(octets: &[u8]) -> Option<(Option<FontPick>, &[u8])>
+    ensures some { IfSome result (λ (pick, behind).
+        IsPartBefore 93 (table names.Font).rest (str_to_ascii_lowercase octets.now) (Tag.Font pick) (str_to_ascii_lowercase behind.now)) }
     ensures none { IfNone result (HasNoPartBefore 93 (table names.Font).rest (str_to_ascii_lowercase octets.now)) }
 {
     let (value, rest) = read_numeral(octets, 10, 5);
@@ -241,54 +212,41 @@ fn read_font(octets: &[u8]) -> Option<(Tag, &[u8])>
     };
     if *stop == b']' {
         let Some(number) = number else {
-            return Some((Tag::Font(None), rest));
+            return Some((None, rest));
         };
         let pick = FontPick {
             number,
             version: None,
         };
-        return Some((Tag::Font(Some(pick)), rest));
+        return Some((Some(pick), rest));
     }
     if *stop != b',' {
         return None;
     }
     let number = number?;
     let (version, behind) = read_hexadecimal(rest, 0)?;
-    Some((
-        Tag::Font(Some(FontPick {
-            number,
-            version: Some(version),
-        })),
-        behind,
-    ))
-}
-
-/// The tag of a rectangle, made anew of what was read, so that tags of shorter forms stand in no memory.
-#[inline(always)]
-fn rect_tag(octets: &[u8]) -> Option<(Tag, &[u8])>
-    ensures some { IfSome result (λ (tag, behind).
-        IsPartBefore 93 (table names.Rect).rest (str_to_ascii_lowercase octets.now) tag (str_to_ascii_lowercase behind.now)) }
-    ensures none { IfNone result (HasNoPartBefore 93 (table names.Rect).rest (str_to_ascii_lowercase octets.now)) }
-{
-    let (tag, behind) = read_rect(octets)?;
-    Some((tag, behind))
+    let pick = FontPick {
+        number,
+        version: Some(version),
+    };
+    Some((Some(pick), behind))
 }
 
 /// Four numbers with commas between them, before a bracket.
 #[inline(never)]
-fn read_rect(octets: &[u8]) -> Option<(Tag, &[u8])>
-    ensures some { IfSome result (λ (tag, behind).
-        IsPartBefore 93 (table names.Rect).rest (str_to_ascii_lowercase octets.now) tag (str_to_ascii_lowercase behind.now)) }
+fn read_rect(octets: &[u8]) -> Option<(u32, u32, u32, u32, &[u8])>
+    ensures some { IfSome result (λ (x, y, w, h, behind).
+        IsPartBefore 93 (table names.Rect).rest (str_to_ascii_lowercase octets.now) (Tag.Rect x y w h) (str_to_ascii_lowercase behind.now)) }
     ensures none { IfNone result (HasNoPartBefore 93 (table names.Rect).rest (str_to_ascii_lowercase octets.now)) }
 {
     let (x, octets) = read_before_comma(octets)?;
     let (y, octets) = read_before_comma(octets)?;
     let (w, octets) = read_before_comma(octets)?;
     let (h, behind) = read_coordinate(octets)?;
-    Some((Tag::Rect { x, y, w, h }, behind))
+    Some((x, y, w, h, behind))
 }
 
-/// A number before a comma, and the octets behind the comma.
+/// A number before a comma, and the octets after the comma.
 #[inline(always)]
 fn read_before_comma(octets: &[u8]) -> Option<(u32, &[u8])>
     ensures some { IfSome result (λ (number, rest).

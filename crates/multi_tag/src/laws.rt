@@ -1,6 +1,6 @@
 //! What holds of every body.
 
-ghost use Rattle.multi_tag.specs.Body.{OneTagAtMost};
+ghost use Rattle.multi_tag.specs.Read.{OneTagAtMost};
 ghost use Rattle.multi_tag.specs.Closed.{NoLongBody};
 ghost use Rattle.multi_tag.specs.TagOf.{TagOfIsTheTable};
 

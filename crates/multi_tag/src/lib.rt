@@ -18,8 +18,9 @@ mod read;
 mod tag;
 
 pub use ahead::read_ahead;
-pub use closed::read_closed;
+pub use closed::{read_closed, read_named};
 pub use just::{LineJust, PageJust};
 pub use laws::{no_long_body, one_tag_at_most, tag_of_is_the_table};
+pub use name::{Name, read_name};
 pub use read::{read_fault, read_tag};
 pub use tag::{FontPick, Tag, TagFault};

@@ -23,7 +23,7 @@ pub enum Name {
     HexChar,
 }
 
-/// The name that begins a body, and the octets behind it, or `None` where no listed name does.
+/// The name that begins a body, and the octets after it, or `None` where no listed name does.
 #[inline(always)]
 pub fn read_name(body: &[u8]) -> Option<(Name, &[u8])>
     ensures name { IfSome result (λ (name, rest).

@@ -6,7 +6,7 @@ ghost use Rattle.std.specs.Str.{str_to_ascii_lowercase};
 ghost use Rattle.multi_tag.specs.Part.{IsCut, digit_of, in_range};
 
 /// The number that the digits at the front of octets write, at most `most` digits of a base, or `None` where there is no
-/// digit, and the octets behind those digits.
+/// digit, and the octets after those digits.
 ///
 /// It stands in its callers' code, so that the base is known where digits are read.
 #[inline(always)]

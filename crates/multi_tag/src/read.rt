@@ -3,7 +3,8 @@
 ghost use Rattle.std.specs.Prelude.{◌≡◌, ◌↔◌, ◌-◌, min, IfOk, OnOk, OnErr, Err};
 ghost use Rattle.multi_token.specs.Counted.{charged, RisesBetween};
 ghost use Rattle.multi_token.specs.Tokens.{IsTagOf, body_of};
-ghost use Rattle.multi_tag.specs.Body.{Spells, SpellsNoTag, IsReadOf, HasName};
+ghost use Rattle.multi_tag.specs.Body.{Spells, HasName};
+ghost use Rattle.multi_tag.specs.Read.{SpellsNoTag, IsReadOf};
 
 use crate::closed::read_closed;
 use crate::name::read_name;
@@ -15,7 +16,7 @@ use multi_token::{Source, Token};
 /// The fault is [`TagFault::Unsupported`] if no name of the table begins the body, and [`TagFault::Value`] if one does but
 /// what follows the name has none of its forms, or a number is outside its range.
 ///
-/// It takes no more steps than the token has octets behind its first; a tag that is read takes exactly as many.
+/// It takes no more steps than the token has octets after its first; a tag that is read takes exactly as many.
 // called, so that the code of whoever goes from item to item stays small
 #[inline(never)]
 pub fn read_tag(source: &mut Source<'_>, token: &Token) -> Result<Tag, TagFault>
@@ -34,7 +35,7 @@ pub fn read_tag(source: &mut Source<'_>, token: &Token) -> Result<Tag, TagFault>
     ensures value_steps { OnOk result (source.new ≡ charged source.old (token.now.len - 1)) }
     ensures fault_steps { OnErr result (RisesBetween source.old source.new 1 (token.now.len - 1)) }
 {
-    // no tag that has a value has more than 26 octets behind its first, and a name stands in the first three of these
+    // no tag that has a value has more than 26 octets after its first, and a name stands in the first three of these
     let octets = source.ahead(token.at + 1, (token.len - 1).min(26));
     let Some((tag, _)) = read_closed(octets) else {
         return Err(fault(octets));
@@ -54,7 +55,7 @@ pub fn read_fault(source: &mut Source<'_>, token: &Token) -> TagFault
     fault(source.ahead(token.at + 1, (token.len - 2).min(3)))
 }
 
-/// Why octets behind an opening bracket, which begin with no tag that has a value, have none.
+/// Why octets after an opening bracket, which begin with no tag that has a value, have none.
 #[inline(always)]
 fn fault(octets: &[u8]) -> TagFault
     ensures unsupported { result ≡ TagFault.Unsupported → ¬ (HasName octets.now) }

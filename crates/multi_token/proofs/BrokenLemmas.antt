@@ -16,8 +16,8 @@ closed_none octet rest other (Char c) behind (is, e) =
     ]
 closed_none octet rest other (Tag body) behind (is, e) = let first : ◌≡◌ {A = ℕ} 93 91 = cc in absurd (omega arith)
 
--- nothing begins with an opening bracket, octets without brackets and a bracket that doesn't end them: an opening one behind
--- some, or a closing one behind none
+-- nothing begins with an opening bracket, octets without brackets and a bracket that doesn't end them: an opening one after
+-- some, or a closing one after none
 opened_none : (body : List ℕ) (octet : ℕ) (rest : List ℕ) → All IsPlain body → (IsPlain octet → ⊥) → (octet ≡ 91 → body ≢ []) → (octet ≡ 93 → body ≡ [])
     → HasNoItem (91 ∷ (body ++ octet ∷ rest))
 opened_none body octet rest plain stops some none (Char c) behind (is, e) =
@@ -66,7 +66,7 @@ parted (octet ∷ octets) =
 no_head : (octet : ℕ) (octets : List ℕ) → octet ∷ octets ≢ []
 no_head octet octets e = cc
 
--- behind an opening bracket
+-- after an opening bracket
 opened : (octets body behind : List ℕ) → All IsPlain body → IsStopped behind → octets ≡ body ++ behind → HasNoItem (91 ∷ octets) → IsOpen (91 ∷ octets) ⊎ StaysBroken (91 ∷ octets)
 opened octets body [] plain stops is none = inl (inr (body, plain, ap (λ l. 91 ∷ l) (is ∙ append-nil body)))
 opened octets body (octet ∷ rest) plain stops is none =
@@ -79,7 +79,7 @@ opened octets body (octet ∷ rest) plain stops is none =
     bodiless [] each e = refl
     bodiless (x ∷ b) each e = absurd (none (Tag (x ∷ b)) rest ((no_head x b, each), ap (λ l. 91 ∷ l) (e ∙ sym (append_assoc (x ∷ b) (93 ∷ []) rest))))
 
--- behind a closing bracket
+-- after a closing bracket
 closed : (octets : List ℕ) → HasNoItem (93 ∷ octets) → IsOpen (93 ∷ octets) ⊎ StaysBroken (93 ∷ octets)
 closed [] none = inl (inl refl)
 closed (octet ∷ octets) none = inr (λ more. closed_none octet (octets ++ more) (λ e. none (Char 93) octets (tt, ap (λ n. 93 ∷ n ∷ octets) e)))

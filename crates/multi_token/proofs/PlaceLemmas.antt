@@ -10,10 +10,10 @@ use Rattle.std.proofs.lemmas.Bool.{cases_eq, eq-eqb, ne_eqb}
 use Rattle.std.proofs.lemmas.List.Elements.{All-nil, All-push, All-head, All-tail}
 use Rattle.multi_token.specs.declared.token.Token.{Token}
 use Rattle.multi_token.specs.declared.token.Kind.TheVariants as kinds
-use Rattle.multi_token.specs.Spelling.{Char, Tag, IsPlain, IsEndedBy, spelling, HasNoItem}
+use Rattle.multi_token.specs.Spelling.{Char, Tag, IsPlain, spelling, HasNoItem}
+use Rattle.multi_token.specs.Tokens.{IsEndedBy, bracket_steps, IsBracketed, IsTokenOf, IsTagOf, item_of, item_spelled, body_of, octets_of}
 use Rattle.multi_token.specs.declared.token.Bracketed.{Bracketed}
 use Rattle.multi_token.specs.declared.token.Bracketed.TheVariants as bracketed
-use Rattle.multi_token.specs.Tokens.{bracket_steps, IsBracketed, IsTokenOf, IsTagOf, item_of, item_spelled, body_of, octets_of}
 use Rattle.multi_token.proofs.SpellingLemmas.{IsStopped, one_plain_front, doubled, single, spelled_char}
 
 -- the list from a place on, where x stands at it

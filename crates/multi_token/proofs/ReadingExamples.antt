@@ -2,7 +2,8 @@
 use Rattle.std.proofs.Common.{◌≡◌, ℕ, true, false, List, [], ◌∷◌, Some, None, codes, refl, inl, inr, arith}
 use Rattle.std.specs.List.{All}
 use Rattle.std.proofs.lemmas.List.Elements.{All-from_recursion}
-use Rattle.multi_token.specs.Spelling.{Char, Tag, IsPlain, IsEndedBy, IsBody, IsItem, BeginsWith, spelling, spell}
+use Rattle.multi_token.specs.Spelling.{Char, Tag, IsPlain, IsBody, IsItem, BeginsWith, spelling, spell}
+use Rattle.multi_token.specs.Tokens.{IsEndedBy}
 use Rattle.multi_token.specs.Reading.{Reading, is_plain, reading, read_items, read_item}
 use Rattle.multi_token.specs.Broken.{IsOpen, StaysBroken, CanBeMended}
 

@@ -121,7 +121,7 @@ stands (c ∷ s) = go (bracket_cases c)
         subst (Stands (c ∷ s)) (sym (ap (λ a. cond a (opened_item s) (cond (c == 93) (closed_item s) (Some (Char c)))) e.0 ∙ ap (λ a. cond a (closed_item s) (Some (Char c))) e.1))
         (s, (tt, sym (ap (λ b. cond b (c ∷ c ∷ []) (c ∷ []) ++ s) (ap (λ a. a || (c == 93)) e.0 ∙ e.1))))
 
--- a reading of what follows an item, put behind the item
+-- a reading of what follows an item, put after the item
 reading_cons : (s r : List ℕ) (x : Item) (more : Reading) → BeginsWith s x r → IsReading r more.items more.rest → IsReading s (x ∷ more.items) more.rest
 reading_cons s r x more h m = record {
   each = All-cons IsItem x more.items h.0 m.each;

@@ -1,13 +1,15 @@
 -- Runs: one octet more, where a run ends, and its last space.
-use Rattle.std.proofs.Common.{◌≡◌, ℕ, ◌+◌, ◌-◌, ◌<◌, ◌≤◌, List, [], ◌∷◌, length, get_or, take, drop, inl, inr, Option, Some, None, sym, ap, subst, ◌∙◌, arith}
+use Rattle.std.proofs.Common.{rules, refl, true, false, ◌≡◌, ℕ, ◌+◌, ◌-◌, ◌<◌, ◌≤◌, List, [], ◌∷◌, length, get_or, take, drop, inl, inr, Option, Some, None, sym, ap, subst, ◌∙◌, arith}
 use Rattle.std.specs.Prelude.{slice_get}
 use Rattle.std.specs.List.{All}
 use Rattle.std.proofs.lemmas.List.{length-take-le, length-take, length-drop, get_or-take, get_or-drop, take_more, take-take, drop_all, drop-append-le}
 use Rattle.std.proofs.lemmas.Bool.{cases_lt}
-use Rattle.std.proofs.lemmas.List.Elements.{All-nil, All-push}
+use Rattle.std.proofs.lemmas.List.Elements.{All-more, All-nil, All-push}
 use Rattle.std.proofs.lemmas.List.Sums.{sum_by_push, sum_by-take-le}
 use Rattle.std.proofs.lemmas.Option.{slice_get-get_or, slice_get_past, slice_get_within}
 use Rattle.multi_token.specs.declared.source.Space.{Space}
+use Rattle.multi_token.specs.Spelling.{IsPlain, is_bracket}
+use Rattle.multi_token.specs.Tokens.{IsEndedBy}
 use Rattle.multi_token.specs.Run.{IsLastSpace, IsNoSpace, IsRun, taken}
 
 -- the number of pixels of an octet with its gap
@@ -55,7 +57,7 @@ module _ {table : List ℕ} {gap room : ℕ} {octets : List ℕ} {len left : ℕ
   pub front_width : room - left ≡ taken table gap (take len octets)
   front_width = omega (arith, f.left_is)
 
--- what stands behind an offset
+-- what stands after an offset
 pub get_behind : (octets : List ℕ) (from at : ℕ) → slice_get (drop from octets) at ≡ slice_get octets (from + at)
 get_behind octets from at = elim (cases_lt (from + at) (length octets)) [
   | inl within ↦
@@ -103,3 +105,17 @@ module _ (table : List ℕ) (gap : ℕ) (octets : List ℕ) (len : ℕ) (short :
         through
             ∙ ap (taken table gap) (take-take (space.at + 1) len octets (omega (arith, within)) ∙ sym (take-take (space.at + 1) (len + 1) octets (omega (arith, within)))),
       )
+
+-- octets without brackets, and the next octet
+module _ (octets : List ℕ) (len : ℕ) (short : len < length octets) where
+  -- octets without brackets have one more
+  pub plain_more : (next : ℕ) → next ≡ len + 1 → is_bracket (get_or octets len 0) ≡ false → All IsPlain (take len octets) → All IsPlain (take next octets)
+  plain_more next is none plain = rw is (All-more IsPlain octets len 0 short plain (search rules))
+
+  -- a bracket ends them
+  pub ended_here : is_bracket (get_or octets len 0) ≡ true → IsEndedBy octets len (slice_get octets len)
+  ended_here bracket = (refl, rw (slice_get-get_or octets len 0 short) (search rules))
+
+-- the end ends octets without brackets
+pub ended_past : (octets : List ℕ) (len : ℕ) → length octets ≤ len → IsEndedBy octets len (slice_get octets len)
+ended_past octets len long = (refl, rw (slice_get_past octets len long) tt)

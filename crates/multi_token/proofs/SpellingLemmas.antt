@@ -3,7 +3,8 @@ use Rattle.std.proofs.Common.{◌≡◌, ℕ, List, [], ◌∷◌, ◌++◌, ref
 use Rattle.std.specs.List.{All}
 use Rattle.std.proofs.lemmas.Bool.{eq-eqb, ne_eqb, cases_eq}
 use Rattle.std.proofs.lemmas.List.Elements.{All-head, All-tail}
-use Rattle.multi_token.specs.Spelling.{Item, Char, Tag, IsPlain, IsItem, spelling, spell, HasNoItem, NoSpellingBeginsAnother, OneReading}
+use Rattle.multi_token.specs.Spelling.{Item, Char, Tag, IsPlain, IsItem, spelling, spell, HasNoItem, OneReading}
+use Rattle.multi_token.specs.Tokens.{NoSpellingBeginsAnother}
 
 -- no plain octet stands first
 abbrev pub IsStopped : List ℕ → Type 0
@@ -84,7 +85,7 @@ reading_begins (x ∷ xs) (z ∷ zs) r t p q none h =
     let (ws, more, behind) = reading_begins xs zs r t (All-tail IsItem x xs p) (All-tail IsItem z zs q) none same.1 in
     (ws, (λ i. sym is i ∷ more i), behind)
 
--- nothing stands behind a whole reading
+-- nothing stands after a whole reading
 ends_there : (ws : List Item) (t t' : List ℕ) → All IsItem ws → HasNoItem t → t ≡ spell ws ++ t' → ws ≡ []
 ends_there [] t t' each none e = refl
 ends_there (w ∷ ws) t t' each none e = absurd (none w (spell ws ++ t') (All-head IsItem w ws each, e ∙ append_assoc (spelling w) (spell ws) t'))

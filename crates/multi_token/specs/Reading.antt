@@ -8,7 +8,7 @@ use Rattle.multi_token.specs.Spelling.{Item, Char, Tag, is_bracket, spelling, Is
 abbrev pub is_plain : ℕ → Bool
 is_plain octet = if is_bracket octet then false else true
 
--- the tag of a body, if the body has octets and `]` stands behind it (own)
+-- the tag of a body, if the body has octets and `]` stands after it (own)
 abbrev pub closed_tag : List ℕ → List ℕ → Option Item
 closed_tag [] behind = None
 closed_tag (octet ∷ body) [] = None
@@ -18,12 +18,12 @@ closed_tag (octet ∷ body) (next ∷ behind) = if next == 93 then Some (Tag (oc
 abbrev pub tag_behind : List ℕ → Option Item
 tag_behind octets = closed_tag (take_while is_plain octets) (drop (length (take_while is_plain octets)) octets)
 
--- the item behind `[`: the doubled bracket, or a tag (own)
+-- the item after `[`: the doubled bracket, or a tag (own)
 abbrev pub opened_item : List ℕ → Option Item
 opened_item [] = None
 opened_item (next ∷ octets) = if next == 91 then Some (Char 91) else tag_behind (next ∷ octets)
 
--- the item behind `]`: the doubled bracket (own)
+-- the item after `]`: the doubled bracket (own)
 abbrev pub closed_item : List ℕ → Option Item
 closed_item [] = None
 closed_item (next ∷ octets) = if next == 93 then Some (Char 93) else None

@@ -1,5 +1,5 @@
 -- Items and their spelling (NTCIP 1203 v03, MULTI: characters, tags and the doubled brackets).
-use Rattle.std.specs.Prelude.{⊤, ◌≡◌, ◌≢◌, ℕ, ◌==◌, Bool, ◌||◌, List, [], ◌∷◌, ◌++◌, if◌then◌else◌, ◌⊎◌, Option, IfSome, slice_get}
+use Rattle.std.specs.Prelude.{⊤, ◌≡◌, ◌≢◌, ℕ, ◌==◌, Bool, ◌||◌, List, [], ◌∷◌, ◌++◌, if◌then◌else◌}
 use Rattle.std.specs.List.{flat_map, All}
 
 -- a character by its number, or a tag by its body; the characters of a string of octets are 0 to 255 (NTCIP 1203 v03, MULTI)
@@ -10,10 +10,6 @@ pub data Item : Type 0 where
 -- an octet that is neither `[` nor `]` (own)
 abbrev pub IsPlain : ℕ → Type 0
 IsPlain octet = (octet ≢ 91) × (octet ≢ 93)
-
--- octets without brackets end at this offset, by a bracket or by the end of the string (own)
-abbrev pub IsEndedBy : List ℕ → ℕ → Option ℕ → Type 0
-IsEndedBy octets at ending = (ending ≡ slice_get octets at) × IfSome ending (λ octet. (octet ≡ 91) ⊎ (octet ≡ 93))
 
 -- the body of a tag is one or more octets without brackets (NTCIP 1203 v03, MULTI)
 abbrev pub IsBody : List ℕ → Type 0
@@ -53,10 +49,6 @@ pub record IsReading (octets : List ℕ) (items : List Item) (rest : List ℕ) :
   pub ends : HasNoItem rest
 
 -- LAWS
-
--- no item's spelling begins another's (own)
-abbrev pub NoSpellingBeginsAnother : Type 0
-NoSpellingBeginsAnother = (x y : Item) (rest : List ℕ) → IsItem x → IsItem y → spelling y ≡ spelling x ++ rest → x ≡ y
 
 -- a string has no two readings (own)
 abbrev pub OneReading : Type 0

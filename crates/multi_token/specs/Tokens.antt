@@ -1,5 +1,5 @@
 -- Tokens as the items that they stand for.
-use Rattle.std.specs.Prelude.{◌^◌, ◌<◌, ◌≡◌, ℕ, ◌+◌, ◌-◌, ◌≤◌, ◌==◌, if◌then◌else◌, List, length, drop, slice_range}
+use Rattle.std.specs.Prelude.{◌^◌, ◌<◌, ◌≡◌, ℕ, ◌+◌, ◌-◌, ◌≤◌, ◌==◌, ◌⊎◌, if◌then◌else◌, List, ◌++◌, length, drop, slice_get, slice_range, Option, IfSome}
 use Rattle.std.specs.List.{take_while}
 use Rattle.multi_token.specs.Reading.{is_plain}
 use Rattle.multi_token.specs.declared.token.Token.{Token}
@@ -7,7 +7,7 @@ use Rattle.multi_token.specs.declared.token.Bracketed.{Bracketed}
 use Rattle.multi_token.specs.declared.token.Bracketed.TheVariants as bracketed
 use Rattle.multi_token.specs.declared.token.Kind.{Kind}
 use Rattle.multi_token.specs.declared.token.Kind.TheVariants as kinds
-use Rattle.multi_token.specs.Spelling.{Item, Char, Tag, spelling, BeginsWith}
+use Rattle.multi_token.specs.Spelling.{Item, Char, Tag, IsItem, spelling, BeginsWith}
 
 -- the item of this kind; only a tag has a body (own)
 abbrev pub item_of_kind : Kind → List ℕ → Item
@@ -40,7 +40,7 @@ abbrev pub octets_of : Bracketed → ℕ
 octets_of bracketed.Doubled = 2
 octets_of (bracketed.Tag len) = len + 2
 
--- the steps of reading on behind a bracket with which nothing begins: behind `[` up to the next bracket or the end, behind `]` one
+-- the steps of reading on after a bracket with which nothing begins: after `[` up to the next bracket or the end, after `]` one
 -- (own)
 abbrev pub bracket_steps : ℕ → List ℕ → ℕ
 bracket_steps bracket behind = if bracket == 91 then length (take_while is_plain behind) + 1 else 1
@@ -54,3 +54,11 @@ IsBracketed octets at bracket (bracketed.Tag len) = IsTokenOf octets (record { a
 abbrev pub item_spelled : List ℕ → ℕ → ℕ → Bracketed → Item
 item_spelled octets at bracket bracketed.Doubled = Char bracket
 item_spelled octets at bracket (bracketed.Tag len) = Tag (slice_range octets (at + 1) (at + 1 + len))
+
+-- octets without brackets end at this offset, by a bracket or by the end of the string (own)
+abbrev pub IsEndedBy : List ℕ → ℕ → Option ℕ → Type 0
+IsEndedBy octets at ending = (ending ≡ slice_get octets at) × IfSome ending (λ octet. (octet ≡ 91) ⊎ (octet ≡ 93))
+
+-- no item's spelling begins another's (own)
+abbrev pub NoSpellingBeginsAnother : Type 0
+NoSpellingBeginsAnother = (x y : Item) (rest : List ℕ) → IsItem x → IsItem y → spelling y ≡ spelling x ++ rest → x ≡ y

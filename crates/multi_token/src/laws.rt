@@ -1,7 +1,8 @@
 //! What holds of every spelling.
 
 ghost use Rattle.multi_token.specs.Broken.{OpenIsMended, OpenOrBroken};
-ghost use Rattle.multi_token.specs.Spelling.{NoSpellingBeginsAnother, OneReading};
+ghost use Rattle.multi_token.specs.Spelling.{OneReading};
+ghost use Rattle.multi_token.specs.Tokens.{NoSpellingBeginsAnother};
 ghost use Rattle.multi_token.specs.Reading.{EachStringHasAReading};
 
 /// A law of the definitions: no item's spelling begins another's.

@@ -4,7 +4,8 @@ ghost use Rattle.std.specs.Prelude.{◌≡◌, ℕ, ◌+◌, ◌-◌, ◌*◌, �
 ghost use Rattle.std.specs.List.{All};
 ghost use Rattle.multi_token.specs.Counted.{charged};
 ghost use Rattle.multi_token.specs.Run.{IsLastSpace, IsRun, entry_of, look_steps, taken};
-ghost use Rattle.multi_token.specs.Spelling.{IsEndedBy, IsPlain, is_bracket};
+ghost use Rattle.multi_token.specs.Spelling.{IsPlain, is_bracket};
+ghost use Rattle.multi_token.specs.Tokens.{IsEndedBy};
 
 use crate::advances::Advances;
 use std::marker::Model;
@@ -234,6 +235,22 @@ fn plain_front(octets: &[u8], most: usize) -> usize
 {
     let end = octets.len().min(most);
     let mut len = 0;
+    // by four, each with a way out of its own, since tags at fault are long
+    while end - len >= 4 {
+        if is_bracket(octets[len]) {
+            return len;
+        }
+        if is_bracket(octets[len + 1]) {
+            return len + 1;
+        }
+        if is_bracket(octets[len + 2]) {
+            return len + 2;
+        }
+        if is_bracket(octets[len + 3]) {
+            return len + 3;
+        }
+        len += 4;
+    }
     while len < end && !is_bracket(octets[len]) {
         len += 1;
     }

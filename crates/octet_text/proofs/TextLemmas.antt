@@ -15,7 +15,7 @@ flat_map_same f g a (suc n) same =
     ap (λ x. x ++ flat_map f (range_with_len (a + 1) n)) (same a (omega arith))
     ∙ ap (λ l. g a ++ l) (flat_map_same f g (a + 1) n (λ k below. same k (omega arith)))
 
--- one more value on a range comes behind those before it
+-- one more value on a range comes after those before it
 pub flat_map_more : (f : ℕ → List ℕ) (a n j : ℕ) → a + n ≡ j → flat_map f (range_with_len a (suc n)) ≡ flat_map f (range_with_len a n) ++ f j
 flat_map_more f a zero j is = append-nil (f a) ∙ ap f (omega (arith, is))
 flat_map_more f a (suc n) j is =

@@ -3,22 +3,24 @@
 
 mod digits;
 
-ghost use Rattle.std.specs.Prelude.{◌≡◌, ◌++◌, ◌∷◌, [], OnOk, decimal};
+ghost use Rattle.std.specs.Prelude.{◌≡◌, ◌++◌, ◌∷◌, [], OnErr, OnOk, decimal};
 
 pub use digits::digits_number;
 use itoa::Buffer;
 use std::alloc::AllocError;
 
-/// Appends an octet. The error says that memory was refused.
+/// Appends an octet. The error says that memory was refused; then the text is as it was.
 pub fn push_octet(text: &mut Vec<u8>, octet: u8) -> Result<(), AllocError>
-    ensures { OnOk result (text.new.items ≡ text.old.items ++ octet ∷ []) }
+    ensures text { OnOk result (text.new.items ≡ text.old.items ++ octet ∷ []) }
+    ensures kept { OnErr result (text.new.items ≡ text.old.items) }
 {
     Ok(text.push(octet)?)
 }
 
-/// Appends octets. The error says that memory was refused.
+/// Appends octets. The error says that memory was refused; then the text is as it was.
 pub fn push_octets(text: &mut Vec<u8>, octets: &[u8]) -> Result<(), AllocError>
-    ensures { OnOk result (text.new.items ≡ text.old.items ++ octets.now) }
+    ensures text { OnOk result (text.new.items ≡ text.old.items ++ octets.now) }
+    ensures kept { OnErr result (text.new.items ≡ text.old.items) }
 {
     text.extend_from_slice(octets)
 }

@@ -22,14 +22,14 @@ pub values_none : (at : ℕ → ℕ → ℕ) (width : ℕ) → values at width 0
 unfolding values
 values_none at width = refl
 
--- one more row comes behind those above it
+-- one more row comes after those above it
 pub values_more : (at : ℕ → ℕ → ℕ) (width row : ℕ) → values at width (row + 1) ≡ values at width row ++ row_values at width row
 unfolding values
 values_more at width row =
     let next : row + 1 ≡ suc row = omega arith in
     ap (λ n. flat_map (row_values at width) (range_with_len 0 n)) next ∙ flat_map_more (row_values at width) 0 row row (omega arith)
 
--- one more pixel comes behind those to the left of it
+-- one more pixel comes after those to the left of it
 pub row_more : (at : ℕ → ℕ → ℕ) (row column : ℕ) → row_values at (column + 1) row ≡ row_values at column row ++ at column row ∷ []
 row_more at row column =
     let next : column + 1 ≡ suc column = omega arith in

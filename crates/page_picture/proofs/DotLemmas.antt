@@ -1,11 +1,11 @@
--- The points of a picture, one behind the other, and what they are painted with.
+-- The points of a picture, one after the other, and what they are painted with.
 use Rattle.std.proofs.Common.{◌≡◌, ℕ, suc, ◌+◌, List, [], ◌∷◌, ◌++◌, map, refl, sym, ap, ◌∙◌, arith, append-nil}
 use Rattle.std.proofs.lemmas.Grind.{flat_map-append}
 use Rattle.std.specs.List.{flat_map, range_with_len}
 use Rattle.octet_text.proofs.TextLemmas.{flat_map_more, map_more}
 use Rattle.page_picture.specs.Dots.{dot_line, dots, line_points, point_of, row_points}
 
--- one more number of a range gives its points behind those of the others
+-- one more number of a range gives its points after those of the others
 more : (f : ℕ → List ℕ) (n : ℕ) → flat_map f (range_with_len 0 (n + 1)) ≡ flat_map f (range_with_len 0 n) ++ f n
 more f n =
     let next : n + 1 ≡ suc n = omega arith in
@@ -50,7 +50,7 @@ rows_more side at width row = more (λ row. row_points side at width row side) r
 pub painted_none : (paint : ℕ → List ℕ) (points : List ℕ) → points ≡ [] → [] ≡ flat_map paint points
 painted_none paint points none = sym (ap (flat_map paint) none)
 
--- and more points behind others
+-- and more points after others
 pub painted_more : (paint : ℕ → List ℕ) (points new more : List ℕ) → new ≡ points ++ more → flat_map paint new ≡ flat_map paint points ++ flat_map paint more
 painted_more paint points new more is = ap (flat_map paint) is ∙ flat_map-append paint points more
 

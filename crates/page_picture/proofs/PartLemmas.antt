@@ -8,7 +8,7 @@ use borrow.Rule.Slice.PartMut.{mid_of, put_mid}
 pub lent_length : (at : ℕ) (old : List ℕ) → at ≤ length old → length (take (length old - at) (drop at old)) ≡ length old - at
 lent_length at old within = length-take-le (length old - at) (drop at old) (let rest = length-drop at old in omega (arith, rest))
 
--- more is written behind what is written
+-- more is written after what is written
 pub part_written : (at n : ℕ) (old new rest : List ℕ) → at ≤ length old → n ≤ length new
     → take (at + n) (take at old ++ (new ++ rest)) ≡ take at old ++ take n new
 part_written at n old new rest within enough =
@@ -20,7 +20,7 @@ part_written at n old new rest within enough =
 pub room_kept : (old new : List ℕ) (len : ℕ) → len ≤ length old → take (length old) new ≡ old → take len new ≡ take len old
 room_kept old new len within kept = sym (take-take len (length old) new within) ∙ ap (take len) kept
 
--- what is written behind what there is comes to its end, where room was made for it
+-- what is written after what there is comes to its end, where room was made for it
 pub written_in_room : (items kept lent new rest behind more : List ℕ) (len n count : ℕ) → len ≤ length items → take (length items) kept ≡ items
     → lent ≡ kept → count ≡ length lent → len + n ≤ length lent → n ≤ length new → take n new ≡ more
     → take (len + n) (take count (take len lent ++ (new ++ rest) ++ behind)) ≡ take len items ++ more

@@ -15,7 +15,7 @@ use borrow.Rule.Slice.PartMut.{mid_of, put_mid}
 use Rattle.page_plane.specs.Octets.{bit_place, is_bit_set, row_octets}
 use Rattle.page_picture.proofs.PartLemmas.{lent_length, part_written, put_more}
 use Rattle.page_picture.specs.Rows.{mark_of, marked_rows, octet_marks, row_text, rows_text}
-use Rattle.page_picture.specs.kept.Marks.{WritesRows}
+use Rattle.page_picture.specs.internal.Marks.{WritesRows}
 
 -- OCTETS
 
@@ -26,7 +26,7 @@ map_moved f g a b (suc n) same =
     ap (λ x. x ∷ map f (range_with_len (a + 1) n)) (same a b 0 (omega arith) (omega arith) (omega arith))
     ∙ ap (λ l. g b ∷ l) (map_moved f g (a + 1) (b + 1) n (λ i j k below at to. same i j (k + 1) (omega arith) (omega arith) (omega arith)))
 
--- the values on a range are those on its front and those behind it
+-- the values on a range are those on its front and those after it
 map_parts : (f : ℕ → ℕ) (a b n m : ℕ) → b ≡ a + n → map f (range_with_len a (n + m)) ≡ map f (range_with_len a n) ++ map f (range_with_len b m)
 map_parts f a b zero m is =
     ap (λ k. map f (range_with_len a k)) (let none : 0 + m ≡ m = omega arith in none)
@@ -62,7 +62,7 @@ part_bit octets from n place below =
     let rest : (8 * from + place) % 8 ≡ place % 8 = omega arith in
     rw (at, rest, get_or-take n (drop from octets) (place / 8) 0 (omega (arith, below)), get_or-drop from octets (place / 8) 0) refl
 
--- the marks of a part of octets come behind those of the octets before it
+-- the marks of a part of octets come after those of the octets before it
 pub marks_part : (mark : ℕ) (octets part : List ℕ) (from n front size : ℕ) → part ≡ take n (drop from octets) → front ≡ 8 * from → size ≡ 8 * from + 8 * n
     → octet_marks mark octets front ++ octet_marks mark part (8 * n) ≡ octet_marks mark octets size
 marks_part mark octets part from n front size is_part is_front is_size =
@@ -103,7 +103,7 @@ marks_fewer mark octets text rest width count few is =
     ap (take width) is ∙ take-append-le width (octet_marks mark octets count) rest (omega (arith, size, few))
     ∙ take-map-range_with_len (λ place. mark_of mark (is_bit_set octets place)) 0 count width few
 
--- the marks of the first octets and those of the others behind them are those of all
+-- the marks of the first octets and those of the others after them are those of all
 pub marks_joined : (mark a n : ℕ) (octets rest text one inner : List ℕ) → n ≡ 8 * a → a ≤ length octets → 8 * length octets ≤ length text
     → rest ≡ take (length octets - a) (drop a octets)
     → one ≡ octet_marks mark (take a octets) (8 * length (take a octets)) ++ drop (8 * length (take a octets)) text
@@ -134,7 +134,7 @@ pub rows_none : (at : ℕ → ℕ → ℕ) (width : ℕ) → rows_text at width 
 unfolding rows_text
 rows_none at width = refl
 
--- one more row comes behind those above it
+-- one more row comes after those above it
 pub rows_more : (at : ℕ → ℕ → ℕ) (width row : ℕ) → rows_text at width (row + 1) ≡ rows_text at width row ++ row_text at width row
 unfolding rows_text
 rows_more at width row =
@@ -156,7 +156,7 @@ marked_same mark lit other width height same =
     rows_same (λ column row. mark_of mark (lit column row)) (λ column row. mark_of mark (other column row)) width height
     (λ column row left above. ap (mark_of mark) (same column row left above))
 
--- the line of a row comes behind the rows above it
+-- the line of a row comes after the rows above it
 pub row_next : (mark : ℕ) (lit : ℕ → ℕ → Bool) (octets : List ℕ) (width row : ℕ) → ((x : ℕ) → x < width → is_bit_set octets x ≡ lit x row)
     → marked_rows mark lit width row ++ (octet_marks mark octets width ++ 10 ∷ []) ≡ marked_rows mark lit width (row + 1)
 row_next mark lit octets width row same =
@@ -213,7 +213,7 @@ lines_front mark width len height octets is_len room =
     let within : bit_place width column row < 8 * (length octets - len) = omega (arith, here, is_len, room, rows, left) in
     ap (mark_of mark) (part_bit octets len (length octets - len) (bit_place width column row) within ∙ ap (is_bit_set octets) there))
 
--- a text of a row has the rows below it written behind that row
+-- a text of a row has the rows below it written after that row
 pub lines_joined : (mark width len h height k : ℕ) (octets old row rest r : List ℕ) → len ≡ row_octets width → height ≡ h + 1
     → (width + 1) * height + 8 ≤ length old → len * height ≤ length octets → length row ≡ width + 9
     → take (width + 1) row ≡ octet_marks mark (take len octets) width ++ 10 ∷ [] → rest ≡ take (length octets - len) (drop len octets)
@@ -300,7 +300,7 @@ same_word octet octets eight word other fits whole small is_eight is_word is_oth
       ]
     ]
 
--- octets are all this one if those of their front and of the part behind it are
+-- octets are all this one if those of their front and of the part after it are
 pub same_more : (octet : ℕ) (octets part : List ℕ) (front n size : ℕ) → size ≡ front + n → part ≡ take n (drop front octets)
     → list_all (λ o. o == octet) (take size octets) ≡ (list_all (λ o. o == octet) (take front octets) && list_all (λ o. o == octet) part)
 same_more octet octets part front n size is_size is_part =

@@ -89,7 +89,7 @@ rows_taken at width (suc row) l room have =
     ∙ sym (values_more at width row)
     ∙ ap (values at width) (sym more)
 
--- octets that have the values of all pixels are these values and what stands behind them
+-- octets that have the values of all pixels are these values and what stands after them
 pub all_written : (at : ℕ → ℕ → ℕ) (width height : ℕ) (old new : List ℕ) → width * height ≤ length new → HaveValues width height at new
     → drop (width * height) new ≡ drop (width * height) old → new ≡ values at width height ++ drop (width * height) old
 all_written at width height old new room have behind =

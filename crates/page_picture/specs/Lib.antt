@@ -5,4 +5,4 @@ pub mod Ppm
 pub mod Painted
 pub mod Rows
 pub mod Shown
-pub mod kept
+pub mod internal

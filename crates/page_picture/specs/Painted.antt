@@ -1,4 +1,4 @@
--- Painting among the colours of pixels, an octet each, which may have more octets behind them.
+-- Painting among the colours of pixels, an octet each, which may have more octets after them.
 use Rattle.std.specs.Prelude.{◌≡◌, ℕ, ◌+◌, ◌*◌, ◌<◌, ◌≤◌, Bool, List, drop, length, if◌then◌else◌}
 use Rattle.page_plane.specs.Plane.{BitPlane}
 use Rattle.sign_font.specs.Sign.{SignData}

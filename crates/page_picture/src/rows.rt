@@ -4,7 +4,7 @@ ghost use Rattle.std.specs.List.{list_all};
 ghost use Rattle.page_plane.specs.Octets.{row_octets};
 ghost use Rattle.page_plane.specs.Plane.{is_lit};
 ghost use Rattle.page_picture.specs.Rows.{marked_rows, octet_marks, octet_of};
-ghost use Rattle.page_picture.specs.kept.Marks.{IsTable, WritesMarks, WritesRows, eight_marks};
+ghost use Rattle.page_picture.specs.internal.Marks.{IsTable, WritesMarks, WritesRows, eight_marks};
 
 use page_plane::Plane;
 
@@ -18,7 +18,7 @@ pub enum Mark {
 }
 
 /// What stands for the eight pixels of each octet, from its highest bit on. For each bit, from the lowest on, what there is stands twice:
-/// behind a point, and behind the mark.
+/// after a point, and after the mark.
 macro_rules! eights {
     ($mark:tt [] $([$($pixel:tt)*])*) => {
         &[$([$($pixel),*]),*]

@@ -168,7 +168,7 @@ fn blacken(octets: &mut [u8], count: usize)
 }
 
 /// Writes the colours of all pixels of what is shown of a string into the first octets: 0 to 9, an octet each, row by row from the top, and
-/// each row from the left. In an off time all are 0. The octets behind them stay as they are.
+/// each row from the left. In an off time all are 0. The octets after them stay as they are.
 ///
 /// `classic` says whether the sign's colours are those of the classic scheme. The plane, in which the page is drawn, must have the
 /// sign's size, and what is shown must be a page of the string or an off time. The answer is false if there are fewer octets than pixels,

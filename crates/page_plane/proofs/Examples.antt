@@ -1,7 +1,7 @@
 -- Worked examples of the definitions.
 use Rattle.std.proofs.Common.{◌≡◌, ◌^◌, ◌-◌, ◌==◌, ◌&&◌, ℕ, true, false, List, [], ◌∷◌, replicate, refl, lit<, lit≤, arith}
-use Rattle.page_plane.specs.Plane.{BitPlane, is_lit, plane_of}
-use Rattle.page_plane.specs.Octets.{row_octets, octet_count, is_bit_set, bit_place, stored_plane, IsStored}
+use Rattle.page_plane.specs.Plane.{BitPlane, is_lit}
+use Rattle.page_plane.specs.Octets.{plane_of, row_octets, octet_count, is_bit_set, bit_place, stored_plane, IsStored}
 use Rattle.page_plane.specs.Put.{is_put}
 
 a_row_of_12_has_2_octets : row_octets 12 ≡ 2

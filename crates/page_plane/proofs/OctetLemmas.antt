@@ -55,7 +55,7 @@ pub all_set : (n place : ℕ) → place < 8 * n → is_bit_set (replicate n 255)
 unfolding is_bit_set
 all_set n place h = rw (get_or-replicate {A = ℕ} n (place / 8) 255 0 (omega arith)) (eq-eqb (bit_at 255 (7 - place % 8)) 1 (bit_at_ones 8 (7 - place % 8) (omega arith)))
 
--- the first rows are those of a filled plane, and all bits behind them are set
+-- the first rows are those of a filled plane, and all bits after them are set
 abbrev pub AreEnded : List ℕ → ℕ → ℕ → Type 0
 AreEnded octets width y = (place : ℕ) → place < 8 * length octets
     → is_bit_set octets place ≡ (if nat_lt place (y * (8 * row_octets width)) then nat_lt (place % (8 * row_octets width)) width else true)

@@ -6,7 +6,8 @@ use mathlib.Core.HLevel.{Σ_prop_path}
 use native.Mathlib.Nat.{ℕ_set}
 use Rattle.std.proofs.lemmas.List.{ext_get_or}
 use Rattle.std.proofs.lemmas.List.FromFn.{get_or-map-range_with_len}
-use Rattle.page_plane.specs.Plane.{BitPlane, is_lit, plane_of, APlaneIsItsPixels}
+use Rattle.page_plane.specs.Plane.{BitPlane, is_lit}
+use Rattle.page_plane.specs.Octets.{plane_of, APlaneIsItsPixels}
 
 -- outside a plane no pixel is lit
 pub unlit_right : (plane : BitPlane) (x y : ℕ) → plane.width ≤ x → is_lit plane x y ≡ false

@@ -128,7 +128,7 @@ octets_painted octets part turned word new m on whole small is_turned turned_sma
     ∙ word_painted word turned on place turned_small there
     ∙ rw (of_part, of_word) refl
 
--- the octets behind a word stay
+-- the octets after a word stay
 pub first_put : (old chunk new : List ℕ) (behind part place : ℕ) (on : Bool) → behind ≡ 8 → 8 ≤ length old → chunk ≡ take 8 old → length new ≡ 8
     → ((m : ℕ) → m < 64 → is_bit_set new m ≡ (if bit_at part (63 - m) == 1 then on else is_bit_set chunk m))
     → is_bit_set (new ++ drop behind old) place ≡ (if is_in_word 0 part place then on else is_bit_set old place)
@@ -213,7 +213,7 @@ word_bit bits turn mask i =
     let turned : bit_at (bits / 2 ^ turn) i ≡ bit_at bits (turn + i) = ap (λ n. n % 2) (shr-shr bits turn i) in
     omega arith
 
--- the bits of a word are those of a row of this width that begins `turn` pixels behind it
+-- the bits of a word are those of a row of this width that begins `turn` pixels after it
 pub record IsWordOf (turn width bits part : ℕ) : Type 0 where
   pub few : turn + width ≤ 64
   pub inside : (m : ℕ) → turn ≤ m → m < turn + width → bit_at part (63 - m) ≡ bit_at bits (63 - (m - turn))

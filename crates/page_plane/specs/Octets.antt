@@ -1,7 +1,24 @@
--- Pixels in octets: a row begins on an octet, its leftmost pixel in the highest bit, and its spare bits are 0.
-use Rattle.std.specs.Prelude.{◌≡◌, ◌<◌, ◌≤◌, ℕ, ◌+◌, ◌-◌, ◌*◌, ◌/◌, ◌%◌, Bool, false, ◌==◌, List, length, slice_index}
+-- Planes by their pixels, and pixels in octets: a row begins on an octet, its leftmost pixel in the highest bit, and its spare bits are 0.
+use Rattle.std.specs.Prelude.{◌≡◌, ◌<◌, ◌≤◌, ℕ, ◌+◌, ◌-◌, ◌*◌, ◌/◌, ◌%◌, Bool, false, ◌==◌, List, length, map, slice_index}
 use Rattle.std.specs.Int.{bit_at}
-use Rattle.page_plane.specs.Plane.{BitPlane, plane_of}
+use Rattle.std.specs.List.{range_with_len}
+use Rattle.std.proofs.lemmas.List.FromFn.{length-map-range_with_len}
+use Rattle.page_plane.specs.Plane.{BitPlane, is_lit}
+
+-- the plane of this size and these steps that has lit the pixels of a test of column and row (own)
+abbrev pub plane_of : ℕ → ℕ → ℕ → (ℕ → ℕ → Bool) → BitPlane
+plane_of width height steps lit = record {
+  width = width;
+  height = height;
+  steps = steps;
+  pixels = map (λ place. lit (place % width) (place / width)) (range_with_len 0 (width * height));
+  sized = length-map-range_with_len (λ place. lit (place % width) (place / width)) 0 (width * height);
+}
+
+-- a law: a plane is its size, its steps and its lit pixels (own)
+abbrev pub APlaneIsItsPixels : Type 0
+APlaneIsItsPixels = (a b : BitPlane) → a.width ≡ b.width → a.height ≡ b.height → a.steps ≡ b.steps
+    → ((x y : ℕ) → x < a.width → y < a.height → is_lit a x y ≡ is_lit b x y) → a ≡ b
 
 -- the octets of a row of this width (own)
 abbrev pub row_octets : ℕ → ℕ

@@ -10,7 +10,7 @@ use Rattle.tool_streams.specs.declared.fault.ToolFault.{ToolFault}
 use Rattle.tool_streams.specs.declared.fault.ToolFault.TheVariants as faults
 use Rattle.tool_streams.specs.declared.lines.LineStart.{LineStart}
 use Rattle.sign_aids.specs.Explain.{IsMessageFault}
-use Rattle.sign_aids.specs.kept.Explaining.{IsHeld, WritesFront}
+use Rattle.sign_aids.specs.internal.Explaining.{IsHeld, WritesFront}
 use Rattle.tool_streams.specs.Blocks.{IsLineEnd}
 use Rattle.tool_streams.specs.Lines.{input_limit, text_of}
 use Rattle.tool_streams.specs.Streams.{WritesWhole}
@@ -33,7 +33,7 @@ all_held input held = Consumes-all_held input input held (Keeps-refl input)
 pub held_none : (place : LineStart) (held : List ℕ) → held ≡ [] → place.number + place.left ≤ input_limit + 1 → IsHeld place held 0
 held_none place held is few = subst (λ l. IsHeld place l 0) (sym is) (record { few = few; most = omega arith; looked = omega arith; none = All-nil (λ c. c ≢ 10) })
 
--- more is read behind what is held
+-- more is read after what is held
 pub read_behind : (input input' : Option (List ℕ)) (held held' more : List ℕ) → Consumes input input' more → held' ≡ held ++ more → Consumes (prepend_known held input) (prepend_known held' input') []
 read_behind input input' held held' more took grown =
     subst (λ l. Consumes (prepend_known held input) (prepend_known l input') []) (sym grown) (reads_behind (prepend_known held input) input input' held more [] took (Consumes-nil (prepend_known held input)))
@@ -75,7 +75,7 @@ writes_part output output' ready text e (same, sent, unsent, writes, all) =
 pub quiet : (output middle output' : Option (List ℕ)) (ready : List ℕ) → Appends output middle ready → Appends middle output' [] → Appends output output' ready
 quiet output middle output' ready first last = subst (Appends output output') (append-nil ready) (Appends-trans output middle output' ready [] first last)
 
--- two parts of what is written, one behind the other
+-- two parts of what is written, one after the other
 pub parts_more : (sent sent' ready ready' ready'' text text' : List ℕ) → sent ++ ready' ≡ ready ++ text → sent' ++ ready'' ≡ ready' ++ text' → (sent ++ sent') ++ ready'' ≡ ready ++ (text ++ text')
 parts_more sent sent' ready ready' ready'' text text' e f =
     append_assoc sent sent' ready'' ∙ ap (λ l. sent ++ l) f ∙ sym (append_assoc sent ready' text') ∙ ap (λ l. l ++ text') e ∙ append_assoc ready text text'

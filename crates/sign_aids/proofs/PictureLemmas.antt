@@ -48,7 +48,7 @@ no_picture side sign judge octets line pages view (draws.TooLarge tenths) same_s
 no_picture side sign judge octets line pages view (draws.TooLong tenths) same_sign same is undrawn =
     (pages, verdict_by sign judge octets line (Accepted pages) same_sign same is, (draws.TooLong tenths, refl, undrawn))
 
--- ---- what stands behind the sign
+-- ---- what stands after the sign
 
 -- the first line has a fault
 pub first_fault : (place : LineStart) (input input' : Option (List ℕ)) (more : List ℕ) (e : ToolFault) → Consumes input input' more → IsLineFault place.number place.left more input' e

@@ -1,9 +1,11 @@
 -- What is written of messages that are explained.
-use Rattle.std.specs.Prelude.{◌≡◌, ◌≢◌, ◌⊎◌, ℕ, ◌+◌, ◌-◌, ◌<◌, ◌≤◌, Bool, List, [], ◌∷◌, ◌++◌, length, Option, Result, Ok, Err, if◌then◌else◌}
+use Rattle.std.specs.Prelude.{◌≡◌, ◌≢◌, ◌⊎◌, ℕ, ◌+◌, ◌-◌, ◌<◌, ◌≤◌, Bool, List, [], ◌∷◌, ◌++◌, length, Option, None, Some, Result, Ok, Err, if◌then◌else◌}
 use Rattle.std.specs.List.{sum_by}
 use Rattle.std.specs.Io.KnownBytes.{Appends, Consumes, IsAtEnd}
 use Rattle.sign_font.specs.Sign.{SignData}
-use Rattle.message_report.specs.Explanation.{Explains, takes}
+use Rattle.message_cures.specs.Taking.{takes}
+use Rattle.message_cures.specs.declared.mending.Kind.{Kind}
+use Rattle.message_report.specs.Explanation.{Explains}
 use Rattle.message_report.specs.declared.format.Telling.{Telling}
 use Rattle.tool_streams.specs.declared.fault.ToolFault.{ToolFault}
 use Rattle.tool_streams.specs.declared.fault.ToolFault.TheVariants as faults
@@ -22,13 +24,19 @@ pub record Asking : Type 0 where
   pub name : List ℕ
   pub before : ℕ
 
--- a text explains some lines, the first of which has this number in the input, one after the other (own)
-abbrev pub ExplainsLines : Asking → ℕ → List (List ℕ) → List ℕ → Type 0
-ExplainsLines asking number [] text = text ≡ []
-ExplainsLines asking number (line ∷ lines) text = IsOneLine line × (length (text_of line) ≤ 8300) × ((first rest : List ℕ)
-    × Explains asking.telling asking.sign asking.name (number - asking.before) (text_of line) first
-    × ExplainsLines asking (number + 1) lines rest
-    × (text ≡ first ++ rest))
+-- 1 for a message in place of which something is proposed (own)
+abbrev pub proposed_one : Option Kind → ℕ
+proposed_one None = 0
+proposed_one (Some kind) = 1
+
+-- a text explains some lines, the first of which has this number in the input, one after the other, and proposes something in place of so
+-- many (own)
+abbrev pub ExplainsLines : Asking → ℕ → List (List ℕ) → ℕ → List ℕ → Type 0
+ExplainsLines asking number [] mended text = (mended ≡ 0) × (text ≡ [])
+ExplainsLines asking number (line ∷ lines) mended text = IsOneLine line × (length (text_of line) ≤ 8300) × ((first rest : List ℕ)
+    × (kept : Option Kind) × (others : ℕ)
+    × Explains asking.telling asking.sign asking.name (number - asking.before) (text_of line) kept first
+    × ExplainsLines asking (number + 1) lines others rest × (mended ≡ proposed_one kept + others) × (text ≡ first ++ rest))
 
 -- 1 for a line that a sign doesn't take (own)
 abbrev pub refused_one : SignData → List ℕ → ℕ
@@ -38,7 +46,7 @@ refused_one sign line = if takes sign (text_of line) then 0 else 1
 abbrev pub refused_of : SignData → List (List ℕ) → ℕ
 refused_of sign lines = sum_by (refused_one sign) lines
 
--- a fault at a message, with which what is read begins. What stands behind the last line feed is a message too, unless it has too many
+-- a fault at a message, with which what is read begins. What stands after the last line feed is a message too, unless it has too many
 -- octets (own)
 abbrev pub IsMessageFault : ℕ → ℕ → List ℕ → Option (List ℕ) → ToolFault → Type 0
 IsMessageFault number left more input (faults.BadLine line) = ⊥
@@ -48,7 +56,7 @@ IsMessageFault number left more input (faults.LineTooLong line) =
 IsMessageFault number left more input e = IsLineFault number left more input e
 
 -- some lines are read, from this place on, and perhaps more, which has this fault, and what was ready and their explanations are written,
--- or their beginning, if the writer fails, also at what stands behind the last line feed. No more is read than what shows that an input is
+-- or their beginning, if the writer fails, also at what stands after the last line feed. No more is read than what shows that an input is
 -- too long (own)
 pub record BeginsAfter (asking : Asking) (place : LineStart) (input input' output output' : Option (List ℕ)) (ready : List ℕ)
     (e : ToolFault) : Type 0 where
@@ -56,6 +64,7 @@ pub record BeginsAfter (asking : Asking) (place : LineStart) (input input' outpu
   pub more : List ℕ
   pub told : List (List ℕ)
   pub text : List ℕ
+  pub mended : ℕ
   pub sent : List ℕ
   pub unsent : List ℕ
   pub left : ℕ
@@ -64,12 +73,12 @@ pub record BeginsAfter (asking : Asking) (place : LineStart) (input input' outpu
   pub most : length more ≤ left + 1
   pub fault : IsMessageFault (place.number + length lines) left more input' e
   pub last : (told ≡ []) ⊎ ((told ≡ more ∷ []) × (e ≡ faults.Write) × IsAtEnd input')
-  pub explains : ExplainsLines asking place.number (lines ++ told) text
+  pub explains : ExplainsLines asking place.number (lines ++ told) mended text
   pub writes : Appends output output' sent
   pub parts : sent ++ unsent ≡ ready ++ text
   pub whole : e ≢ faults.Write → unsent ≡ []
 
--- all messages that are left are read and explained, with what stands behind the last line feed, and counted (own)
+-- all messages that are left are read and explained, with what stands after the last line feed, and counted (own)
 pub record ExplainedAll (asking : Asking) (place : LineStart) (input input' output output' : Option (List ℕ)) (counts : Counts) : Type 0
   where
     pub lines : List (List ℕ)
@@ -77,7 +86,7 @@ pub record ExplainedAll (asking : Asking) (place : LineStart) (input input' outp
     pub text : List ℕ
     pub reads : Consumes input input' (octets_of lines ++ rest)
     pub end : IsAtEnd input'
-    pub explains : ExplainsLines asking place.number (lines ++ last_line rest) text
+    pub explains : ExplainsLines asking place.number (lines ++ last_line rest) counts.mended text
     pub writes : Appends output output' text
     pub messages_is : counts.messages ≡ length (lines ++ last_line rest)
     pub refused_is : counts.refused ≡ refused_of asking.sign (lines ++ last_line rest)
@@ -88,7 +97,7 @@ abbrev pub ExplainsRest :
 ExplainsRest asking place input input' output output' (Ok counts) = ExplainedAll asking place input input' output output' counts
 ExplainsRest asking place input input' output output' (Err e) = BeginsAfter asking place input input' output output' [] e
 
--- what is taken leads to a sign, and the messages behind that are explained on it; or it leads to none, for the same reason as in the
+-- what is taken leads to a sign, and the messages after that are explained on it; or it leads to none, for the same reason as in the
 -- other modes, and nothing is written (own)
 abbrev pub ExplainsInput :
     Bool → Telling → List ℕ → ℕ → Option (List ℕ) → Option (List ℕ) → Option (List ℕ) → Option (List ℕ) → Result Counts ToolFault → Type 0

@@ -1,3 +1,4 @@
 pub mod Explain
+pub mod Lit
 pub mod Pictures
-pub mod kept
+pub mod internal

@@ -1,13 +1,16 @@
 //! Messages, explained one after the other.
 ghost use Rattle.std.specs.Prelude.{◌≡◌, ◌+◌, ◌-◌, ◌≤◌, ◌++◌, [], OnOk, IfOk, if◌then◌else◌, take};
 ghost use Rattle.std.specs.Io.KnownBytes.{prepend_known};
-ghost use Rattle.message_report.specs.Explanation.{Explains, takes};
-ghost use Rattle.sign_aids.specs.Explain.{ExplainsInput, ExplainsRest};
-ghost use Rattle.sign_aids.specs.kept.Explaining.{EndsAfter, ExplainsNext, IsFurther, IsHeld, TellsLast, TellsMessage, WritesFront};
+ghost use Rattle.message_cures.specs.Taking.{takes};
+ghost use Rattle.message_report.specs.Explanation.{Explains};
+ghost use Rattle.sign_aids.specs.Explain.{ExplainsInput, ExplainsRest, proposed_one};
+ghost use Rattle.sign_aids.specs.internal.Explaining.{EndsAfter, ExplainsNext, IsFurther, IsHeld, TellsLast, TellsMessage, WritesFront};
 ghost use Rattle.tool_streams.specs.Lines.{IsOneLine, input_limit, text_of};
 ghost use Rattle.tool_streams.specs.Streams.{WritesWhole};
 
-use message_report::{Explainer, Explanation, Telling, Told};
+use message_cures::Kind;
+use message_report::{Explainer, Explanation, Format, Telling, Told};
+use message_words::MessageLine;
 use sign_tool::{Setup, Start, begin};
 use std::alloc::{AllocError, Global};
 use std::io::{Read, Write};
@@ -25,6 +28,8 @@ pub struct Counts {
     pub refused: u32,
     /// How many warnings there are on the others.
     pub warnings: u32,
+    /// In place of how many of those that the sign doesn't take something is proposed.
+    pub mended: u32,
 }
 
 /// A sign whose messages are explained, as they are asked for.
@@ -53,7 +58,7 @@ enum NextTold {
     Whole(Told),
     /// More was read.
     More,
-    /// This was told of what stands behind the last line feed.
+    /// This was told of what stands after the last line feed.
     Last(Told),
     /// There is nothing more.
     End,
@@ -155,8 +160,8 @@ impl Asker {
         line: &[u8],
         text: &mut Explanation,
     ) -> Result<Told, AllocError>
-        ensures told { OnOk result
-            (Explains self.now.telling self.now.sign self.now.name (number - self.now.before) (text_of line.now) text.new) }
+        ensures told { IfOk result (λ told.
+            Explains self.now.telling self.now.sign self.now.name (number - self.now.before) (text_of line.now) told.proposal text.new) }
         ensures taken { IfOk result (λ told. told.is_taken ≡ takes self.now.sign (text_of line.now)) }
     {
         text.clear();
@@ -170,14 +175,34 @@ impl Asker {
         )
     }
 
+    /// Says what became of a message that the sign doesn't take, if messages are written mended. What is written is the same even if that
+    /// can't be said.
+    fn say<E: Write>(&self, number: u32, line: &[u8], told: Told, errors: &mut E) {
+        let (Format::Mended | Format::Changed) = self.telling.format else {
+            return;
+        };
+        if told.is_taken {
+            return;
+        }
+        let words = match told.proposal {
+            Some(Kind::OtherLetters) => "mended, with other letters",
+            Some(_) => "mended",
+            None => "refused, with no proposal",
+        };
+        let number = number.saturating_sub(self.before);
+        let message = MessageLine(text_of(line));
+        let _ = writeln!(errors, "signctl: line {number}: {words}: {message}");
+    }
+
     /// Explains the message of a line, and gathers or writes what is told.
-    fn tell<W: Write>(
+    fn tell<W: Write, E: Write>(
         &self,
         alloc: Global,
         number: u32,
         line: &[u8],
         gathered: &mut Gathered,
         writer: &mut W,
+        errors: &mut E,
     ) -> Result<Told, ToolFault>
         ensures { TellsMessage self.now number line.now gathered.old.ready.items gathered.new.ready.items
             (W.contents writer.old) (W.contents writer.new) result }
@@ -185,20 +210,22 @@ impl Asker {
         let Ok(told) = self.explain(alloc, number, line, &mut gathered.text) else {
             return Err(gathered.end_with(writer, ToolFault::Memory));
         };
+        self.say(number, line, told, errors);
         match gathered.keep(writer) {
             Ok(()) => Ok(told),
             Err(fault) => Err(fault),
         }
     }
 
-    /// Explains what stands behind the last line feed, where nothing is ready, and writes what is told.
-    fn tell_last<W: Write>(
+    /// Explains what stands after the last line feed, where nothing is ready, and writes what is told.
+    fn tell_last<W: Write, E: Write>(
         &self,
         alloc: Global,
         number: u32,
         line: &[u8],
         gathered: &mut Gathered,
         writer: &mut W,
+        errors: &mut E,
     ) -> Result<Told, ToolFault>
         ensures { TellsLast self.now number line.now (W.contents writer.old) (W.contents writer.new) result }
     {
@@ -208,6 +235,7 @@ impl Asker {
         let Ok(told) = self.explain(alloc, number, line, &mut gathered.text) else {
             return Err(ToolFault::Memory);
         };
+        self.say(number, line, told, errors);
         match write_whole(writer, gathered.text.octets()) {
             Ok(()) => Ok(told),
             Err(fault) => Err(fault),
@@ -216,13 +244,14 @@ impl Asker {
 }
 
 /// Writes what is ready and reads on, where no line ends among the octets that are held. What the input ends with is explained.
-fn explain_more<R: Read, W: Write>(
+fn explain_more<R: Read, W: Write, E: Write>(
     alloc: Global,
     asker: &Asker,
     unread: &mut Unread,
     gathered: &mut Gathered,
     reader: &mut R,
     writer: &mut W,
+    errors: &mut E,
 ) -> Result<NextTold, ToolFault>
     requires held { IsHeld unread.old.place unread.old.block unread.old.seen }
     requires none { IsOneLine (take unread.old.place.left unread.old.block) }
@@ -245,20 +274,21 @@ fn explain_more<R: Read, W: Write>(
     let ToolFault::BadLine { line } = fault else {
         return Err(fault);
     };
-    match asker.tell_last(alloc, line, unread.block.all(), gathered, writer) {
+    match asker.tell_last(alloc, line, unread.block.all(), gathered, writer, errors) {
         Ok(told) => Ok(NextTold::Last(told)),
         Err(failed) => Err(failed),
     }
 }
 
 /// Explains the next message, if a line ends among the octets that are held, or reads on.
-fn explain_next<R: Read, W: Write>(
+fn explain_next<R: Read, W: Write, E: Write>(
     alloc: Global,
     asker: &Asker,
     unread: &mut Unread,
     gathered: &mut Gathered,
     reader: &mut R,
     writer: &mut W,
+    errors: &mut E,
 ) -> Result<NextTold, ToolFault>
     requires { IsHeld unread.old.place unread.old.block unread.old.seen }
     ensures explains { ExplainsNext asker.now unread.old.place unread.new.place (prepend_known unread.old.block (R.remaining reader.old))
@@ -270,13 +300,13 @@ fn explain_next<R: Read, W: Write>(
     let LineStart { number, left } = unread.place;
     let octets = unread.block.first(left as usize);
     let Some(end) = line_end(octets, unread.seen) else {
-        return explain_more(alloc, asker, unread, gathered, reader, writer);
+        return explain_more(alloc, asker, unread, gathered, reader, writer, errors);
     };
     let line = &octets[..end];
     if text_of(line).len() > MAX_LINE {
         return Err(gathered.end_with(writer, ToolFault::LineTooLong { line: number }));
     }
-    match asker.tell(alloc, number, line, gathered, writer) {
+    match asker.tell(alloc, number, line, gathered, writer, errors) {
         Ok(told) => {
             unread.block.pass(end + 1);
             unread.place = LineStart {
@@ -290,18 +320,32 @@ fn explain_next<R: Read, W: Write>(
     }
 }
 
+/// 1 if something is proposed.
+fn proposed_one(proposal: Option<Kind>) -> u32
+    ensures one { result ≡ proposed_one proposal }
+    ensures few { result ≤ 1 }
+{
+    match proposal {
+        Some(_) => 1,
+        None => 0,
+    }
+}
+
 impl Counts {
     /// With one more message, of which this was told. Where there are too many warnings to be counted, `u32::MAX` stands for them.
     fn with(self, told: Told) -> Counts
         requires messages { self.messages ≤ input_limit + 1 }
         requires refused { self.refused ≤ self.messages }
+        requires mended { self.mended ≤ self.messages }
         ensures messages { result.messages ≡ self.messages + 1 }
         ensures refused { result.refused ≡ self.refused + (if told.is_taken then 0 else 1) }
+        ensures mended { result.mended ≡ self.mended + proposed_one told.proposal }
     {
         Counts {
             messages: self.messages + 1,
             refused: self.refused + u32::from(!told.is_taken),
             warnings: self.warnings.saturating_add(told.warnings),
+            mended: self.mended + proposed_one(told.proposal),
         }
     }
 }
@@ -310,12 +354,13 @@ impl Counts {
 ///
 /// What is read is kept in a block, and each message is explained where it stands there. What is told of short texts is written together,
 /// before more is read or as soon as it has 98,304 octets.
-fn explain_rest<R: Read, W: Write>(
+fn explain_rest<R: Read, W: Write, E: Write>(
     alloc: Global,
     asker: &Asker,
     place: LineStart,
     reader: &mut R,
     writer: &mut W,
+    errors: &mut E,
 ) -> Result<Counts, ToolFault>
     requires { place.number + place.left ≤ input_limit + 1 }
     ensures { ExplainsRest asker.now place (R.remaining reader.old) (R.remaining reader.new) (W.contents writer.old) (W.contents writer.new)
@@ -333,9 +378,18 @@ fn explain_rest<R: Read, W: Write>(
         messages: 0,
         refused: 0,
         warnings: 0,
+        mended: 0,
     };
     loop {
-        match explain_next(alloc, asker, &mut unread, &mut gathered, reader, writer) {
+        match explain_next(
+            alloc,
+            asker,
+            &mut unread,
+            &mut gathered,
+            reader,
+            writer,
+            errors,
+        ) {
             Ok(NextTold::Whole(told)) => counts = counts.with(told),
             Ok(NextTold::More) => {}
             Ok(NextTold::Last(told)) => return Ok(counts.with(told)),
@@ -367,12 +421,14 @@ fn asker_of(
 }
 
 /// Reads an input up to its end or its first fault, and explains its messages, one to a line, as they are asked for.
-/// What stands behind the last line feed is a message too. Messages are told by the name of their file, and by their
-/// lines, which are counted behind the first `before` lines of the input. The answer is how many messages there were.
+/// What stands after the last line feed is a message too. Messages are told by the name of their file, and by their
+/// lines, which are counted after the first `before` lines of the input. The answer is how many messages there were.
+///
+/// If messages are written mended, what became of those that the sign doesn't take is said on the errors.
 ///
 /// The input is that of `check`, with its faults but for one. An explanation is written before
 /// more is read than the block of octets in which its line has ended.
-pub fn run_explain<R: Read, W: Write>(
+pub fn run_explain<R: Read, W: Write, E: Write>(
     alloc: Global,
     sample: bool,
     telling: Telling,
@@ -380,6 +436,7 @@ pub fn run_explain<R: Read, W: Write>(
     before: u32,
     reader: &mut R,
     writer: &mut W,
+    errors: &mut E,
 ) -> Result<Counts, ToolFault>
     ensures explained { ExplainsInput sample telling name.now before (R.remaining reader.old) (R.remaining reader.new)
         (W.contents writer.old) (W.contents writer.new) result }
@@ -392,5 +449,5 @@ pub fn run_explain<R: Read, W: Write>(
     let Ok(asker) = asker_of(alloc, setup, telling, name, before) else {
         return Err(ToolFault::Memory);
     };
-    explain_rest(alloc, &asker, place, reader, writer)
+    explain_rest(alloc, &asker, place, reader, writer, errors)
 }

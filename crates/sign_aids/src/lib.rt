@@ -5,7 +5,9 @@
 #![tactic(auto)]
 
 mod explain;
+mod lit;
 mod picture;
 
 pub use explain::{Counts, run_explain};
+pub use lit::Lit;
 pub use picture::{PictureFault, draw_picture, run_picture};

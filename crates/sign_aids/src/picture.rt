@@ -2,8 +2,9 @@
 ghost use Rattle.std.specs.Prelude.{◌≡◌, ◌+◌, ◌≤◌, IfOk, IfErr};
 ghost use Rattle.message_picture.specs.Drawn.{AllowsSeconds};
 ghost use Rattle.tool_streams.specs.Lines.{input_limit};
-ghost use Rattle.sign_aids.specs.Pictures.{DrawsInput, DrawsMessage, IsFaultOf, IsNoMessage, IsPicture, IsUndrawn, TakesLast, picture_fault};
+ghost use Rattle.sign_aids.specs.Pictures.{DrawsInput, DrawsLit, DrawsMessage, IsFaultOf, IsFaultOfLit, IsNoMessage, IsPicture, IsUndrawn, TakesLast, picture_fault};
 
+use crate::lit::{Lit, lit_file};
 use message_picture::{DrawFault, View, draw_message};
 use multi_layout::check;
 use multi_token::Source;
@@ -43,9 +44,12 @@ pub enum PictureFault {
     /// A film of so many tenths of a second may have more than 64,000,000 octets.
     #[error("too large: a film of {tenths} tenths of a second has more than 64 MB; --seconds N takes the first N")]
     LargeFilm { tenths: u16 },
+    /// A colour of lit pixels was asked for, and the sign has the classic colours.
+    #[error("the sign has the classic colours; --lit is for a sign of one colour")]
+    ManyColours,
 }
 
-/// Reads the one message of an input, from this line on, and sees that the input ends behind it.
+/// Reads the one message of an input, from this line on, and sees that the input ends after it.
 fn read_message<R: Read>(
     alloc: Global,
     place: LineStart,
@@ -126,19 +130,51 @@ fn picture_of(
     }
 }
 
+/// The file of a message, in a colour if one is asked for.
+fn lit_picture(
+    alloc: Global,
+    sign: &Sign,
+    message: &[u8],
+    view: View,
+    side: u8,
+    lit: Option<Lit>,
+) -> Result<Vec<u8>, PictureFault>
+    requires side { side ≤ 16 }
+    requires seconds { AllowsSeconds view }
+    ensures drawn { IfOk result (λ file. DrawsLit lit side sign.now message.now view file.items) }
+    ensures fault { IfErr result (λ e. IsFaultOfLit lit side sign.now message.now view e) }
+{
+    let Some(lit) = lit else {
+        return picture_of(alloc, sign, message, view, side);
+    };
+    if sign.classic() {
+        return Err(PictureFault::ManyColours);
+    }
+    let plain = match picture_of(alloc, sign, message, view, side) {
+        Ok(plain) => plain,
+        Err(fault) => return Err(fault),
+    };
+    match lit_file(alloc, lit, view, &plain) {
+        Ok(file) => Ok(file),
+        Err(_) => Err(PictureFault::Tool(ToolFault::Memory)),
+    }
+}
+
 /// Reads an input to its end, and draws its one message: the octets of a file in PPM or GIF, with
 /// `side` by `side` points for each pixel, 1 to 16. The input is that of `check`, with one message.
+/// `lit` is the colour of the lit pixels of a sign of one colour, which are amber without it.
 pub fn draw_picture<R: Read>(
     alloc: Global,
     sample: bool,
     view: View,
     side: u8,
+    lit: Option<Lit>,
     reader: &mut R,
 ) -> Result<Vec<u8>, PictureFault>
     requires side { side ≤ 16 }
     requires seconds { AllowsSeconds view }
-    ensures drawn { IfOk result (λ file. IsPicture sample side view (R.remaining reader.old) (R.remaining reader.new) file.items) }
-    ensures fault { IfErr result (IsUndrawn sample side view (R.remaining reader.old) (R.remaining reader.new)) }
+    ensures drawn { IfOk result (λ file. IsPicture lit sample side view (R.remaining reader.old) (R.remaining reader.new) file.items) }
+    ensures fault { IfErr result (IsUndrawn lit sample side view (R.remaining reader.old) (R.remaining reader.new)) }
 {
     let start = match begin(alloc, sample, reader) {
         Ok(start) => start,
@@ -149,7 +185,7 @@ pub fn draw_picture<R: Read>(
         Ok(line) => line,
         Err(fault) => return Err(fault),
     };
-    match picture_of(alloc, &setup.sign, text_of(&line), view, side) {
+    match lit_picture(alloc, &setup.sign, text_of(&line), view, side, lit) {
         Ok(file) => Ok(file),
         Err(fault) => Err(fault),
     }
@@ -162,15 +198,16 @@ pub fn run_picture<R: Read, W: Write>(
     sample: bool,
     view: View,
     side: u8,
+    lit: Option<Lit>,
     reader: &mut R,
     writer: &mut W,
 ) -> Result<(), PictureFault>
     requires side { side ≤ 16 }
     requires seconds { AllowsSeconds view }
-    ensures drawn { DrawsInput sample side view
+    ensures drawn { DrawsInput lit sample side view
         (R.remaining reader.old) (R.remaining reader.new) (W.contents writer.old) (W.contents writer.new) result }
 {
-    let file = match draw_picture(alloc, sample, view, side, reader) {
+    let file = match draw_picture(alloc, sample, view, side, lit, reader) {
         Ok(file) => file,
         Err(fault) => return Err(fault),
     };

@@ -31,7 +31,7 @@ abbrev pub Each : {X : Type 0} → (X → Type 0) → List X → Type 0
 Each P [] = Unit {0}
 Each P (x ∷ xs) = P x × Each P xs
 
--- of each item that there is, and of those behind it
+-- of each item that there is, and of those after it
 each_option : {Y : Type 0} (Q : Y → Type 0) (o : Option Y) (ys : List Y) → IfSome o Q → Each Q ys → Each Q (cons_option o ys)
 each_option Q None ys is rest = rest
 each_option Q (Some y) ys is rest = (is, rest)

@@ -12,7 +12,7 @@ use Rattle.multi_meaning.specs.Picture.{colour_of, in_plane, pixel_at, shown_col
 use Rattle.multi_meaning.specs.Verdict.{Accepted, IsVerdict, Refused, broken, of_first, offences, pages_of, verdict, verdict_on}
 use Rattle.multi_meaning.proofs.VerdictLemmas.{one_verdict}
 use Rattle.sign_control.specs.Headline.{IsOnly}
-use Rattle.sign_control.specs.kept.Ready.{IsAccepted}
+use Rattle.sign_control.specs.internal.Ready.{IsAccepted}
 use Rattle.sign_control.proofs.ColourLemmas.{colour_most, laid_out_coloured}
 
 -- an accepted text isn't refused

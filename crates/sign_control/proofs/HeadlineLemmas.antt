@@ -28,8 +28,8 @@ use Rattle.sign_control.specs.Counts.{JudgedText, activated_text, candidate_text
 use Rattle.sign_control.specs.Headline.{Headline, after, shown_by, shown_now}
 use Rattle.sign_control.specs.Run.{IsWithin, run, run_steps, text_limit}
 use Rattle.sign_control.specs.State.{StateData, Stepped, started}
-use Rattle.sign_control.specs.kept.Ready.{IsAccepted}
-use Rattle.sign_control.specs.kept.Answered.{IsOneOf}
+use Rattle.sign_control.specs.internal.Ready.{IsAccepted}
+use Rattle.sign_control.specs.internal.Answered.{IsOneOf}
 use Rattle.sign_control.specs.Step.{activated, defaults_step, judged_activation, judged_step, step, store_step, with_default}
 use Rattle.sign_control.specs.Time.{end_step, passed, ticked}
 use Rattle.page_picture.proofs.ShownLemmas.{there_at}

@@ -8,4 +8,7 @@ pub mod FrameLemmas
 pub mod HeadlineLemmas
 mod StateExamples
 mod StepExamples
+pub mod RestoredLemmas
+pub mod RevisionLemmas
+pub mod SavedLemmas
 pub mod StepLemmas

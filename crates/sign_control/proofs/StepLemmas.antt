@@ -1,6 +1,6 @@
 -- What holds of a controller stays so, and what the calls of its parts say of a step.
-use Rattle.std.proofs.Common.{◌≡◌, ◌≤◌, ◌*◌, ◌-◌, ◌∙◌, ℕ, Bool, true, false, not, nat_lt, if◌then◌else◌, List, [], length, refl, sym, ap, subst, inl, inr, arith, Option, Some, None, Result, Ok, Err, IfSome}
-use Rattle.std.specs.Option.{option_map}
+use Rattle.std.proofs.Common.{◌≡◌, ◌≤◌, ◌*◌, ◌-◌, ◌∙◌, ℕ, Bool, true, false, not, nat_lt, if◌then◌else◌, List, [], length, refl, sym, ap, subst, inl, inr, arith, Option, Some, None, Result, Ok, Err, IfSome, Bor}
+use Rattle.std.specs.Option.{option_copied, option_map, unwrap_or}
 use Rattle.std.proofs.lemmas.Bool.{cond-true, cond-false, le-ltb}
 use Rattle.sign_font.specs.declared.parts.Defaults.{Defaults}
 use Rattle.sign_font.specs.Defaults.{default_fault, under}
@@ -12,6 +12,7 @@ use Rattle.multi_meaning.specs.Verdict.{Verdict, Accepted, Refused, verdict, ver
 use Rattle.multi_layout.specs.Pages.{IsSized}
 use Rattle.message_store.specs.declared.fault.StoreFault.{StoreFault}
 use Rattle.message_store.specs.declared.limits.StoreLimits.{StoreLimits}
+use Rattle.message_store.specs.Ranged.{AreRanged}
 use Rattle.message_store.specs.Slot.{StoreData}
 use Rattle.message_store.specs.Step.{StepsTo}
 use Rattle.sign_control.specs.declared.code.ActivateError.{ActivateError}
@@ -25,8 +26,8 @@ use Rattle.sign_control.specs.declared.display.Showing.{Showing}
 use Rattle.message_store.specs.Judged.{error_of, is_accepted, position_of}
 use Rattle.sign_control.specs.Activation.{CandidateData, blank_one, displayed, or_blank, remaining_of, text_of, verdict_of}
 use Rattle.sign_control.specs.State.{StateData, Stepped, start}
-use Rattle.sign_control.specs.kept.Ready.{IsAccepted, IsReady}
-use Rattle.sign_control.specs.kept.Answered.{IsOneOf, reply_of}
+use Rattle.sign_control.specs.internal.Ready.{IsAccepted, IsReady}
+use Rattle.sign_control.specs.internal.Answered.{IsOneOf, reply_of}
 use Rattle.sign_control.specs.Step.{activated, activated_registers, judged_activation, not_shown, store_step}
 use Rattle.sign_control.specs.Time.{passed}
 
@@ -83,13 +84,23 @@ pub shown-limited : (m : CandidateData) (display : Display) (showing : Showing) 
     → IfSome display.remaining (λ remaining. remaining ≤ 65534 * 600)
 shown-limited m display showing is limited = subst (λ (d : Display). IfSome d.remaining (λ remaining. remaining ≤ 65534 * 600)) (sym is) limited
 
+-- what is shown at the start is within its ranges
+pub start-ranged : (defaults : Defaults) (display : Display) → display ≡ start defaults → AreRanged display.priority display.beacon display.pixel
+start-ranged defaults display is =
+    subst (λ (d : Display). AreRanged d.priority d.beacon d.pixel) (sym is) (record { from_one = omega arith; beacon_flag = omega arith; pixel_flag = omega arith })
+
+-- what is shown is within its ranges
+pub shown-ranged : (m : CandidateData) (display : Display) (showing : Showing) → display ≡ displayed m showing → AreRanged m.priority m.beacon m.pixel
+    → AreRanged display.priority display.beacon display.pixel
+shown-ranged m display showing is ranged = subst (λ (d : Display). AreRanged d.priority d.beacon d.pixel) (sym is) ranged
+
 -- an empty text is shown
 pub ready-none : (sign : SignData) (store : StoreData) (defaults : Defaults) (display : Display) (text : List ℕ) (capacity : ℕ) (plane : BitPlane)
     → IsSound sign → default_fault sign defaults ≡ None → default_fault sign display.defaults ≡ None → store.limits.max_string ≤ 4096 → text ≡ [] → store.limits.max_string ≤ capacity → IsSized plane sign
-    → IfSome display.remaining (λ remaining. remaining ≤ 65534 * 600)
+    → IfSome display.remaining (λ remaining. remaining ≤ 65534 * 600) → AreRanged display.priority display.beacon display.pixel
     → IsReady sign store defaults display text capacity plane
 unfolding none-accepted
-ready-none sign store defaults display text capacity plane sound taken shown longest none room size limited = record {
+ready-none sign store defaults display text capacity plane sound taken shown longest none room size limited ranged = record {
   sound = sound;
   taken = taken;
   shown_taken = shown;
@@ -97,8 +108,10 @@ ready-none sign store defaults display text capacity plane sound taken shown lon
   room = room;
   size = size;
   limited = limited;
+  ranged = ranged;
   accepted = (1, ap (λ (l : List ℕ). verdict (under sign display.defaults) l) none ∙ (none-accepted (under sign display.defaults)).1);
   short = omega (arith, ap (λ (l : List ℕ). length l) none);
+  fits = omega (arith, ap (λ (l : List ℕ). length l) none);
 }
 
 -- the store's messages have changed
@@ -114,6 +127,8 @@ ready-store sign old new defaults display text capacity plane is same =
       short = is.short;
       size = is.size;
       limited = is.limited;
+      ranged = is.ranged;
+      fits = omega (arith, is.fits, longest);
       longest = omega (arith, is.longest, longest);
       room = omega (arith, is.room, longest);
     }
@@ -132,9 +147,11 @@ ready-passed sign store defaults old new text capacity plane tenths is same =
       shown_taken = is.shown_taken;
       accepted = is.accepted;
       short = is.short;
+      fits = is.fits;
       longest = is.longest;
       room = is.room;
       size = is.size;
+      ranged = is.ranged;
       limited = limited-passed old.remaining tenths is.limited;
     } in
     subst (λ (d : Display). IsReady sign store defaults d text capacity plane) (sym same) after
@@ -142,10 +159,16 @@ ready-passed sign store defaults old new text capacity plane tenths is same =
 -- a message is shown
 pub ready-shown : (sign : SignData) (store : StoreData) (defaults : Defaults) (old new : Display) (text after : List ℕ) (capacity room : ℕ) (plane : BitPlane)
     → IsReady sign store defaults old text capacity plane → default_fault sign new.defaults ≡ None → IsAccepted (under sign new.defaults) after → length after ≤ 4096
-    → capacity ≤ room → IfSome new.remaining (λ remaining. remaining ≤ 65534 * 600)
+    → length after ≤ store.limits.max_string → capacity ≤ room → IfSome new.remaining (λ remaining. remaining ≤ 65534 * 600) → AreRanged new.priority new.beacon new.pixel
     → IsReady sign store defaults new after room plane
-ready-shown sign store defaults old new text after capacity room plane is taken accepted short more limited =
-    record { sound = is.sound; taken = is.taken; shown_taken = taken; accepted = accepted; short = short; longest = is.longest; room = omega (arith, is.room, more); size = is.size; limited = limited }
+ready-shown sign store defaults old new text after capacity room plane is taken accepted short fits more limited ranged =
+    record { sound = is.sound; taken = is.taken; shown_taken = taken; accepted = accepted; short = short; fits = fits; longest = is.longest; room = omega (arith, is.room, more); size = is.size; limited = limited; ranged = ranged }
+
+-- the text that is shown after it was replaced, or not
+pub fits-replaced : (text : Option (Bor (List ℕ))) (old new : List ℕ) (most : ℕ) → IfSome text (λ t. length t.now ≤ most) → length old ≤ most
+    → new ≡ unwrap_or (option_copied text) old → length new ≤ most
+fits-replaced None old new most own was is = omega (arith, ap (λ (l : List ℕ). length l) is, was)
+fits-replaced (Some t) old new most own was is = omega (arith, ap (λ (l : List ℕ). length l) is, own)
 
 -- defaults that are one of two that the sign takes
 pub one-taken : (sign : SignData) (defaults one other : Defaults) → IsOneOf defaults one other → default_fault sign one ≡ None → default_fault sign other ≡ None → default_fault sign defaults ≡ None

@@ -11,6 +11,7 @@ use Rattle.sign_control.specs.contracts.controller.Controller.{the_row}
 pub record Framed (old new : ControllerData) (frame : Frame) : Type 0 where
   pub sign_kept : new.sign ≡ old.sign
   pub state_kept : new.state ≡ old.state
+  pub revision_kept : new.revision ≡ old.revision
   pub counted : new.steps ≡ raised old.steps frame.steps
   pub lent : frame.plane.now ≡ new.plane
 

@@ -27,12 +27,13 @@ pub record Stepped : Type 0 where
   pub state : StateData
   pub reply : Reply
 
--- a controller: its sign, its state, its plane and the steps that it has counted (own)
+-- a controller: its sign, its state, its plane, the steps that it has counted, and its revision (own)
 pub record ControllerData : Type 0 where
   pub sign : SignData
   pub state : StateData
   pub plane : BitPlane
   pub steps : ℕ
+  pub revision : ℕ
 
 -- what is shown at making: blank 1, without end, for nobody (own)
 abbrev pub start : Defaults → Display

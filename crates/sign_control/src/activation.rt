@@ -4,8 +4,9 @@ ghost use Rattle.std.specs.Prelude.{◌≡◌, ◌≤◌, ◌*◌, None, length,
 ghost use Rattle.std.specs.Option.{option_copied, unwrap_or};
 ghost use Rattle.std.specs.Vec.{vec_capacity};
 ghost use Rattle.sign_font.specs.Defaults.{default_fault};
+ghost use Rattle.message_store.specs.Ranged.{AreRanged};
 ghost use Rattle.sign_control.specs.Activation.{blank_one, found, is_crc, missing, named, or_blank, remaining_of, swapped, text_of};
-ghost use Rattle.sign_control.specs.kept.Answered.{candidate_of, candidate_result, IsOneOf};
+ghost use Rattle.sign_control.specs.internal.Answered.{candidate_of, candidate_result, IsOneOf};
 ghost use Rattle.sign_control.specs.Counts.{end_text, text_steps};
 
 use crate::code::{ActivateError, IdCode};
@@ -32,6 +33,7 @@ pub(crate) struct Candidate<'a> {
 pub(crate) fn blank_one(defaults: Defaults) -> Candidate<'static>
     ensures blank { candidate_of result ≡ blank_one defaults }
     ensures text { IfSome result.text (λ text. length text.now ≡ 0) }
+    ensures ranged { AreRanged result.priority result.beacon result.pixel }
 {
     Candidate {
         source: MsgRef {
@@ -64,6 +66,8 @@ fn found<'a>(
     defaults: Defaults,
     message: MsgRef,
 ) -> Result<Candidate<'a>, ActivateError>
+    requires { AreRanged display.now.priority display.now.beacon display.now.pixel }
+    ensures ranged { IfOk result (λ c. AreRanged c.priority c.beacon c.pixel) }
     ensures found { candidate_result result ≡ found store.now display.now defaults message }
     ensures within { IfOk result (λ c. IfSome c.text (λ t. length t.now ≤ store.now.limits.max_string)) }
     ensures short { IfOk result (λ c. IfSome c.text (λ t. length t.now ≤ 4096)) }
@@ -123,6 +127,8 @@ pub(crate) fn named<'a>(
     defaults: Defaults,
     code: IdCode,
 ) -> Result<Candidate<'a>, ActivateError>
+    requires { AreRanged display.now.priority display.now.beacon display.now.pixel }
+    ensures ranged { IfOk result (λ c. AreRanged c.priority c.beacon c.pixel) }
     ensures named { candidate_result result ≡ named store.now display.now defaults code }
     ensures within { IfOk result (λ c. IfSome c.text (λ t. length t.now ≤ store.now.limits.max_string)) }
     ensures short { IfOk result (λ c. IfSome c.text (λ t. length t.now ≤ 4096)) }
@@ -163,6 +169,8 @@ pub(crate) fn end_message<'a>(
     requires taken { default_fault sign.now defaults ≡ None }
     requires shown_taken { default_fault sign.now display.now.defaults ≡ None }
     requires short { length shown.now ≤ 4096 }
+    requires ranged { AreRanged display.now.priority display.now.beacon display.now.pixel }
+    ensures ranged { AreRanged result.0.priority result.0.beacon result.0.pixel }
     ensures message { candidate_of result.0 ≡ or_blank sign.now shown.now defaults (named store.now display.now defaults code) }
     ensures steps { result.1 ≡ text_steps (end_text sign.now shown.now (named store.now display.now defaults code)) }
     ensures within { IfSome result.0.text (λ t. length t.now ≤ store.now.limits.max_string) }

@@ -1,11 +1,12 @@
 //! What commands do.
 
-ghost use Rattle.std.specs.Prelude.{◌≡◌, ◌≤◌, ◌+◌, IfOk, OnOk, OnErr};
+ghost use Rattle.std.specs.Prelude.{◌≡◌, ◌≤◌, ◌+◌, IfOk, OnOk, OnErr, fold};
+ghost use Rattle.sign_control.specs.Revision.{revised};
 ghost use Rattle.step_count.specs.Count.{raised};
 ghost use Rattle.sign_control.specs.Counts.{activation_text, following_text, text_judged, text_steps, ticked_text};
 ghost use Rattle.sign_control.specs.Run.{StaysWithin, run, run_limit, run_steps};
 ghost use Rattle.sign_control.specs.Step.{activate_step, activated_registers, default_step, judged_registers, not_shown, step, work_step};
-ghost use Rattle.sign_control.specs.kept.Answered.{reply_of};
+ghost use Rattle.sign_control.specs.internal.Answered.{reply_of};
 ghost use Rattle.sign_control.specs.Time.{end_step, passed, tick_step};
 ghost use Rattle.sign_control.specs.declared.command.Command.TheVariants as command;
 
@@ -14,6 +15,7 @@ use crate::code::{ActivateError, ActivationCode, SourceMode, activation_code, id
 use crate::command::{Command, DefaultField, Reply, with_default};
 use crate::controller::Controller;
 use crate::display::{Display, Registers, Showing, displayed};
+use crate::revision::revised;
 use message_store::{Judged, StoreFault, TextJudgement, judge_text};
 use page_plane::Memory;
 use std::alloc::Global;
@@ -82,6 +84,7 @@ impl Controller {
         ensures state { self.new.state ≡ (work_step self.old.sign self.old.state).state }
         ensures reply { result ≡ (work_step self.old.sign self.old.state).reply }
         ensures kept { (self.new.sign ≡ self.old.sign) × (self.new.plane ≡ self.old.plane) }
+        ensures revision { self.new.revision ≡ self.old.revision }
         ensures steps { self.new.steps ≡ raised self.old.steps (text_steps (text_judged self.old.sign self.old.state command.Work)) }
     {
         let Some(judged) = self.store.work(&self.sign, &self.defaults) else {
@@ -103,6 +106,7 @@ impl Controller {
         ensures state { self.new.state ≡ (not_shown self.old.state error).state }
         ensures reply { result ≡ (not_shown self.old.state error).reply }
         ensures kept { (self.new.sign ≡ self.old.sign) × (self.new.plane ≡ self.old.plane) × (self.new.steps ≡ self.old.steps) }
+        ensures revision { self.new.revision ≡ self.old.revision }
     {
         self.registers.activate = error;
         Reply::NotShown(error.code())
@@ -113,6 +117,7 @@ impl Controller {
         ensures state { self.new.state ≡ (activate_step self.old.sign self.old.state code).state }
         ensures reply { result ≡ (activate_step self.old.sign self.old.state code).reply }
         ensures kept { (self.new.sign ≡ self.old.sign) × (self.new.plane ≡ self.old.plane) }
+        ensures revision { self.new.revision ≡ self.old.revision }
         ensures steps { self.new.steps ≡ raised self.old.steps (text_steps (activation_text self.old.sign self.old.state code)) }
     {
         let message = match named(&self.store, &self.display, self.defaults, code.id) {
@@ -146,6 +151,7 @@ impl Controller {
         ensures state { self.new.state ≡ (end_step self.old.sign self.old.state ago).state }
         ensures reply { result ≡ (end_step self.old.sign self.old.state ago).reply }
         ensures kept { (self.new.sign ≡ self.old.sign) × (self.new.plane ≡ self.old.plane) }
+        ensures revision { self.new.revision ≡ self.old.revision }
         ensures steps { self.new.steps ≡ raised self.old.steps (text_steps (following_text self.old.sign self.old.state)) }
     {
         let (message, steps) = end_message(
@@ -175,6 +181,7 @@ impl Controller {
         ensures state { self.new.state ≡ (tick_step self.old.sign self.old.state tenths).state }
         ensures reply { result ≡ (tick_step self.old.sign self.old.state tenths).reply }
         ensures kept { (self.new.sign ≡ self.old.sign) × (self.new.plane ≡ self.old.plane) }
+        ensures revision { self.new.revision ≡ self.old.revision }
         ensures steps { self.new.steps
             ≡ raised self.old.steps (text_steps (ticked_text self.old.sign self.old.state tenths self.old.state.display.remaining)) }
     {
@@ -192,6 +199,7 @@ impl Controller {
         ensures state { self.new.state ≡ (default_step self.old.sign self.old.state field value).state }
         ensures reply { result ≡ (default_step self.old.sign self.old.state field value).reply }
         ensures kept { (self.new.sign ≡ self.old.sign) × (self.new.plane ≡ self.old.plane) × (self.new.steps ≡ self.old.steps) }
+        ensures revision { self.new.revision ≡ self.old.revision }
     {
         let defaults = with_default(self.defaults, field, value);
         match self.sign.refuses(&defaults) {
@@ -203,11 +211,12 @@ impl Controller {
         }
     }
 
-    /// Does one command.
-    pub fn apply(&mut self, command: &Command<'_>) -> Reply
+    /// Makes the step of one command.
+    fn follow(&mut self, command: &Command<'_>) -> Reply
         ensures state { self.new.state ≡ (step self.old.sign self.old.state command.now).state }
         ensures reply { result ≡ (step self.old.sign self.old.state command.now).reply }
         ensures kept { (self.new.sign ≡ self.old.sign) × (self.new.plane ≡ self.old.plane) }
+        ensures revision { self.new.revision ≡ self.old.revision }
         ensures steps { self.new.steps ≡ raised self.old.steps (text_steps (text_judged self.old.sign self.old.state command.now)) }
     {
         match command {
@@ -238,6 +247,19 @@ impl Controller {
         }
     }
 
+    /// Does one command.
+    pub fn apply(&mut self, command: &Command<'_>) -> Reply
+        ensures state { self.new.state ≡ (step self.old.sign self.old.state command.now).state }
+        ensures reply { result ≡ (step self.old.sign self.old.state command.now).reply }
+        ensures kept { (self.new.sign ≡ self.old.sign) × (self.new.plane ≡ self.old.plane) }
+        ensures steps { self.new.steps ≡ raised self.old.steps (text_steps (text_judged self.old.sign self.old.state command.now)) }
+        ensures revision { self.new.revision ≡ revised self.old.revision (step self.old.sign self.old.state command.now).reply }
+    {
+        let reply = self.follow(command);
+        self.revision = revised(self.revision, reply);
+        reply
+    }
+
     /// Does commands one after the other, and gives their replies in order. The memory for all replies is taken before the
     /// first command. Where it is refused, nothing has changed.
     ///
@@ -249,6 +271,7 @@ impl Controller {
         ensures kept { (self.new.sign ≡ self.old.sign) × (self.new.plane ≡ self.old.plane) }
         ensures counts { OnOk result (self.new.steps ≡ raised self.old.steps (run_steps self.old.sign self.old.state commands.now)) }
         ensures steps { self.new.steps ≤ self.old.steps + run_limit self.old.sign self.old.state commands.now }
+        ensures revision { IfOk result (λ replies. self.new.revision ≡ fold revised self.old.revision replies.items) }
         ensures within { StaysWithin self.old.sign self.old.state commands.now }
     {
         // For the proof alone: the call says that the store is within its limits before the first command.

@@ -8,7 +8,7 @@ ghost use Rattle.multi_meaning.specs.Steps.{judging_steps};
 ghost use Rattle.sign_control.specs.Headline.{shown_by};
 ghost use Rattle.message_change.specs.Change.{change_at};
 ghost use Rattle.sign_control.specs.Change.{IsCounted, change_limit, next_change, no_later};
-ghost use Rattle.sign_control.specs.kept.Ready.{IsAccepted};
+ghost use Rattle.sign_control.specs.internal.Ready.{IsAccepted};
 
 use crate::check::accepted_text;
 use crate::controller::Controller;
@@ -61,6 +61,7 @@ impl Controller {
     pub fn next_change(&mut self, most: u32) -> u32
         ensures next { result ≡ next_change self.old.sign self.old.state most }
         ensures kept { (self.new.sign ≡ self.old.sign) × (self.new.state ≡ self.old.state) × (self.new.plane ≡ self.old.plane) }
+        ensures revision { self.new.revision ≡ self.old.revision }
         ensures steps { IsCounted self.old.steps (judging_steps (shown_by self.old.sign self.old.state) self.old.state.text)
             (change_limit (length self.old.state.text)) self.new.steps }
     {

@@ -4,7 +4,7 @@ ghost use Rattle.std.specs.Prelude.{◌≡◌, ℕ, ◌^◌, ◌<◌, None, leng
 ghost use Rattle.multi_meaning.specs.Steps.{judging_steps};
 ghost use Rattle.multi_meaning.specs.Verdict.{Accepted, IsVerdict, Refused};
 ghost use Rattle.sign_font.specs.Defaults.{default_fault, under};
-ghost use Rattle.sign_control.specs.kept.Ready.{IsAccepted};
+ghost use Rattle.sign_control.specs.internal.Ready.{IsAccepted};
 
 use multi_layout::{Checked, Fault, check_with};
 use multi_token::Source;

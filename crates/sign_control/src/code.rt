@@ -55,6 +55,24 @@ pub(crate) enum SourceMode {
 }
 
 impl ActivateError {
+    ghost use Rattle.sign_control.specs.Saved.{error_numbered};
+
+    /// The error of a number (NTCIP 1203 v03, dmsActivateMsgError).
+    pub(crate) fn numbered(number: u8) -> Option<ActivateError>
+        ensures { result ≡ error_numbered number }
+    {
+        match number {
+            2 => Some(ActivateError::None),
+            3 => Some(ActivateError::Priority),
+            4 => Some(ActivateError::MessageStatus),
+            5 => Some(ActivateError::MessageMemoryType),
+            6 => Some(ActivateError::MessageNumber),
+            7 => Some(ActivateError::MessageCrc),
+            8 => Some(ActivateError::SyntaxMulti),
+            _ => None,
+        }
+    }
+
     /// Its number (NTCIP 1203 v03, dmsActivateMsgError).
     pub(crate) fn code(self) -> u8
         ensures { result ≡ error_code self }
@@ -72,6 +90,20 @@ impl ActivateError {
 }
 
 impl SourceMode {
+    ghost use Rattle.sign_control.specs.Saved.{mode_numbered};
+
+    /// The source mode of a number (NTCIP 1203 v03, dmsMsgSourceMode).
+    pub(crate) fn numbered(number: u8) -> Option<SourceMode>
+        ensures { result ≡ mode_numbered number }
+    {
+        match number {
+            1 => Some(SourceMode::Other),
+            8 => Some(SourceMode::Central),
+            14 => Some(SourceMode::EndDuration),
+            _ => None,
+        }
+    }
+
     /// Its number (NTCIP 1203 v03, dmsMsgSourceMode).
     pub(crate) fn code(self) -> u8
         ensures { result ≡ mode_code self }

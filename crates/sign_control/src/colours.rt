@@ -1,6 +1,6 @@
 //! The colours of all pixels, of what the display shows and of a text's page.
 
-ghost use Rattle.std.specs.Prelude.{◌≡◌, ◌≤◌, ◌-◌, None, length, IfErr, IfOk, OnOk};
+ghost use Rattle.std.specs.Prelude.{◌≡◌, ◌≤◌, ◌-◌, None, false, length, IfErr, IfOk, OnErr, OnOk};
 ghost use Rattle.step_count.specs.Count.{raised};
 ghost use Rattle.multi_meaning.specs.Steps.{judging_steps};
 ghost use Rattle.multi_meaning.specs.Times.{shown};
@@ -11,7 +11,7 @@ ghost use Rattle.sign_font.specs.Sound.{IsSound};
 ghost use Rattle.sign_control.specs.Change.{IsCounted};
 ghost use Rattle.sign_control.specs.Colours.{TellsColours, WritesColours, colours_limit, page_colours_limit};
 ghost use Rattle.sign_control.specs.Headline.{shown_by, shown_now};
-ghost use Rattle.sign_control.specs.kept.Ready.{IsAccepted};
+ghost use Rattle.sign_control.specs.internal.Ready.{IsAccepted};
 ghost use Rattle.sign_control.specs.TextPage.{HasPage, LacksPage, in_force, tried_steps};
 
 use crate::check::accepted_text;
@@ -41,6 +41,7 @@ fn write_shown(
     ensures colours { TellsColours (under sign.now defaults) text.now (shown (under sign.now defaults) text.now clock)
         octets.old octets.new result.0 }
     ensures size { (plane.new.width ≡ plane.old.width) × (plane.new.height ≡ plane.old.height) }
+    ensures undrawn { result.0 ≡ None → plane.new ≡ plane.old }
     ensures least { raised (judging_steps (under sign.now defaults) text.now) (plane.new.steps - plane.old.steps) ≤ result.1 }
     ensures most { result.1 ≤ colours_limit sign.now (length text.now) }
 {
@@ -73,6 +74,7 @@ fn write_text(
     ensures missing { IfErr result.0 (LacksPage (under sign.now defaults) text.now at.page) }
     ensures unwritten { IfErr result.0 (λ why. octets.new ≡ octets.old) }
     ensures size { (plane.new.width ≡ plane.old.width) × (plane.new.height ≡ plane.old.height) }
+    ensures undrawn { (OnErr result.0 (plane.new ≡ plane.old)) × IfOk result.0 (λ written. written ≡ false → plane.new ≡ plane.old) }
     ensures least { raised (tried_steps (under sign.now defaults) text.now) (plane.new.steps - plane.old.steps) ≤ result.1 }
     ensures most { result.1 ≤ page_colours_limit sign.now (length text.now) }
 {
@@ -100,7 +102,9 @@ impl Controller {
     pub fn colours(&mut self, octets: &mut [u8]) -> Option<Shown>
         ensures colours { TellsColours (shown_by self.old.sign self.old.state) self.old.state.text (shown_now self.old.sign self.old.state)
             octets.old octets.new result }
+        ensures undrawn { result ≡ None → self.new.plane ≡ self.old.plane }
         ensures kept { (self.new.sign ≡ self.old.sign) × (self.new.state ≡ self.old.state) }
+        ensures revision { self.new.revision ≡ self.old.revision }
         ensures steps { IsCounted self.old.steps
             (raised (judging_steps (shown_by self.old.sign self.old.state) self.old.state.text)
             (self.new.plane.steps - self.old.plane.steps))
@@ -134,7 +138,9 @@ impl Controller {
             octets.old octets.new) }
         ensures missing { IfErr result (LacksPage (in_force self.old.sign self.old.state) text.now page) }
         ensures unwritten { IfErr result (λ why. octets.new ≡ octets.old) }
+        ensures undrawn { (OnErr result (self.new.plane ≡ self.old.plane)) × IfOk result (λ written. written ≡ false → self.new.plane ≡ self.old.plane) }
         ensures kept { (self.new.sign ≡ self.old.sign) × (self.new.state ≡ self.old.state) }
+        ensures revision { self.new.revision ≡ self.old.revision }
         ensures steps { IsCounted self.old.steps
             (raised (tried_steps (in_force self.old.sign self.old.state) text.now) (self.new.plane.steps - self.old.plane.steps))
             (page_colours_limit self.old.sign (length text.now)) self.new.steps }

@@ -1,6 +1,6 @@
 //! The controller: its making, and the frame of what it shows.
 
-ghost use Rattle.std.specs.Prelude.{◌≡◌, ◌+◌, ◌-◌, ◌≤◌, length, IfOk};
+ghost use Rattle.std.specs.Prelude.{◌≡◌, ℕ, ◌+◌, ◌-◌, ◌≤◌, false, length, IfOk};
 ghost use Rattle.std.specs.Borrow.{sem};
 ghost use Rattle.multi_meaning.specs.Picture.{Lights, pixel_at};
 ghost use Rattle.multi_meaning.specs.Meaning.{meanings};
@@ -8,6 +8,7 @@ ghost use Rattle.multi_meaning.specs.Steps.{judging_steps};
 ghost use Rattle.multi_meaning.specs.Times.{shown};
 ghost use Rattle.multi_layout.specs.Limits.{frame_limit};
 ghost use Rattle.multi_layout.specs.Pages.{IsSized};
+ghost use Rattle.page_plane.specs.Plane.{is_lit};
 ghost use Rattle.sign_font.specs.Defaults.{under};
 ghost use Rattle.sign_control.specs.State.{started};
 
@@ -40,11 +41,13 @@ pub struct Controller {
     /// Room for the lines of an area that is drawn.
     pub(crate) lines: AreaLines,
     pub(crate) steps: u64,
+    /// It rises with what is saved.
+    pub(crate) revision: u64,
 }
 
 impl Model for Controller {
     ghost use Rattle.sign_control.specs.State.{ControllerData};
-    ghost use Rattle.sign_control.specs.kept.Ready.{IsReady};
+    ghost use Rattle.sign_control.specs.internal.Ready.{IsReady};
     ghost use Rattle.std.specs.Vec.{vec_capacity};
 
     ghost Value = { ControllerData };
@@ -55,6 +58,7 @@ impl Model for Controller {
           { store = c.store; defaults = c.defaults; display = c.display; text = c.text.items; registers = c.registers; end = c.end };
       plane = c.plane;
       steps = c.steps;
+      revision = c.revision;
     } };
 
     ghost invariant = { λ c. IsReady c.sign c.store c.defaults c.display c.text.items (vec_capacity c.text) c.plane };
@@ -72,7 +76,7 @@ const NO_END: IdCode = IdCode {
 impl Controller {
     ghost use Rattle.sign_control.specs.Lending.{FramedAfter};
 
-    /// A controller of a sign and its messages, which shows blank 1 without end, by the sign's defaults.
+    /// A controller of a sign and its messages, which shows blank 1 without end, by the sign's defaults. Its plane is dark.
     ///
     /// It takes here the memory of the display's text and of one plane, and no later call but `run` takes any. `Memory`
     /// comes only where memory was refused.
@@ -80,6 +84,9 @@ impl Controller {
         ensures sign { IfOk result (λ c. c.sign ≡ sign) }
         ensures state { IfOk result (λ c. c.state ≡ started sign.defaults store) }
         ensures steps { IfOk result (λ c. c.steps ≡ 0) }
+        ensures revision { IfOk result (λ c. c.revision ≡ 0) }
+        ensures dark { IfOk result (λ c. (column row : ℕ) → is_lit c.plane column row ≡ false) }
+        ensures plane_steps { IfOk result (λ c. c.plane.steps ≡ 0) }
     {
         let room = usize::from(store.limits().max_string);
         let Ok(text) = Vec::with_capacity(alloc, room) else {
@@ -98,6 +105,7 @@ impl Controller {
             plane,
             lines: AreaLines::new(),
             steps: 0,
+            revision: 0,
         })
     }
 

@@ -2,7 +2,7 @@
 
 ghost use Rattle.std.specs.Prelude.{◌≡◌};
 ghost use Rattle.sign_control.specs.Activation.{blank_one, displayed};
-ghost use Rattle.sign_control.specs.kept.Answered.{candidate_of};
+ghost use Rattle.sign_control.specs.internal.Answered.{candidate_of};
 ghost use Rattle.sign_control.specs.State.{start};
 
 use crate::activation::{Candidate, blank_one};

@@ -9,7 +9,7 @@ ghost use Rattle.multi_layout.specs.Limits.{frame_limit};
 ghost use Rattle.multi_layout.specs.Pages.{IsSized};
 ghost use Rattle.sign_font.specs.Defaults.{default_fault, under};
 ghost use Rattle.sign_font.specs.Sound.{IsSound};
-ghost use Rattle.sign_control.specs.kept.Ready.{IsAccepted};
+ghost use Rattle.sign_control.specs.internal.Ready.{IsAccepted};
 
 use crate::check::counted;
 use multi_layout::{AreaLines, Judge, Shown};

@@ -2,6 +2,7 @@
 
 ghost use Rattle.std.specs.Prelude.{◌≡◌, ◌≤◌, length, map};
 ghost use Rattle.message_store.specs.Slot.{permanent_of};
+ghost use Rattle.sign_control.specs.Restored.{IsTaken};
 
 use crate::controller::Controller;
 use message_store::{Permanent, StoreLimits};
@@ -15,9 +16,11 @@ impl Controller {
         &self.sign
     }
 
-    /// The limits of the message table, as they were handed in.
+    /// The limits of the message table, as they were handed in. Whatever was asked of the controller, and whatever octets were restored, its
+    /// messages are within them, and the sign takes its defaults and accepts what the display shows.
     pub fn limits(&self) -> StoreLimits
         ensures limits { result ≡ self.now.state.store.limits }
+        ensures taken { IsTaken self.now.sign self.now.state }
     {
         self.store.limits()
     }

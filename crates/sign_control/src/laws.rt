@@ -2,6 +2,8 @@
 
 ghost use Rattle.sign_control.specs.Change.{StaysUntilNextChange};
 ghost use Rattle.sign_control.specs.Headline.{Headline};
+ghost use Rattle.sign_control.specs.Restored.{AnswersAsSaved};
+ghost use Rattle.sign_control.specs.Revision.{ChangesTheTimeAtMost};
 ghost use Rattle.sign_control.specs.Run.{EveryRunStaysWithin};
 
 use message_change::stays;
@@ -27,3 +29,16 @@ pub fn stays_until_next_change()
 {
     stays();
 }
+
+/// Commands after which [`crate::Controller::revision`] is as it was before have changed the time at most: each tick among them has added
+/// its tenths to the display's clock and taken them from what is left of its duration, and all else that is saved is as it was. This holds
+/// of every revision but `u64::MAX`.
+pub fn changes_the_time_at_most()
+    ensures { ChangesTheTimeAtMost }
+{}
+
+/// A controller that restores what another one of the same sign file has saved answers as that one: after every list of commands, ticks among
+/// them, its replies are the same, and its frames too, pixel by pixel.
+pub fn answers_as_saved()
+    ensures { AnswersAsSaved }
+{}

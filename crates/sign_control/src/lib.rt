@@ -23,14 +23,18 @@ mod frame;
 mod held;
 mod laws;
 mod page;
+mod parts;
 mod report;
+mod restore;
+mod revision;
+mod save;
 
 pub use command::{Command, DefaultField, Reply};
 pub use controller::Controller;
 pub use frame::Frame;
-pub use laws::{every_run_stays_within, headline, stays_until_next_change};
+pub use laws::{
+    answers_as_saved, changes_the_time_at_most, every_run_stays_within, headline,
+    stays_until_next_change,
+};
 pub use page::NoPage;
 pub use report::Report;
-
-#[cfg(test)]
-mod tests;

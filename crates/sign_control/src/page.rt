@@ -1,6 +1,6 @@
 //! The pages of a text that isn't shown, on the sign that a controller holds.
 
-ghost use Rattle.std.specs.Prelude.{◌≡◌, ◌≤◌, ◌-◌, None, length, IfErr, IfOk, OnOk};
+ghost use Rattle.std.specs.Prelude.{◌≡◌, ◌≤◌, ◌-◌, None, length, IfErr, IfOk, OnErr, OnOk};
 ghost use Rattle.step_count.specs.Count.{raised};
 ghost use Rattle.multi_meaning.specs.Picture.{Lights, picture};
 ghost use Rattle.multi_layout.specs.Pages.{IsSized};
@@ -86,6 +86,7 @@ pub(crate) fn draw_text(
     ensures found { OnOk result.0 (HasPage (under sign.now defaults) text.now at.page) }
     ensures drawn { OnOk result.0 (Lights plane.new (picture (under sign.now defaults) text.now at.page at.phase colour)) }
     ensures missing { IfErr result.0 (LacksPage (under sign.now defaults) text.now at.page) }
+    ensures undrawn { OnErr result.0 (plane.new ≡ plane.old) }
     ensures size { (plane.new.width ≡ plane.old.width) × (plane.new.height ≡ plane.old.height) }
     ensures least { raised (tried_steps (under sign.now defaults) text.now) (plane.new.steps - plane.old.steps) ≤ result.1 }
     ensures most { result.1 ≤ page_limit sign.now (length text.now) }
@@ -115,13 +116,15 @@ impl Controller {
     /// The text is judged by the defaults in force, and what the display shows stays. [`Controller::plane`] lends it then.
     ///
     /// The first error that is true comes: `TooLong` from 4,294,967,296 octets on, `Refused` if the sign refuses the text, `Number` if it
-    /// has no such page. For n octets this takes at most 27n + 3 + R * n + B * (n / 4 + 1) steps. R is the height of the tallest font, and
+    /// has no such page; then the plane stays as it is. For n octets this takes at most 27n + 3 + R * n + B * (n / 4 + 1) steps. R is the height of the tallest font, and
     /// B the number of octets of the plane.
     pub fn draw_page(&mut self, text: &[u8], page: u8, phase: u64, colour: u8) -> Result<(), NoPage>
         ensures found { OnOk result (HasPage (in_force self.old.sign self.old.state) text.now page) }
         ensures drawn { OnOk result (Lights self.new.plane (picture (in_force self.old.sign self.old.state) text.now page phase colour)) }
         ensures missing { IfErr result (LacksPage (in_force self.old.sign self.old.state) text.now page) }
+        ensures undrawn { OnErr result (self.new.plane ≡ self.old.plane) }
         ensures kept { (self.new.sign ≡ self.old.sign) × (self.new.state ≡ self.old.state) }
+        ensures revision { self.new.revision ≡ self.old.revision }
         ensures steps { IsCounted self.old.steps
             (raised (tried_steps (in_force self.old.sign self.old.state) text.now) (self.new.plane.steps - self.old.plane.steps))
             (page_limit self.old.sign (length text.now)) self.new.steps }

@@ -19,7 +19,7 @@ module _ {A : Type 0} where
   with_front-none None = refl
   with_front-none (Some entries) = refl
 
-  -- the rest of the entries, behind one that was read
+  -- the rest of the entries, after one that was read
   abbrev then_entry : Option A → Option (List A) → Option (List A)
   then_entry None entries = None
   then_entry (Some entry) None = None

@@ -3,4 +3,4 @@ pub mod Names
 pub mod Nesting
 pub mod SignKeys
 pub mod SignFile
-pub mod kept
+pub mod internal

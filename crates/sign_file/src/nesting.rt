@@ -4,7 +4,7 @@ ghost use Rattle.std.specs.Prelude.{◌≡◌, ◌<◌, ◌≤◌, ℕ, ◌∷�
 ghost use Rattle.toml.specs.Parse as grammar;
 ghost use Rattle.sign_file.specs.Nesting as spec;
 ghost use Rattle.sign_file.specs.Nesting.{FewLevelsFit, ShortNamesFit, fits, is_shallow};
-ghost use Rattle.sign_file.specs.kept.Octets.{IsWithin, fits_after};
+ghost use Rattle.sign_file.specs.internal.Octets.{IsWithin, fits_after};
 
 use crate::fault::FileFault;
 use std::alloc::Global;
@@ -82,7 +82,7 @@ fn after(nested: Nested, octet: u8) -> Option<Nested>
     }
 }
 
-/// What stands behind the mark by which a text may say how its octets are ordered.
+/// What stands after the mark by which a text may say how its octets are ordered.
 fn skip_bom(text: &str) -> &str
     ensures rest { result.now ≡ grammar.skip_bom text.now }
     ensures within { length result.now ≤ length text.now }
@@ -94,7 +94,7 @@ fn skip_bom(text: &str) -> &str
     }
 }
 
-/// The octet at the front, which begins no string, and what stands behind it; a comment is the end of its line.
+/// The octet at the front, which begins no string, and what stands after it; a comment is the end of its line.
 fn mark_of(text: &str) -> (u8, &str)
     requires some { 0 < slice_index text.now 0 }
     requires ascii { slice_index text.now 0 < 128 }

@@ -3,7 +3,7 @@ use Rattle.std.proofs.Common.{◌≡◌, ℕ, ◌+◌, ◌-◌, ◌*◌, ◌%◌
 use Rattle.std.proofs.lemmas.Nat.Bits.{bit_at-zero, bit_at_set_same, bit_at_set_other}
 use Rattle.std.proofs.lemmas.Bool.{cases_eq, le-ltb, lt-ltb, cases_lt}
 use Rattle.sign_font.specs.Cell.{is_set}
-use Rattle.sign_font.specs.kept.Rows.{IsWordOf}
+use Rattle.sign_font.specs.internal.Rows.{IsWordOf}
 
 -- no columns, no bits
 pub word_none : (octets : List ℕ) (first : ℕ) → IsWordOf octets first 0 0

@@ -8,7 +8,7 @@ use Rattle.sign_font.specs.declared.font.FontInfo.{FontInfo}
 use Rattle.sign_font.specs.Cell.{SizedCell}
 use Rattle.sign_font.specs.Sign.{CellData, cell_of, unsized, sized, cell_numbered}
 use Rattle.sign_font.specs.Limits.{is_rising}
-use Rattle.sign_font.specs.kept.Font.{AreNumbered, font_kept, IsFontKept}
+use Rattle.sign_font.specs.internal.Font.{AreNumbered, font_kept, IsFontKept}
 use Rattle.sign_font.specs.Sound.{IsSoundFont}
 use Rattle.sign_font.proofs.FindLemmas.{find-map}
 use Rattle.sign_font.proofs.SoundLemmas.{found_holds}

@@ -9,7 +9,8 @@ use Rattle.sign_font.specs.declared.parts.Defaults.{Defaults}
 use Rattle.sign_font.specs.Sign.{CellData, FontData, SignData}
 use Rattle.sign_font.specs.Limits.{is_rising, first_fault}
 use Rattle.sign_font.specs.Sound.{IsSoundCell, IsSoundFont, IsSound, IsSoundSize}
-use Rattle.sign_font.specs.Defaults.{under, default_fault, default_code}
+use Rattle.sign_font.specs.Defaults.{under, default_fault}
+use Rattle.sign_font.specs.Fault.{default_code}
 use Rattle.sign_font.specs.Sample.{small_font, large_font, sample}
 
 the_sample_sign_has_no_fault : first_fault sample ≡ None

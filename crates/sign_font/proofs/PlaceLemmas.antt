@@ -7,7 +7,7 @@ use Rattle.std.proofs.lemmas.List.Folds.{find-append}
 use Rattle.std.proofs.lemmas.Option.{slice_get_past, slice_get_read, get_or_from_slice_get}
 use Rattle.sign_font.specs.Cell.{SizedCell}
 use Rattle.sign_font.specs.Limits.{is_rising}
-use Rattle.sign_font.specs.kept.Font.{ArePlaces, AreWidths}
+use Rattle.sign_font.specs.internal.Font.{ArePlaces, AreWidths}
 use Rattle.sign_font.proofs.FindLemmas.{find_none}
 use Rattle.sign_font.proofs.RisingLemmas.{rising_below}
 

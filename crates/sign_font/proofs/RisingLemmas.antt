@@ -5,7 +5,7 @@ use Rattle.std.proofs.lemmas.Bool.{and_parts, and_from, and_left, and_right, lt-
 use Rattle.std.proofs.lemmas.List.{drop_more}
 use Rattle.sign_font.specs.Limits.{is_rising}
 
--- what is below the first is below all behind it
+-- what is below the first is below all after it
 below_all : (last number : ℕ) (behind : List ℕ) → last < number → list_all (nat_lt number) behind ≡ true → list_all (nat_lt last) behind ≡ true
 below_all last number [] h all = refl
 below_all last number (n ∷ behind) h all =

@@ -1,7 +1,7 @@
 -- The sample sign, asked for pixels, fonts, cells and heights.
 use Rattle.std.proofs.Common.{◌≡◌, ◌^◌, true, false, [], ◌∷◌, Some, None, refl, lit<}
 use Rattle.sign_font.specs.Cell.{SizedCell, is_set, is_lit, IsRowOf}
-use Rattle.sign_font.specs.kept.Rows.{IsWordOf}
+use Rattle.sign_font.specs.internal.Rows.{IsWordOf}
 use Rattle.sign_font.specs.Sign.{font_numbered, cell_numbered, cell_in, unsized, sized, info_of, largest, tallest}
 use Rattle.sign_font.specs.Sample.{small_font, large_font, sample}
 

@@ -21,7 +21,7 @@ within low high number e =
     let parts = and_parts _ _ e in
     (leb-true low number parts.0, leb-true number high parts.1)
 
--- behind the pixels no bit is set: neither a spare one nor one behind the last octet
+-- after the pixels no bit is set: neither a spare one nor one after the last octet
 clear_behind : (octets : List ℕ) (pixels : ℕ) → is_clear_behind octets pixels ≡ true → (place : ℕ) → pixels ≤ place → is_set octets place ≡ false
 clear_behind octets pixels e place h =
     let spare = 8 * length octets - pixels in

@@ -22,8 +22,3 @@ default_limits sign defaults = (are_values defaults, Value) ∷ (is_some (font_n
 -- why the sign refuses these defaults, if it does (own)
 abbrev pub default_fault : SignData → Defaults → Option DefaultFault
 default_fault sign defaults = option_map (λ limit. limit.1) (find (λ limit. not limit.0) (default_limits sign defaults))
-
--- the number of a refusal of defaults (own)
-abbrev pub default_code : DefaultFault → ℕ
-default_code Value = 9
-default_code FontUnknown = 10

@@ -7,4 +7,4 @@ pub mod Sample
 pub mod Sign
 pub mod Sound
 pub mod Text
-pub mod kept
+pub mod internal

@@ -2,7 +2,7 @@
 
 ghost use Rattle.std.specs.Prelude.{◌≡◌, ℕ, ◌+◌, ◌^◌, ◌<◌, ◌≤◌, length, IfOk};
 ghost use Rattle.sign_font.specs.Cell.{is_set};
-ghost use Rattle.sign_font.specs.kept.Rows.{AreRowsOf, IsWordOf};
+ghost use Rattle.sign_font.specs.internal.Rows.{AreRowsOf, IsWordOf};
 
 use std::alloc::{AllocError, Global};
 

@@ -21,7 +21,7 @@ pub(crate) struct Glyph {
 impl Model for Glyph {
     ghost use Rattle.std.specs.Prelude.{length};
     ghost use Rattle.sign_font.specs.Cell.{SizedCell};
-    ghost use Rattle.sign_font.specs.kept.Rows.{AreRowsOf};
+    ghost use Rattle.sign_font.specs.internal.Rows.{AreRowsOf};
 
     ghost Value = { SizedCell };
 

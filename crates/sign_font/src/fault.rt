@@ -1,8 +1,7 @@
 //! Why a sign is refused.
 
 ghost use Rattle.std.specs.Prelude.{◌≡◌};
-ghost use Rattle.sign_font.specs.Defaults.{default_code};
-ghost use Rattle.sign_font.specs.Fault.{code_of};
+ghost use Rattle.sign_font.specs.Fault.{default_code, code_of};
 
 use thiserror::Error;
 

@@ -106,7 +106,7 @@ pub(crate) struct Font {
 
 impl Model for Font {
     ghost use Rattle.sign_font.specs.Sign.{FontData};
-    ghost use Rattle.sign_font.specs.kept.Font.{font_kept, IsFontKeptWith};
+    ghost use Rattle.sign_font.specs.internal.Font.{font_kept, IsFontKeptWith};
 
     ghost Value = { FontData };
 

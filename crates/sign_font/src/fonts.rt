@@ -19,7 +19,7 @@ pub(crate) struct Fonts {
 impl Model for Fonts {
     ghost use Rattle.std.specs.Prelude.{List};
     ghost use Rattle.sign_font.specs.Sign.{FontData};
-    ghost use Rattle.sign_font.specs.kept.Font.{ArePlaces};
+    ghost use Rattle.sign_font.specs.internal.Font.{ArePlaces};
 
     ghost Value = { List FontData };
 

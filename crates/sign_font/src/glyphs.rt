@@ -3,7 +3,7 @@
 ghost use Rattle.std.specs.Prelude.{◌≡◌, ℕ, ◌==◌, find, option_map, unwrap_or};
 ghost use Rattle.std.specs.Option.{option_copied};
 ghost use Rattle.sign_font.specs.Advance.{AreAdvances, advance_of};
-ghost use Rattle.sign_font.specs.kept.Font.{AreNumbered, width_among};
+ghost use Rattle.sign_font.specs.internal.Font.{AreNumbered, width_among};
 
 use crate::cell::Glyph;
 use std::marker::Model;
@@ -27,7 +27,7 @@ pub(crate) struct Glyphs {
 impl Model for Glyphs {
     ghost use Rattle.std.specs.Prelude.{List};
     ghost use Rattle.sign_font.specs.Cell.{SizedCell};
-    ghost use Rattle.sign_font.specs.kept.Font.{AreTables};
+    ghost use Rattle.sign_font.specs.internal.Font.{AreTables};
 
     ghost Value = { List SizedCell };
 

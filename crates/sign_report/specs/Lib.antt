@@ -1,3 +1,4 @@
+pub mod Document
 pub mod Lines
 pub mod Permanents
 pub mod Setup

@@ -31,7 +31,7 @@ fn explanation_of(
     let words = str::from_utf8(text.octets()).unwrap_or("");
     // it is no line of a file of messages
     let words = words.strip_prefix("line 1: ").unwrap_or(words);
-    // an empty line stands behind each explanation
+    // an empty line stands after each explanation
     String::from_str(alloc, words.strip_suffix("\n").unwrap_or(words))
 }
 

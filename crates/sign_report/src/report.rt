@@ -5,8 +5,9 @@ ghost use Rattle.sign_report.specs.Permanents.{refusals_of};
 ghost use Rattle.sign_report.specs.Setup.{is_taken};
 
 use crate::explanations::explanations_of;
+use crate::find::find_in;
 use crate::judged::{Judged, judged_of};
-use sign_words::{PermanentRefusal, SignView, SignWords, add_refusals, find_in};
+use sign_words::{PermanentRefusal, SignView, SignWords, add_refusals};
 use std::alloc::{AllocError, Global};
 
 /// What is told of a sign file (own).

@@ -24,7 +24,7 @@ query_word_is : (w : List ℕ) (u : Query) → query_of w ≡ Some u → w ≡ q
 unfolding query_of
 query_word_is w u h =
     let next = tested query_word w u in
-    next query.Colours _ (next query.Verdict _ (next query.Crc _ (next query.Next _ (next query.Code _ (next query.Help None (λ none. cc)))))) h
+    next query.Colours _ (next query.Verdict _ (next query.Crc _ (next query.Next _ (next query.Code _ (next query.Help _ (next query.VerdictHex _ (next query.CrcHex _ (next query.Save _ (next query.Restore None (λ none. cc)))))))))) h
 
 -- a line that begins with such a word is none of a script, and its word has no space
 record BeginsQuery (q : Query) : Type 0 where
@@ -41,6 +41,10 @@ query_begins query.Crc = record { plain = refl; is = refl; other = refl; asks = 
 query_begins query.Next = record { plain = refl; is = refl; other = refl; asks = λ parts. refl }
 query_begins query.Code = record { plain = refl; is = refl; other = refl; asks = λ parts. refl }
 query_begins query.Help = record { plain = refl; is = refl; other = refl; asks = λ parts. refl }
+query_begins query.VerdictHex = record { plain = refl; is = refl; other = refl; asks = λ parts. refl }
+query_begins query.CrcHex = record { plain = refl; is = refl; other = refl; asks = λ parts. refl }
+query_begins query.Save = record { plain = refl; is = refl; other = refl; asks = λ parts. refl }
+query_begins query.Restore = record { plain = refl; is = refl; other = refl; asks = λ parts. refl }
 
 module _ (line : List ℕ) where
   abbrev left : Option (List ℕ)
@@ -76,6 +80,12 @@ module _ (line : List ℕ) where
   query_found query.Help a is h =
       let e = at_end_found question.Help a left h in
       subst spells e.0 (tail left, line_is query.Help is, e.1)
+  query_found query.VerdictHex a is h = subst spells (same_Some _ a h) (tail left, line_is query.VerdictHex is, text_found left)
+  query_found query.CrcHex a is h = subst spells (same_Some _ a h) (tail left, line_is query.CrcHex is, text_found left)
+  query_found query.Save a is h =
+      let e = at_end_found question.Save a left h in
+      subst spells e.0 (tail left, line_is query.Save is, e.1)
+  query_found query.Restore a is h = subst spells (same_Some _ a h) (tail left, line_is query.Restore is, text_found left)
 
   more_found : (a : Question) → more_asked line ≡ Some a → spells a
   unfolding more_asked
@@ -119,6 +129,10 @@ question_only line (question.Code message duration priority) h =
     let minutes = next_number_read 65535 duration (Number 255 priority ∷ []) next.0 next.2 in
     rw (next.1, minutes.1, last_number_read 255 priority minutes.0 minutes.2) refl)
 question_only line question.Help h = line_read query.Help [] line _ h (λ rest are. rw (tail_none rest are) refl)
+question_only line (question.VerdictHex digits) h = line_read query.VerdictHex (Text digits.now ∷ []) line _ h (λ rest are. rw (text_read digits.now rest are) refl)
+question_only line (question.CrcHex digits) h = line_read query.CrcHex (Text digits.now ∷ []) line _ h (λ rest are. rw (text_read digits.now rest are) refl)
+question_only line question.Save h = line_read query.Save [] line _ h (λ rest are. rw (tail_none rest are) refl)
+question_only line (question.Restore digits) h = line_read query.Restore (Text digits.now ∷ []) line _ h (λ rest are. rw (text_read digits.now rest are) refl)
 
 -- where octets lie says nothing of how they are spelled
 unbare_question : (line : List ℕ) (a : Question) → IsAsked (bare_question a) line → IsAsked a line
@@ -129,6 +143,10 @@ unbare_question line (question.Crc text) h = h
 unbare_question line question.Next h = h
 unbare_question line (question.Code message duration priority) h = h
 unbare_question line question.Help h = h
+unbare_question line (question.VerdictHex digits) h = h
+unbare_question line (question.CrcHex digits) h = h
+unbare_question line question.Save h = h
+unbare_question line (question.Restore digits) h = h
 
 -- what a line gives is spelled so
 pub gives_asked : (r : Result Question LineFault) (line : List ℕ) → Gives bare_question r (question_of line) → IfOk r (λ a. IsAsked a line)

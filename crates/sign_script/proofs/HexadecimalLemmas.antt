@@ -9,7 +9,7 @@ use Rattle.std.proofs.lemmas.Bool.Decides.{nat_tests}
 use Rattle.hex.specs.declared.error.FromHexError.{FromHexError}
 use Rattle.hex.specs.Hex.{decode_pairs, decode_sized, digit_or_error, hex_digit_value, ◌>>=◌}
 use Rattle.sign_script.specs.Fields.{if_decoded}
-use Rattle.sign_script.specs.kept.Hexadecimal.{before, digit_value, first_of, pair_of, pairs_of}
+use Rattle.sign_script.specs.internal.Hexadecimal.{before, digit_value, first_of, pair_of, pairs_of}
 
 -- a digit is below 16
 pub small_value : (c : ℕ) (v : ℕ) → hex_digit_value c ≡ Some v → nat_lt v 16 ≡ true
@@ -73,7 +73,7 @@ pub none_before : (others : Option (List ℕ)) → others ≡ before [] others
 none_before None = refl
 none_before (Some xs) = refl
 
--- two digits, and those behind them
+-- two digits, and those after them
 two_digits : (digits : List ℕ) (i : ℕ) → 2 * i + 1 < length digits
     → pairs_of (drop (2 * i) digits) ≡ first_of (pair_of (slice_index_or digits (2 * i) 0) (slice_index_or digits (2 * i + 1) 0)) (pairs_of (drop (2 * (i + 1)) digits))
 unfolding pairs_of

@@ -11,7 +11,7 @@ use Rattle.std.proofs.lemmas.List.Folds.{list_all-append}
 use Rattle.octet_text.specs.Digits.{is_digit}
 use Rattle.sign_script.specs.Fields.{Parted, is_ended, left, next_number, parted}
 use Rattle.sign_script.specs.Spelling.{IsNumber}
-use Rattle.sign_script.specs.kept.Leading.{IsLeading}
+use Rattle.sign_script.specs.internal.Leading.{IsLeading}
 use Rattle.sign_script.proofs.NumberLemmas.{digits_from, digits_to, no_number, number_read}
 use Rattle.sign_script.proofs.PartsLemmas.{has_no_space, parted_after, parted_ended, parted_more}
 

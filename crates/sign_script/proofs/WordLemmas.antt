@@ -13,7 +13,7 @@ use Rattle.sign_script.specs.declared.verb.Verb.TheVariants as verb
 use Rattle.sign_script.specs.Asks.{ask_of, ask_of_line}
 use Rattle.sign_script.specs.Fields.{Parted, is_ended, left, parted}
 use Rattle.sign_script.specs.Verbs.{field_of, name, verb_of, word}
-use Rattle.sign_script.specs.kept.Likely.{likely}
+use Rattle.sign_script.specs.internal.Likely.{likely}
 use Rattle.sign_script.proofs.PartsLemmas.{has_no_space, parted_parts, parted_word, tail, tail_left}
 
 -- a test for one word in a chain of tests

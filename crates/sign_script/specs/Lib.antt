@@ -3,4 +3,4 @@ pub mod Fields
 pub mod Questions
 pub mod Spelling
 pub mod Verbs
-pub mod kept
+pub mod internal

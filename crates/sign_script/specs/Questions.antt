@@ -20,6 +20,10 @@ IsAsked question.Next line = IsLine (codes "next") [] line
 IsAsked (question.Code message duration priority) line =
     IsLine (codes "code") (of_message message (Number 65535 duration ∷ Number 255 priority ∷ [])) line
 IsAsked question.Help line = IsLine (codes "help") [] line
+IsAsked (question.VerdictHex digits) line = IsLine (codes "verdictx") (Text digits.now ∷ []) line
+IsAsked (question.CrcHex digits) line = IsLine (codes "crcx") (Text digits.now ∷ []) line
+IsAsked question.Save line = IsLine (codes "save") [] line
+IsAsked (question.Restore digits) line = IsLine (codes "restore") (Text digits.now ∷ []) line
 
 -- the word of a line that only a served sign answers (own)
 abbrev pub query_word : Query → List ℕ
@@ -29,6 +33,10 @@ query_word query.Crc = codes "crc"
 query_word query.Next = codes "next"
 query_word query.Code = codes "code"
 query_word query.Help = codes "help"
+query_word query.VerdictHex = codes "verdictx"
+query_word query.CrcHex = codes "crcx"
+query_word query.Save = codes "save"
+query_word query.Restore = codes "restore"
 
 -- which of these a word is, if it is one (own)
 unfoldable pub query_of : List ℕ → Option Query
@@ -39,6 +47,10 @@ query_of w =
     else if bytes_eq w (codes "next") then Some query.Next
     else if bytes_eq w (codes "code") then Some query.Code
     else if bytes_eq w (codes "help") then Some query.Help
+    else if bytes_eq w (codes "verdictx") then Some query.VerdictHex
+    else if bytes_eq w (codes "crcx") then Some query.CrcHex
+    else if bytes_eq w (codes "save") then Some query.Save
+    else if bytes_eq w (codes "restore") then Some query.Restore
     else None
 
 -- what is asked for, by its octets alone (own)
@@ -46,6 +58,9 @@ abbrev pub bare_question : Question → Question
 bare_question (question.Script ask) = question.Script (bare ask)
 bare_question (question.Verdict text) = question.Verdict (lent text.now)
 bare_question (question.Crc text) = question.Crc (lent text.now)
+bare_question (question.VerdictHex digits) = question.VerdictHex (lent digits.now)
+bare_question (question.CrcHex digits) = question.CrcHex (lent digits.now)
+bare_question (question.Restore digits) = question.Restore (lent digits.now)
 bare_question q = q
 
 -- what is asked for by such a word and what is left of its line (own)
@@ -60,6 +75,10 @@ more_with query.Code rest = do
   priority ← last_number 255 duration.1
   Some (question.Code message.0 duration.0 priority)
 more_with query.Help rest = at_end question.Help rest
+more_with query.VerdictHex rest = Some (question.VerdictHex (lent (text_of rest)))
+more_with query.CrcHex rest = Some (question.CrcHex (lent (text_of rest)))
+more_with query.Save rest = at_end question.Save rest
+more_with query.Restore rest = Some (question.Restore (lent (text_of rest)))
 
 -- what is asked for by a line that is none of a script (own)
 unfoldable pub more_asked : List ℕ → Option Question

@@ -3,7 +3,7 @@
 ghost use Rattle.std.specs.Prelude.{◌≡◌, ◌==◌, ◌≤◌, IfSome, Some, position};
 ghost use Rattle.std.specs.Option.{option_copied};
 ghost use Rattle.sign_script.specs.Fields.{at_end, is_ended, left, last_message, last_number, message_value, next_message, next_number, parted, seen, text_of};
-ghost use Rattle.sign_script.specs.kept.Leading.{IsLeading};
+ghost use Rattle.sign_script.specs.internal.Leading.{IsLeading};
 
 use message_store::MsgRef;
 

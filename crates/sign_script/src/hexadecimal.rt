@@ -3,7 +3,7 @@
 ghost use Rattle.std.specs.Prelude.{◌≡◌, ◌+◌, ◌*◌, ◌≤◌, if◌then◌else◌, Some, None, length};
 ghost use Rattle.hex.specs.Hex.{decode_sized};
 ghost use Rattle.sign_script.specs.Fields.{if_decoded, last_octets, left};
-ghost use Rattle.sign_script.specs.kept.Hexadecimal.{digit_value};
+ghost use Rattle.sign_script.specs.internal.Hexadecimal.{digit_value};
 
 use crate::fields::left;
 

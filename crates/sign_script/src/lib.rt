@@ -29,6 +29,8 @@
 //! | `next` | [`Question::Next`] |
 //! | `code M N D P` | [`Question::Code`] |
 //! | `help` | [`Question::Help`] |
+//! | `verdictx TEXT`, `crcx TEXT`, `restore TEXT` | [`Question::VerdictHex`] and the like, as `verdict`; [`octets_of`] reads their digits |
+//! | `save` | [`Question::Save`] |
 //!
 //! M, V, C and P are 0 to 255, N and D are 0 to 65535 and T is 0 to 4294967295, each of 1 to 10 decimal digits. HEX is an even number
 //! of hexadecimal digits in either case. Words are in lower case.
@@ -45,4 +47,4 @@ mod verb;
 pub use ask::{Ask, LineFault};
 pub use laws::{lines_are_spelled, questions_are_spelled};
 pub use question::{Question, read_question};
-pub use read::read_ask;
+pub use read::{octets_of, read_ask};

@@ -31,6 +31,14 @@ pub enum Question<'a> {
     Code(MsgRef, u16, u8),
     /// The lines that may be asked.
     Help,
+    /// The verdict on the text that these digits write, as [`octets_of`](crate::octets_of) reads them.
+    VerdictHex(&'a [u8]),
+    /// The CRC of a message with the text that these digits write.
+    CrcHex(&'a [u8]),
+    /// The state of the sign, as octets.
+    Save,
+    /// The state that the octets give which these digits write.
+    Restore(&'a [u8]),
 }
 
 /// The word of a line that only a served sign answers (own).
@@ -42,15 +50,23 @@ pub(crate) enum Query {
     Next,
     Code,
     Help,
+    VerdictHex,
+    CrcHex,
+    Save,
+    Restore,
 }
 
-const QUERIES: [Query; 6] = [
+const QUERIES: [Query; 10] = [
     Query::Colours,
     Query::Verdict,
     Query::Crc,
     Query::Next,
     Query::Code,
     Query::Help,
+    Query::VerdictHex,
+    Query::CrcHex,
+    Query::Save,
+    Query::Restore,
 ];
 
 /// The word itself.
@@ -64,6 +80,10 @@ fn query_word(query: Query) -> &'static [u8]
         Query::Next => b"next",
         Query::Code => b"code",
         Query::Help => b"help",
+        Query::VerdictHex => b"verdictx",
+        Query::CrcHex => b"crcx",
+        Query::Save => b"save",
+        Query::Restore => b"restore",
     }
 }
 
@@ -100,6 +120,10 @@ fn more_with(query: Query, rest: &[u8]) -> Option<Question<'_>>
             Question::Code(message, duration as u16, last_octet(rest)?)
         }
         Query::Help => at_end(Question::Help, rest)?,
+        Query::VerdictHex => Question::VerdictHex(text_of(rest)),
+        Query::CrcHex => Question::CrcHex(text_of(rest)),
+        Query::Save => at_end(Question::Save, rest)?,
+        Query::Restore => Question::Restore(text_of(rest)),
     })
 }
 

@@ -5,7 +5,7 @@ ghost use Rattle.sign_script.specs.Asks.{IsPlain, WritesHex, ask_of, ask_of_line
 ghost use Rattle.sign_script.specs.Fields.{Gives, left, message_octets, octets_of, text_of};
 ghost use Rattle.sign_script.specs.Spelling.{IsSpelled};
 ghost use Rattle.sign_script.specs.declared.ask.Ask.{Ask};
-ghost use Rattle.sign_script.specs.kept.Shared.{octets_set, valued};
+ghost use Rattle.sign_script.specs.internal.Shared.{octets_set, valued};
 
 use crate::ask::{Ask, LineFault};
 use crate::fields::{
@@ -17,8 +17,10 @@ use crate::verb::{Verb, field_of};
 use message_store::MsgRef;
 use sign_control::Command;
 
-/// The octets of an even number of hexadecimal digits, in either case. They are put in `octets`.
-fn octets_of<'a>(digits: &[u8], octets: &'a mut Vec<u8>) -> Result<&'a [u8], LineFault>
+/// The octets of an even number of hexadecimal digits, in either case (own). They are put in `octets`; what stood there is lost.
+///
+/// The error `Bad` says that they write no octets. `Memory` comes only if `octets` has room for less than half as many octets.
+pub fn octets_of<'a>(digits: &[u8], octets: &'a mut Vec<u8>) -> Result<&'a [u8], LineFault>
     ensures read { Gives (λ read. read.now) result (octets_of digits.now) }
     ensures memory { result ≡ Err LineFault.Memory → 2 * vec_capacity octets.old < length digits.now }
 {

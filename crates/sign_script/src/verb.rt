@@ -5,7 +5,7 @@ ghost use Rattle.sign_script.specs.Fields.{is_ended, left, parted};
 ghost use Rattle.std.specs.List.{find};
 ghost use Rattle.std.specs.Str.{bytes_eq};
 ghost use Rattle.sign_script.specs.Verbs.{field_of, name, verb_of, word};
-ghost use Rattle.sign_script.specs.kept.Likely.{likely};
+ghost use Rattle.sign_script.specs.internal.Likely.{likely};
 
 use crate::fields::is_ended;
 use sign_control::DefaultField;

@@ -13,7 +13,7 @@ use Rattle.sign_tool.specs.declared.first.FirstLine.TheVariants as line_is
 use Rattle.sign_tool.specs.declared.first.Front.{Front}
 use Rattle.tool_streams.specs.declared.lines.NextLine.TheVariants as next
 use Rattle.tool_streams.specs.Blocks.{EndsWith, ReadsOn}
-use Rattle.sign_tool.specs.kept.Blocks.{AllAnswers, AnswersFirst, AnswersLines, AnswersWhole, EndsRefused, Progress, StopsAt, StopsAtMany, WritesReady}
+use Rattle.sign_tool.specs.internal.Blocks.{AllAnswers, AnswersFirst, AnswersLines, AnswersWhole, EndsRefused, Progress, StopsAt, StopsAtMany, WritesReady}
 use Rattle.tool_streams.specs.Lines.{IsOneLine, input_limit, text_of}
 use Rattle.sign_tool.specs.Output.{Outcome, ended, outcome, output_of_whole}
 use Rattle.sign_tool.specs.Runs.{IsFront, Runs}
@@ -214,7 +214,7 @@ module _ (first room : ℕ) (answers behind : AllAnswers) (input now output writ
       ap (outcome behind number left) (regrouped line others ys stands)
       ∙ outcome-bad behind number left line (others ++ (drop left rest ++ ys)) (left - (length line + 1)) one (omega (arith, within line others stands)) short bad))
 
-  -- what stands behind the first octets of a block stands behind them in what was read
+  -- what stands after the first octets of a block stands after them in what was read
   pub behind_front : (at : ℕ) → at ≤ left → drop at (take left rest) ≡ take (left - at) (drop at rest)
   behind_front at fits = ap (λ n. drop at (take n rest)) (let parts : left ≡ at + (left - at) = omega (arith, fits) in parts) ∙ drop-take at (left - at) rest
 
@@ -248,7 +248,7 @@ module _ (first room : ℕ) (answers behind : AllAnswers) (input now output writ
   ends_writing at behind' line_is.TooLong ready' ready'' written' e a w = ends_cut first room answers behind input now output written rest ready number left seen taken gone lines go written' w.1 w.2 e w.0 w.3 (w.4 ∙ a.3)
   ends_writing at behind' line_is.Bad ready' ready'' written' e a w = ends_cut first room answers behind input now output written rest ready number left seen taken gone lines go written' w.1 w.2 e w.0 w.3 (w.4 ∙ a.4.0)
 
-  -- the answering stopped behind an answered line, and what is ready may be written
+  -- the answering stopped after an answered line, and what is ready may be written
   pub goes_on : (at : ℕ) (behind' : AllAnswers) (count : ℕ) (ready' ready'' : List ℕ) (written' : Option (List ℕ)) → StopsAt at behind behind' (take left rest) ready ready' (line_is.Answered count)
       → (w : WritesReady written written' (line_is.Answered count) ready' ready'' (Ok tt))
       → Answering first room answers behind' input now output written' rest ready'' number left seen taken (gone ++ w.0) lines
@@ -299,7 +299,7 @@ module _ (first room : ℕ) (answers behind : AllAnswers) (input now output writ
       ends_bad first room answers behind input now output written' rest ready'' number left seen taken (gone ++ w.0) lines
       (wrote first room answers behind input now output written rest ready number left seen taken gone lines go written' w.0 ready'' w.1 (w.2 ∙ answer.0)) line others w.3 begins.stands begins.one short answer.1
 
--- a run whose answering stopped, behind so many octets of a block
+-- a run whose answering stopped, after so many octets of a block
 pub record Stopped (first room : ℕ) (answers behind : AllAnswers) (input now output written : Option (List ℕ)) (rest ready : List ℕ) (number left at : ℕ) (last : FirstLine) (gone : List ℕ) : Type 0 where
   pub between : AllAnswers
   pub ready_then : List ℕ

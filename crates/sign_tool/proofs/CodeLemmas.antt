@@ -7,7 +7,7 @@ use Rattle.hex.specs.Hex.{encode_lower, encode_with}
 use Rattle.message_store.specs.declared.message.MsgRef.{MsgRef}
 use Rattle.sign_tool.specs.Served.{code_octets, tenths_text}
 
--- octets that are written one behind the other are written as one
+-- octets that are written one after the other are written as one
 pub hex_more : (front back : List ℕ) → encode_lower (front ++ back) ≡ encode_lower front ++ encode_lower back
 unfolding encode_with
 hex_more [] back = refl

@@ -4,7 +4,7 @@ use Rattle.std.specs.Prelude.{nat_lt, ◌==◌}
 use Rattle.std.proofs.lemmas.List.Elements.{All-head, All-tail}
 use Rattle.std.proofs.lemmas.Grind.{flat_map-append}
 use Rattle.tool_streams.specs.Lines.{cut, IsOneLine, octets_of}
-use Rattle.sign_tool.specs.kept.Blocks.{AreLines}
+use Rattle.sign_tool.specs.internal.Blocks.{AreLines}
 
 -- another octet is no line feed
 differs : (c : ℕ) → c ≢ 10 → (c == 10) ≡ false

@@ -14,7 +14,7 @@ pub rows_none : (width : ℕ) (values : List ℕ) → digit_rows width values 0 
 unfolding digit_rows
 rows_none width values = refl
 
--- one more row comes behind those above it
+-- one more row comes after those above it
 pub rows_more : (width : ℕ) (values : List ℕ) (row same : ℕ) → same ≡ row → digit_rows width values (row + 1) ≡ digit_rows width values row ++ digit_row width values same
 unfolding digit_rows
 rows_more width values row same is =

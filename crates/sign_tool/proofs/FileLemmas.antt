@@ -1,4 +1,4 @@
--- The lines of a sign file, taken one after another, and what comes behind them.
+-- The lines of a sign file, taken one after another, and what comes after them.
 use Rattle.std.proofs.Common.{◌≡◌, ◌≢◌, ℕ, ◌+◌, ◌-◌, ◌<◌, ◌≤◌, true, false, List, [], ◌∷◌, ◌++◌, Option, None, Some, IfSome, Result, Ok, Err, length, take, refl, sym, ap, ◌∙◌, subst, arith, append_assoc, append-nil, inl, inr}
 use Rattle.std.specs.Prelude.{nat_lt}
 use Rattle.std.specs.Io.KnownBytes.{Consumes, IsAtEnd}
@@ -18,7 +18,7 @@ use Rattle.sign_tool.specs.Runs.{Fails, IsWritten, Leads, outcome_on, output_on}
 use Rattle.sign_tool.specs.FileSetup.{setup_of_octets}
 use Rattle.tool_streams.specs.Streams.{TakesLine}
 use Rattle.sign_tool.specs.Tool.{answers_of, outcome_of, output_so_far}
-use Rattle.sign_tool.specs.kept.Blocks.{AllAnswers, AreLines}
+use Rattle.sign_tool.specs.internal.Blocks.{AllAnswers, AreLines}
 use Rattle.sign_tool.proofs.CutLemmas.{octets_of-more, cut-line, cut-lines, cut-unfinished, take-past, nat_lt-past}
 use Rattle.sign_tool.proofs.RefusedLemmas.{written_refused}
 use Rattle.sign_tool.proofs.RunLemmas.{told}
@@ -60,10 +60,10 @@ not_mark line long = elim (cases_Bool (is_mark line)) [
   | inr differs ↦ differs
 ]
 
--- ---- what comes behind them
+-- ---- what comes after them
 
 module _ (answers : Setup → AllAnswers) (lines : List (List ℕ)) (left : ℕ) where
-  -- the outcome of these file lines and of the octets behind them
+  -- the outcome of these file lines and of the octets after them
   behind : List ℕ → Outcome
   behind rest =
       let parts = cut (take left rest) in
@@ -113,7 +113,7 @@ module _ (answers : Setup → AllAnswers) (lines : List (List ℕ)) (left : ℕ)
       nat_lt-past left left' (length mark + 1) (length rest) _ (omega arith) (omega (arith, length-append mark (10 ∷ []), length-append (mark ++ 10 ∷ []) rest)) in
       rw (regrouped, past, cut-line mark (take left' rest) one, is, append-nil lines) refl
 
--- what is known of the lines behind the mark is what comes for a sign
+-- what is known of the lines after the mark is what comes for a sign
 outcome-sign : (mode : Mode) (sign : Result Setup ToolFault) (number left : ℕ) (rest : List ℕ)
     → answered_on (answers_of mode) sign number (cut (take left rest)).whole (fault_at_end (nat_lt left (length rest)) (cut (take left rest)).rest) ≡ outcome_on mode sign (record { number = number; left = left }) rest
 unfolding outcome
@@ -127,7 +127,7 @@ output-sign mode (Err e) number left rest = refl
 output-sign mode (Ok sign) number left rest = refl
 
 module _ (answers : Setup → AllAnswers) (lines : List (List ℕ)) (each : AreFileLines lines) where
-  -- without a mark there is no sign, whatever comes behind
+  -- without a mark there is no sign, whatever comes after
   filed-unmarked : (unmarked : ToolFault) (at_end : ℕ → Option ToolFault) → filed answers (lines ++ []) unmarked at_end ≡ ended (Some unmarked)
   unfolding filed parted
   filed-unmarked unmarked at_end = rw (parted-lines lines [] each, first_long-lines 1 lines [] each) refl
@@ -187,7 +187,7 @@ module _ (input now new : Option (List ℕ)) (number left left' : ℕ) (octets l
     written = is;
   }
 
-  -- the whole outcome, from that of what was taken last and stands behind it
+  -- the whole outcome, from that of what was taken last and stands after it
   whole : (more : List ℕ) (e : ToolFault) → Consumes now new more
       → ((mode : Mode) (ys : List ℕ) → behind (answers_of mode) lines left (more ++ ys) ≡ ended (Some e))
       → (mode : Mode) → IfSome input (λ all. outcome_of mode false all ≡ record { output = []; fault = Some e })

@@ -3,9 +3,9 @@ use Rattle.std.proofs.Common.{◌≡◌, ℕ, ◌+◌, ◌*◌, ◌/◌, ◌%◌
 use Rattle.std.proofs.lemmas.Grind.{take-set_at}
 use Rattle.std.proofs.lemmas.List.{length-set, take_all, take_more}
 use Rattle.hex.specs.Hex.{encode_lower, encode_with, lower_digits}
-use Rattle.sign_tool.specs.kept.Hexadecimal.{pair_of}
+use Rattle.sign_tool.specs.internal.Hexadecimal.{pair_of}
 
--- one octet behind others
+-- one octet after others
 encoded_behind : (t xs : List ℕ) (x : ℕ) → encode_with t (xs ++ x ∷ []) ≡ encode_with t xs ++ slice_index_or t (x / 16) 0 ∷ slice_index_or t (x % 16) 0 ∷ []
 unfolding encode_with
 encoded_behind t [] x = refl

@@ -11,6 +11,7 @@ pub mod RefusedLemmas
 pub mod ReadyLemmas
 pub mod ReplyLemmas
 pub mod RunLemmas
+pub mod SavedLemmas
 pub mod ScriptLemmas
 pub mod ServeClauses
 pub mod ServedLemmas

@@ -13,10 +13,10 @@ use Rattle.sign_tool.specs.Output.{Outcome, ended, after, answered, outcome, out
 use Rattle.tool_streams.specs.declared.lines.NextLine.TheVariants as next
 use Rattle.tool_streams.specs.Streams.{TakesLine}
 use Rattle.sign_tool.specs.Runs.{IsFront, IsOfLines, IsWritten, Runs}
-use Rattle.sign_tool.specs.kept.Blocks.{AllAnswers, Progress}
+use Rattle.sign_tool.specs.internal.Blocks.{AllAnswers, Progress}
 use Rattle.sign_tool.proofs.CutLemmas.{AreLines-append, octets_of-append, cut-line, cut-lines, cut-unfinished, take-past, nat_lt-past}
 
--- what stands behind these octets, where a reader tells
+-- what stands after these octets, where a reader tells
 pub told : (a b : Option (List ℕ)) (bs : List ℕ) (P : List ℕ → Type 0) → Consumes a b bs → ((ys : List ℕ) → P (bs ++ ys)) → IfSome a P
 told None b bs P c h = tt
 told (Some x) None bs P c h = absurd c
@@ -127,7 +127,7 @@ module _ (first : ℕ) (answers behind : AllAnswers) (number : ℕ) (taken sent 
       ap (λ l. cut (l ++ line)) p.taken_is ∙ cut-lines lines line p.each ∙ ap (λ (c : Cut). let d : Cut = record { whole = lines ++ c.whole; rest = c.rest } in d) (cut-unfinished line one) in
       ap (λ (c : Cut). (answered first c.whole (answers (map text_of c.whole)) (λ n. None)).output) parts ∙ ap (λ (o : Outcome). o.output) (p.says [] (λ n. None)) ∙ append-nil sent
 
-  -- what was sent is the answers to the lines so far, whatever was taken behind them
+  -- what was sent is the answers to the lines so far, whatever was taken after them
   pub Progress-lines : (more : List ℕ) → IsOfLines (output_of_whole answers first) (taken ++ more) sent
   Progress-lines more =
       (taken, (more, refl), ap (output_of_whole answers first) (sym (append-nil taken)) ∙ Progress-whole [] (All-nil (λ c. c ≢ 10)))
@@ -144,7 +144,7 @@ pub record Going (first room : ℕ) (answers behind : AllAnswers) (input now out
 
 module _ (first room : ℕ) (answers behind : AllAnswers) (input now new output written : Option (List ℕ)) (number left left' : ℕ) (taken sent line : List ℕ) (lines : List (List ℕ))
     (go : Going first room answers behind input now output written number left taken sent lines) where
-  -- the run ends with this fault, whatever stands behind what was taken last
+  -- the run ends with this fault, whatever stands after what was taken last
   pub ends : (more : List ℕ) (fault : Option ToolFault) → Consumes now new more → length more ≤ left + 1
       → IsWritten (outcome answers first room) (output_of_whole answers first) input (taken ++ more) sent fault → Runs (outcome answers first room) (output_of_whole answers first) room input new output written fault
   ends more fault took few is = record {
@@ -156,7 +156,7 @@ module _ (first room : ℕ) (answers behind : AllAnswers) (input now new output 
     written = is;
   }
 
-  -- the whole outcome, from that of what was taken last and stands behind it
+  -- the whole outcome, from that of what was taken last and stands after it
   pub whole : (more : List ℕ) (fault : Option ToolFault) → Consumes now new more
       → ((ys : List ℕ) → outcome behind number left (more ++ ys) ≡ ended fault)
       → IfSome input (λ octets. outcome answers first room octets ≡ record { output = sent; fault = fault })

@@ -1,22 +1,26 @@
 -- The replies of a served sign, line by line.
-use Rattle.std.proofs.Common.{◌≡◌, inl, inr, ℕ, suc, ◌<◌, Bool, true, false, List, [], ◌∷◌, ◌++◌, length, Option, Some, None, refl, sym, ap, ◌∙◌, arith, append_assoc, append-nil}
+use Rattle.std.proofs.Common.{◌≡◌, inl, inr, ℕ, suc, ◌<◌, Bool, true, false, List, [], ◌∷◌, ◌++◌, length, Option, Some, None, Result, Ok, Err, fold, refl, sym, ap, ◌∙◌, arith, append_assoc, append-nil}
 use Rattle.std.specs.Prelude.{nat_lt}
 use Rattle.std.proofs.lemmas.Bool.{cases_Bool, lt-ltb}
 use Rattle.std.proofs.lemmas.List.{length-append}
+use Rattle.std.proofs.lemmas.List.Sums.{fold-append}
+use Rattle.saved_octets.specs.declared.fault.StateFault.{StateFault}
 use Rattle.sign_font.specs.Sign.{SignData}
-use Rattle.sign_control.specs.declared.command.Command.{Command}
-use Rattle.sign_control.specs.Run.{run}
+use Rattle.sign_control.specs.Saved.{restored}
 use Rattle.sign_control.specs.State.{StateData}
+use Rattle.sign_control.specs.Step.{step}
+use Rattle.sign_script.specs.Fields.{octets_of}
 use Rattle.sign_script.specs.declared.ask.Ask.TheVariants as ask
 use Rattle.sign_script.specs.declared.question.Question.{Question}
 use Rattle.sign_script.specs.declared.question.Question.TheVariants as question
 use Rattle.sign_script.specs.Questions.{question_of}
-use Rattle.tool_streams.specs.Lines.{Cut, IsOneLine, cut, octets_of, text_of}
+use Rattle.tool_streams.specs.Lines.{Cut, IsOneLine, cut, text_of}
+use Rattle.tool_streams.specs.Lines as lines_as
 use Rattle.tool_streams.proofs.SeenLemmas.{length-text_of}
 use Rattle.sign_tool.specs.Script.{Told}
-use Rattle.sign_tool.specs.Served.{OneReplyEach, ServesOn, command_of, line_command, served, served_commands, told_line, told_or_bad}
+use Rattle.sign_tool.specs.Served.{CommandsRun, OneReplyEach, ServesOn, acted, acts_of, line_acts, or_kept, restoring, served, served_acts, told_line, told_or_bad, told_restore, told_restored}
 use Rattle.sign_tool.specs.Serving.{ServerData, last_line, last_reply, replies_so_far, replies_to, replies_to_all, told_cut}
-use Rattle.sign_tool.specs.kept.Blocks.{AreLines}
+use Rattle.sign_tool.specs.internal.Blocks.{AreLines}
 use Rattle.sign_tool.proofs.CutLemmas.{cut-lines, cut-unfinished}
 
 -- ---- laws
@@ -26,29 +30,46 @@ unfolding served
 one_reply_each sign state [] = refl
 one_reply_each sign state (line ∷ lines) = ap suc (one_reply_each sign ((told_line sign state line).state) lines)
 
--- the state that a question leaves is that of the controller's run of its command, if it is one
-run_question : (sign : SignData) (state : StateData) (asked : Option Question) (commands : List Command)
-    → (run sign state (command_of asked ++ commands)).state ≡ (run sign ((told_or_bad sign state asked).state) commands).state
-run_question sign state None commands = refl
-run_question sign state (Some (question.Script (ask.Command command))) commands = refl
-run_question sign state (Some (question.Script ask.Nothing)) commands = refl
-run_question sign state (Some (question.Script (ask.Frame colour))) commands = refl
-run_question sign state (Some (question.Script (ask.Row message))) commands = refl
-run_question sign state (Some (question.Script ask.Report)) commands = refl
-run_question sign state (Some (question.Script ask.Defaults)) commands = refl
-run_question sign state (Some question.Colours) commands = refl
-run_question sign state (Some (question.Verdict text)) commands = refl
-run_question sign state (Some (question.Crc text)) commands = refl
-run_question sign state (Some question.Next) commands = refl
-run_question sign state (Some (question.Code message duration priority)) commands = refl
-run_question sign state (Some question.Help) commands = refl
+-- commands alone make the state of the controller's run of them
+pub commands_run : CommandsRun
+commands_run sign state [] = refl
+commands_run sign state (command ∷ commands) = commands_run sign (step sign state command).state commands
 
-run_line : (sign : SignData) (state : StateData) (line : List ℕ) (commands : List Command)
-    → (run sign state (line_command line ++ commands)).state ≡ (run sign ((told_line sign state line).state) commands).state
-run_line sign state line commands =
+-- the state that octets leave
+restored_told : (state : StateData) (new : Result StateData StateFault) → or_kept state new ≡ (told_restored state new).state
+restored_told state (Ok new) = refl
+restored_told state (Err fault) = refl
+
+restoring_told : (sign : SignData) (state : StateData) (octets : Option (List ℕ))
+    → fold (acted sign) state (restoring octets) ≡ (told_restore sign state octets).state
+restoring_told sign state None = refl
+restoring_told sign state (Some octets) = restored_told state (restored sign state.store octets)
+
+-- the state that a question leaves is made by what it changes
+question_told : (sign : SignData) (state : StateData) (asked : Option Question) → fold (acted sign) state (acts_of asked) ≡ (told_or_bad sign state asked).state
+question_told sign state None = refl
+question_told sign state (Some (question.Script (ask.Command command))) = refl
+question_told sign state (Some (question.Script ask.Nothing)) = refl
+question_told sign state (Some (question.Script (ask.Frame colour))) = refl
+question_told sign state (Some (question.Script (ask.Row message))) = refl
+question_told sign state (Some (question.Script ask.Report)) = refl
+question_told sign state (Some (question.Script ask.Defaults)) = refl
+question_told sign state (Some question.Colours) = refl
+question_told sign state (Some (question.Verdict text)) = refl
+question_told sign state (Some (question.Crc text)) = refl
+question_told sign state (Some question.Next) = refl
+question_told sign state (Some (question.Code message duration priority)) = refl
+question_told sign state (Some question.Help) = refl
+question_told sign state (Some (question.VerdictHex digits)) = refl
+question_told sign state (Some (question.CrcHex digits)) = refl
+question_told sign state (Some question.Save) = refl
+question_told sign state (Some (question.Restore digits)) = restoring_told sign state (octets_of digits.now)
+
+line_told : (sign : SignData) (state : StateData) (line : List ℕ) → fold (acted sign) state (line_acts line) ≡ (told_line sign state line).state
+line_told sign state line =
     elim (cases_Bool (nat_lt 8300 (length line))) [
       | inl long ↦ rw long refl
-      | inr short ↦ rw short (run_question sign state (question_of line) commands)
+      | inr short ↦ rw short (question_told sign state (question_of line))
     ]
 
 pub serves_on : ServesOn
@@ -56,8 +77,10 @@ unfolding served
 serves_on sign state [] after = refl
 serves_on sign state (line ∷ lines) after =
     let t = told_line sign state line in
+    let same : fold (acted sign) state (served_acts (line ∷ lines)) ≡ fold (acted sign) t.state (served_acts lines) =
+    fold-append (acted sign) state (line_acts line) (served_acts lines) ∙ ap (λ (s : StateData). fold (acted sign) s (served_acts lines)) (line_told sign state line) in
     ap (λ (l : List (List ℕ)). t.text ∷ l) (serves_on sign t.state lines after)
-    ∙ ap (λ (s : StateData). t.text ∷ (served sign t.state lines ++ served sign s after)) (sym (run_line sign state line (served_commands lines)))
+    ∙ ap (λ (s : StateData). t.text ∷ (served sign t.state lines ++ served sign s after)) (sym same)
 
 -- ---- the replies to lines
 
@@ -86,7 +109,7 @@ cut_line_told server true lost line long =
     rw over refl
 cut_line_told server false lost line none = rw none refl
 
--- what stands behind the last line feed
+-- what stands after the last line feed
 pub last_told : (server : ServerData) (is_cut : Bool) (lost line : List ℕ) → IsLost is_cut lost
     → replies_to server (last_line (lost ++ line)) ≡ last_reply server is_cut line
 last_told server true [] line long = absurd (omega arith)
@@ -101,12 +124,12 @@ last_told server false lost (c ∷ line) none =
 
 -- these lines were taken, and these replies were given to them, whatever comes
 pub record Given (server here : ServerData) (taken given : List ℕ) (lines : List (List ℕ)) : Type 0 where
-  pub taken_is : taken ≡ octets_of lines
+  pub taken_is : taken ≡ lines_as.octets_of lines
   pub each : AreLines lines
   pub says : (more : List (List ℕ)) → replies_to server (lines ++ more) ≡ given ++ replies_to here more
 
 module _ (server here : ServerData) (taken given : List ℕ) (lines : List (List ℕ)) (g : Given server here taken given lines) where
-  -- the replies to all lines go on with those to the lines of what stands behind
+  -- the replies to all lines go on with those to the lines of what stands after
   pub replies_go_on : (rest : List ℕ) → replies_to_all server (taken ++ rest) ≡ given ++ replies_to here ((cut rest).whole ++ last_line (cut rest).rest)
   unfolding replies_to_all
   replies_go_on rest =

@@ -8,7 +8,7 @@ use Rattle.tool_streams.specs.declared.fault.ToolFault.{ToolFault}
 use Rattle.tool_streams.specs.declared.fault.ToolFault.TheVariants as faults
 use Rattle.tool_streams.specs.Lines.{IsOneLine, cut}
 use Rattle.tool_streams.specs.Blocks.{ReadsMore}
-use Rattle.sign_tool.specs.kept.Blocks.{EndsRefused}
+use Rattle.sign_tool.specs.internal.Blocks.{EndsRefused}
 use Rattle.sign_tool.specs.Runs.{IsFront, fault_of}
 use Rattle.sign_tool.specs.Serving.{EndsServed, PassesCut, ServerData, Serves, last_line, last_reply, replies_so_far, replies_to, replies_to_all, told_cut}
 use Rattle.tool_streams.proofs.BlockLemmas.{passes_front, reads_behind, taken_held, takes_nothing}

@@ -6,7 +6,7 @@ use Rattle.tool_streams.specs.declared.fault.ToolFault.TheVariants as faults
 use Rattle.tool_streams.specs.Lines.{IsOneLine, cut}
 use Rattle.sign_tool.specs.declared.first.FirstLine.{FirstLine}
 use Rattle.sign_tool.specs.declared.first.FirstLine.TheVariants as line_is
-use Rattle.sign_tool.specs.kept.Blocks.{EndsRefused, WritesReady}
+use Rattle.sign_tool.specs.internal.Blocks.{EndsRefused, WritesReady}
 use Rattle.sign_tool.specs.Serving.{AnswersNext, EndsServed, PassesCut, ServerData, Serves, last_reply, replies_so_far, replies_to_all}
 use Rattle.sign_tool.proofs.RunLemmas.{if_some_always}
 use Rattle.sign_tool.proofs.ServedLemmas.{replies_none}

@@ -20,7 +20,7 @@ use Rattle.sign_tool.specs.Tool.{answers_of, outcome_of, output_so_far}
 use Rattle.sign_tool.proofs.RefusedLemmas.{front_of_any, written_refused}
 use Rattle.sign_tool.proofs.RunLemmas.{if_some_always, told}
 
--- what is known of what stands behind these octets, where a reader tells
+-- what is known of what stands after these octets, where a reader tells
 told_by : (a b : Option (List ℕ)) (bs : List ℕ) (P Q : List ℕ → Type 0) → Consumes a b bs → ((ys : List ℕ) → Q ys → P (bs ++ ys)) → IfSome b Q → IfSome a P
 told_by None b bs P Q c h q = tt
 told_by (Some x) None bs P Q c h q = absurd c
@@ -85,7 +85,7 @@ Runs-failed mode sample input new output e f = record {
 }
 
 module _ (mode : Mode) (sample : Bool) (input now new output written : Option (List ℕ)) (taken : List ℕ) (sign : Setup) (place : LineStart) (took : Consumes input now taken) (l : Leads sample taken (Ok sign) place) where
-  -- the outcome of the lines behind the sign
+  -- the outcome of the lines after the sign
   outcomes : List ℕ → Outcome
   outcomes = outcome (answers_of mode sign) place.number place.left
 
@@ -120,7 +120,7 @@ module _ (mode : Mode) (sample : Bool) (input now new output written : Option (L
     behind_written (Some faults.BadSign) is = behind_all _ is
     behind_written (Some (faults.SignRefused n)) is = behind_all _ is
 
-  -- a run on the lines behind the sign is one from the start
+  -- a run on the lines after the sign is one from the start
   pub Runs-behind : (fault : Option ToolFault) → Runs (outcome (answers_of mode sign) place.number place.left) (output_of_whole (answers_of mode sign) place.number) place.left now new output written fault
       → Runs (outcome_of mode sample) (output_so_far mode sample) input_limit input new output written fault
   unfolding outcomes so_far

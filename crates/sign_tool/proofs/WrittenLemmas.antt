@@ -1,4 +1,4 @@
--- What is written at the front of octets that have room behind it.
+-- What is written at the front of octets that have room after it.
 use Rattle.std.proofs.Common.{◌≡◌, ℕ, ◌+◌, ◌≤◌, List, ◌++◌, length, take, drop, sym, ap, ◌∙◌, arith}
 use Rattle.page_picture.proofs.PartLemmas.{written_in_room}
 use Rattle.std.proofs.lemmas.List.{drop-append-le, length-take-le, take-append-le, take-take}
@@ -10,7 +10,7 @@ begun_more old new more end within is = ap (drop end) is ∙ drop-append-le end 
 pub whole_kept : (old new more : List ℕ) (end : ℕ) → end ≤ length old → new ≡ old ++ more → take end new ≡ take end old
 whole_kept old new more end within is = ap (take end) is ∙ take-append-le end old more within
 
--- what is written behind what there is of an answer comes to its end, where room was made for it
+-- what is written after what there is of an answer comes to its end, where room was made for it
 pub grown : (items kept lent new rest behind begun more : List ℕ) (end len n count : ℕ) → end ≤ len → len ≤ length items
     → take (length items) kept ≡ items → lent ≡ kept → count ≡ length lent → len + n ≤ length lent → n ≤ length new
     → begun ≡ drop end (take len items) → take n new ≡ more

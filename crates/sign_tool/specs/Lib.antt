@@ -10,4 +10,4 @@ pub mod Script
 pub mod Served
 pub mod Serving
 pub mod Tool
-pub mod kept
+pub mod internal

@@ -4,10 +4,10 @@ use Rattle.std.specs.Int.{w16, w32, to_be_bytes}
 use Rattle.std.specs.List.{flat_map}
 use Rattle.hex.specs.Hex.{encode_lower}
 use Rattle.sign_font.specs.declared.parts.Defaults.{Defaults}
-use Rattle.sign_font.specs.Defaults.{default_code}
+use Rattle.sign_font.specs.Fault.{default_code}
 use Rattle.message_store.specs.declared.fault.StoreFault.{StoreFault}
 use Rattle.message_store.specs.declared.message.MsgRef.{MsgRef}
-use Rattle.message_store.specs.Codes.{fault_code}
+use Rattle.message_store.specs.Fault.{fault_code}
 use Rattle.message_store.specs.Row.{RowData}
 use Rattle.sign_control.specs.declared.command.Reply.{Reply}
 use Rattle.sign_control.specs.declared.command.Reply.TheVariants as reply

@@ -181,4 +181,5 @@ const HELP_COMMANDS: &[u8] =
 const HELP_SCRIPT: &[u8] =
     b"activate HEX, end HEX, tick T, default FIELD V, frame C, row M N, report, defaults, ";
 
-const HELP_SERVED: &[u8] = b"colours, verdict TEXT, crc TEXT, next, code M N D P, help\n";
+const HELP_SERVED: &[u8] =
+    b"colours, verdict TEXT, crc TEXT, next, code M N D P, verdictx HEX, crcx HEX, save, restore HEX, help\n";

@@ -1,6 +1,6 @@
 //! The first lines of a block.
 ghost use Rattle.std.specs.Prelude.{◌≡◌, ◌≤◌, ◌<◌, ◌^◌, [], IfOk, OnOk, length, take};
-ghost use Rattle.sign_tool.specs.kept.Blocks.{AnswersFirst, AnswersWhole, StopsAtMany};
+ghost use Rattle.sign_tool.specs.internal.Blocks.{AnswersFirst, AnswersWhole, StopsAtMany};
 ghost use Rattle.tool_streams.specs.Lines.{IsOneLine};
 
 use crate::answer::{Answer, LineAnswer};
@@ -29,7 +29,7 @@ pub(crate) struct Front {
     pub(crate) at: usize,
     /// How many they are.
     pub(crate) lines: u32,
-    /// What was done last: with the last of them, after which there are many answers, or with the line behind them.
+    /// What was done last: with the last of them, after which there are many answers, or with the line after them.
     pub(crate) last: FirstLine,
 }
 

@@ -1,7 +1,7 @@
 //! Octets in hexadecimal.
 ghost use Rattle.std.specs.Prelude.{◌≡◌, ◌*◌, length};
 ghost use Rattle.hex.specs.Hex.{encode_lower};
-ghost use Rattle.sign_tool.specs.kept.Hexadecimal.{pair_of};
+ghost use Rattle.sign_tool.specs.internal.Hexadecimal.{pair_of};
 
 /// The two digits of each octet in lower case, the first one in the lower eight bits.
 const PAIRS: &[u16; 256] = &[

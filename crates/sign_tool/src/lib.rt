@@ -8,6 +8,7 @@
 mod answer;
 mod answers;
 mod check;
+mod decoded;
 mod fault;
 mod few;
 mod first;

@@ -1,6 +1,6 @@
 //! Answers that are written.
 ghost use Rattle.std.specs.Prelude.{◌≡◌, [], OnOk};
-ghost use Rattle.sign_tool.specs.kept.Blocks.{EndsRefused, WritesReady};
+ghost use Rattle.sign_tool.specs.internal.Blocks.{EndsRefused, WritesReady};
 
 use crate::first::FirstLine;
 use crate::ready::Ready;

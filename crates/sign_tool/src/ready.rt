@@ -16,7 +16,7 @@ const SPARE: usize = 1_024;
 /// is put into it with nothing moved.
 #[derive(Drop)]
 pub(crate) struct Ready {
-    /// All of these answers, and room behind them.
+    /// All of these answers, and room after them.
     pub(crate) octets: Vec<u8>,
     /// Where the answers to whole lines end.
     end: usize,
@@ -26,7 +26,7 @@ pub(crate) struct Ready {
 
 impl Model for Ready {
     ghost use Rattle.std.specs.Prelude.{◌≤◌, length, take, drop};
-    ghost use Rattle.sign_tool.specs.kept.Ready.{ReadyData};
+    ghost use Rattle.sign_tool.specs.internal.Ready.{ReadyData};
 
     ghost Value = { ReadyData };
 
@@ -135,7 +135,7 @@ pub(crate) fn push_octets(text: &mut Ready, octets: &[u8]) -> Result<(), AllocEr
     Ok(())
 }
 
-/// Appends the first `count` of a few octets to the answer that was begun. The others are written behind it, where nothing counts yet, so
+/// Appends the first `count` of a few octets to the answer that was begun. The others are written after it, where nothing counts yet, so
 /// that a short text takes one look at the room and one write. The error says that memory was refused.
 #[inline(always)]
 pub(crate) fn push_short<const N: usize>(

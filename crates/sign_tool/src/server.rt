@@ -6,6 +6,7 @@ ghost use Rattle.sign_tool.specs.Serving.{at_start, told_cut};
 use crate::answers::{
     push_colours, push_help, push_message_code, push_next, push_text_crc, push_verdict_by,
 };
+use crate::decoded::{push_crc_of, push_restored, push_saved, push_verdict_of};
 use crate::ready::{Ready, push_octets};
 use crate::reply::push_too_long;
 use crate::script::push_told;
@@ -24,6 +25,8 @@ pub(crate) struct Server {
     octets: Vec<u8>,
     /// Room for the colour of each pixel.
     pixels: Vec<u8>,
+    /// Room for a state, and for a text that a question writes in hexadecimal.
+    saved: Vec<u8>,
 }
 
 impl Model for Server {
@@ -50,17 +53,19 @@ fn push_asked(text: &mut Ready, controller: &mut Controller, ask: Ask<'_>) -> Re
     }
 }
 
-/// Does what is asked of a served sign, and appends the reply. There is an octet of room for each pixel.
+/// Does what is asked of a served sign, and appends the reply. There is an octet of room for each pixel, and `saved` is room for octets.
 fn push_question(
     text: &mut Ready,
     controller: &mut Controller,
     pixels: &mut Vec<u8>,
+    saved: &mut Vec<u8>,
     question: Question<'_>,
 ) -> Result<(), AllocError>
     requires room { length pixels.old.items ≡ controller.old.sign.width * controller.old.sign.height }
     ensures text { OnOk result
         (text.new.begun ≡ text.old.begun ++ (told_question controller.old.sign controller.old.state question.entry).text) }
-    ensures state { controller.new.state ≡ (told_question controller.old.sign controller.old.state question.entry).state }
+    ensures state { OnOk result
+        (controller.new.state ≡ (told_question controller.old.sign controller.old.state question.entry).state) }
     ensures sign { controller.new.sign ≡ controller.old.sign }
     ensures whole { text.new.whole ≡ text.old.whole }
     ensures room { length pixels.new.items ≡ length pixels.old.items }
@@ -77,6 +82,18 @@ fn push_question(
             push_message_code(text, controller, message, duration, priority)
         }
         Question::Help => push_help(text),
+        Question::VerdictHex(digits) => {
+            push_verdict_of(
+                text,
+                controller.sign(),
+                controller.defaults(),
+                saved,
+                digits,
+            )
+        }
+        Question::CrcHex(digits) => push_crc_of(text, saved, digits),
+        Question::Save => push_saved(text, controller, saved),
+        Question::Restore(digits) => push_restored(text, controller, saved, digits),
     }
 }
 
@@ -96,6 +113,7 @@ impl Server {
             controller,
             octets,
             pixels,
+            saved: Vec::new(alloc),
         })
     }
 
@@ -109,7 +127,13 @@ impl Server {
     {
         match read_question(line, &mut self.octets) {
             Ok(question) => {
-                push_question(text, &mut self.controller, &mut self.pixels, question)
+                push_question(
+                    text,
+                    &mut self.controller,
+                    &mut self.pixels,
+                    &mut self.saved,
+                    question,
+                )
             }
             Err(LineFault::Bad) => push_octets(text, b"bad line\n"),
             Err(LineFault::Memory) => Err(AllocError),

@@ -2,7 +2,7 @@
 
 /// What kind of table it is, or of array of tables.
 #[derive(Clone, Copy, PartialEq)]
-pub(crate) enum Kind {
+pub(crate) enum TableKind {
     /// The document.
     Sign,
     /// `[defaults]`.
@@ -26,7 +26,7 @@ pub(crate) enum Kind {
 /// A table, or an array of tables. Entries of arrays are counted from 1.
 #[derive(Clone, Copy)]
 pub(crate) struct Address {
-    pub(crate) kind: Kind,
+    pub(crate) kind: TableKind,
     /// Which font or permanent message it is, or else 0.
     pub(crate) entry: usize,
     /// Which cell of the font it is, or else 0.
@@ -35,7 +35,7 @@ pub(crate) struct Address {
 
 impl Address {
     /// One that is in no array.
-    pub(crate) fn of(kind: Kind) -> Address {
+    pub(crate) fn of(kind: TableKind) -> Address {
         Address {
             kind,
             entry: 0,
@@ -51,11 +51,11 @@ impl Address {
     /// What stands at a name in it.
     pub(crate) fn child(self, name: &[u8]) -> Address {
         let kind = match self.kind {
-            Kind::Sign if name == b"defaults".as_slice() => Kind::Defaults,
-            Kind::Sign if name == b"font".as_slice() => Kind::Fonts,
-            Kind::Sign if name == b"permanent".as_slice() => Kind::Permanents,
-            Kind::Font if name == b"cell".as_slice() => Kind::Cells,
-            _ => Kind::Other,
+            TableKind::Sign if name == b"defaults".as_slice() => TableKind::Defaults,
+            TableKind::Sign if name == b"font".as_slice() => TableKind::Fonts,
+            TableKind::Sign if name == b"permanent".as_slice() => TableKind::Permanents,
+            TableKind::Font if name == b"cell".as_slice() => TableKind::Cells,
+            _ => TableKind::Other,
         };
         Address { kind, ..self }
     }
@@ -82,12 +82,12 @@ impl Met {
     /// Meets one more entry of an array, if it is one of these.
     pub(crate) fn meet(&mut self, array: Address) {
         match array.kind {
-            Kind::Fonts => {
+            TableKind::Fonts => {
                 self.fonts = self.fonts.saturating_add(1);
                 self.cells = 0;
             }
-            Kind::Cells => self.cells = self.cells.saturating_add(1),
-            Kind::Permanents => self.permanents = self.permanents.saturating_add(1),
+            TableKind::Cells => self.cells = self.cells.saturating_add(1),
+            TableKind::Permanents => self.permanents = self.permanents.saturating_add(1),
             _ => {}
         }
     }
@@ -95,9 +95,9 @@ impl Met {
     /// The last entry of an array, if it is one of these, or else the same table.
     pub(crate) fn last(&self, array: Address) -> Address {
         let (kind, entry, cell) = match array.kind {
-            Kind::Fonts => (Kind::Font, self.fonts, 0),
-            Kind::Cells => (Kind::Cell, self.fonts, self.cells),
-            Kind::Permanents => (Kind::Permanent, self.permanents, 0),
+            TableKind::Fonts => (TableKind::Font, self.fonts, 0),
+            TableKind::Cells => (TableKind::Cell, self.fonts, self.cells),
+            TableKind::Permanents => (TableKind::Permanent, self.permanents, 0),
             _ => return array,
         };
         Address { kind, entry, cell }

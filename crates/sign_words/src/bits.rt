@@ -26,6 +26,11 @@ impl Size {
         (self.pixels().saturating_add(7) / 8).saturating_mul(2)
     }
 
+    /// How many a row would have that began an octet.
+    fn row_digits(self) -> usize {
+        (self.width.saturating_add(7) / 8).saturating_mul(2)
+    }
+
     /// How many bits of the last octet no pixel has.
     fn spare(self) -> usize {
         self.digits()
@@ -72,6 +77,20 @@ fn is_binary(digits: &str, count: usize) -> bool {
             .all(|digit| *digit == b'0' || *digit == b'1')
 }
 
+/// Whether digits are rows of pixels of which each begins an octet, and has spare bits that are 0.
+fn are_rows(digits: &[u8], size: Size) -> bool {
+    let each = size.row_digits();
+    let spare = each.saturating_mul(4).saturating_sub(size.width);
+    for row in 0..size.height {
+        let end = row.saturating_add(1).saturating_mul(each);
+        let rows = digits.get(..end).unwrap_or(b"");
+        if is_spare_set(rows, u32::try_from(spare).unwrap_or(0)) {
+            return false;
+        }
+    }
+    digits.len() == each.saturating_mul(size.height)
+}
+
 /// Looks at digits for a cell of a size.
 fn look_at_digits(
     found: &mut Findings,
@@ -85,7 +104,11 @@ fn look_at_digits(
             let parts = [Part::Binary(digits)];
             return found.fault(Code::WrongBits, at, "bits", told, &parts);
         }
-        let told = "has @ hexadecimal digits, and @ by @ pixels need @";
+        let told = if are_rows(digits.as_bytes(), size) {
+            "has @ hexadecimal digits, as if each row began an octet; with no gap @ by @ pixels need @"
+        } else {
+            "has @ hexadecimal digits, and @ by @ pixels need @"
+        };
         let parts = [
             Part::Count(digits.len()),
             Part::Count(size.width),

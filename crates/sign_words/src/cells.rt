@@ -4,7 +4,7 @@ use multi_token::Source;
 use sign_font::{Cell, FontInfo, Sign};
 use std::alloc::{AllocError, Global};
 
-/// The pixel at a place among those of a cell, which stand row by row: 1 if it is lit, and 0 behind the last.
+/// The pixel at a place among those of a cell, which stand row by row: 1 if it is lit, and 0 after the last.
 pub(crate) fn pixel(cell: &Cell<'_>, place: usize) -> u8 {
     let width = usize::from(cell.width()).max(1);
     let row = cell.rows().get(place / width).copied().unwrap_or(0);
@@ -22,7 +22,7 @@ fn octet_at(cell: &Cell<'_>, first: usize) -> u8 {
 }
 
 /// Appends the pixels of a cell as a sign file has them: row by row with no gap, the highest bit of each octet first, and the bits
-/// behind the last pixel 0.
+/// after the last pixel 0.
 fn push_pixels(octets: &mut Vec<u8>, cell: &Cell<'_>) -> Result<(), AllocError> {
     let pixels = cell.rows().len().saturating_mul(usize::from(cell.width()));
     for place in 0..pixels.saturating_add(7) / 8 {

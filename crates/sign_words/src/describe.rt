@@ -1,11 +1,11 @@
 //! What a sign file describes.
 
 use crate::cells::cells_crc;
-use crate::keys::{COLOURS, GROUPS, LINES};
+use crate::keys::{COLOURS, GROUPS, LIGHTS, LINES};
 use crate::part::{Part, tell};
 use message_store::{Permanent, Store, StoreLimits, message_crc};
 use multi_token::Source;
-use sign_font::{Defaults, FontInfo, LineFill, Sign};
+use sign_font::{FontInfo, LineFill, Sign};
 use std::alloc::{AllocError, Global};
 use std::fmt;
 use std::fmt::{Display, Formatter, Write};
@@ -76,8 +76,18 @@ fn describe_limits(text: &mut String, limits: StoreLimits) -> Result<(), AllocEr
     tell(text, told, &parts)
 }
 
+/// The name of a colour of a sign, which has the classic colours, or lit and dark pixels alone.
+fn colour_of(sign: &Sign, colour: u8) -> Part<'static> {
+    if sign.classic() {
+        name_of(&COLOURS, 0, colour)
+    } else {
+        name_of(&LIGHTS, 0, colour.min(1))
+    }
+}
+
 /// Writes the defaults.
-fn describe_defaults(text: &mut String, defaults: &Defaults) -> Result<(), AllocError> {
+fn describe_defaults(text: &mut String, sign: &Sign) -> Result<(), AllocError> {
+    let defaults = sign.defaults();
     let told = "default font: @\ndefault lines: @, @\ndefault groups: @, @\n\
         default page times: @ tenths of a second on, @ off\ndefault flash times: @ tenths of a second on, @ off\n\
         default foreground: @, @\ndefault background: @, @\n";
@@ -92,9 +102,9 @@ fn describe_defaults(text: &mut String, defaults: &Defaults) -> Result<(), Alloc
         small(defaults.flash_on),
         small(defaults.flash_off),
         small(defaults.fore),
-        name_of(&COLOURS, 0, defaults.fore),
+        colour_of(sign, defaults.fore),
         small(defaults.back),
-        name_of(&COLOURS, 0, defaults.back),
+        colour_of(sign, defaults.back),
     ];
     tell(text, told, &parts)
 }
@@ -195,7 +205,7 @@ pub(crate) fn describe(alloc: Global, text: &mut String, setup: &Setup) -> Resul
     describe_sign(text, sign)?;
     describe_limits(text, store.limits())?;
     describe_permanents(text, store.permanents())?;
-    describe_defaults(text, &sign.defaults())?;
+    describe_defaults(text, sign)?;
     let mut source = Source::new(b"");
     for number in 1..=255u8 {
         if let Some(font) = sign.font(&mut source, number) {

@@ -2,7 +2,7 @@
 
 use crate::code::Code;
 use crate::findings::Findings;
-use crate::keys::{Key, Kind};
+use crate::keys::{Key, Kind, LIGHTS};
 use crate::names::Home;
 use crate::order::{look_at_count, look_at_order};
 use crate::part::Part;
@@ -34,6 +34,7 @@ fn is_of(value: &Value, kind: Kind) -> bool {
             let last = first.saturating_add(names.len() as i64).saturating_sub(1);
             is_from(value, first, last)
         }
+        Kind::Light => is_from(value, 0, 9),
         Kind::Truth => value.is_bool(),
         Kind::Word(one, other) => match value.as_str() {
             Some(text) => text == one || text == other,
@@ -54,8 +55,10 @@ fn is_of(value: &Value, kind: Kind) -> bool {
 
 /// The number whose name a value is, at a key of this kind.
 fn named(value: &Value, kind: Kind) -> Option<i64> {
-    let Kind::Named(first, names) = kind else {
-        return None;
+    let (first, names) = match kind {
+        Kind::Named(first, names) => (first, names),
+        Kind::Light => (0, LIGHTS.as_slice()),
+        _ => return None,
     };
     let text = value.as_str()?;
     let place = names.iter().position(|name| *name == text)?;
@@ -66,7 +69,7 @@ fn named(value: &Value, kind: Kind) -> Option<i64> {
 fn wrong(value: &Value, kind: Kind) -> (&'static str, Part<'_>) {
     let (number, text) = match kind {
         Kind::Number(_, _) => (value.as_integer(), None),
-        Kind::Named(_, _) => (value.as_integer(), value.as_str()),
+        Kind::Named(_, _) | Kind::Light => (value.as_integer(), value.as_str()),
         Kind::Word(_, _) | Kind::Octets => (None, value.as_str()),
         Kind::Truth | Kind::Text | Kind::Table | Kind::Tables => (None, None),
     };
@@ -79,6 +82,14 @@ fn wrong(value: &Value, kind: Kind) -> (&'static str, Part<'_>) {
     }
 }
 
+/// The first entry of an array that is no table: its place, counted from 1, and its type.
+fn first_other(value: &Value) -> Option<(usize, &str)> {
+    let array = value.as_array()?;
+    let place = array.iter().position(|entry| !entry.is_table())?;
+    let entry = array.get(place)?;
+    Some((place.saturating_add(1), entry.type_str()))
+}
+
 /// Looks at a value at a key of this name and kind.
 fn look_at_value(
     found: &mut Findings,
@@ -89,6 +100,15 @@ fn look_at_value(
 ) -> Result<(), AllocError> {
     if is_of(value, kind) {
         return Ok(());
+    }
+    if let (Kind::Tables, Some((place_within, type_within))) = (kind, first_other(value)) {
+        let told = "found: @ at place @; it should be @";
+        let parts = [
+            Part::Words(type_within),
+            Part::Count(place_within),
+            Part::Kind(kind),
+        ];
+        return found.fault(Code::WrongValue, place, name, told, &parts);
     }
     let (sentence, part) = wrong(value, kind);
     match (named(value, kind), kind) {
@@ -113,6 +133,14 @@ fn look_at_value(
     }
 }
 
+/// What may stand at a key of this kind in a sign file: in one of a monochrome sign a colour is dark or lit.
+fn kind_in(document: &Table, kind: Kind) -> Kind {
+    match kind {
+        Kind::Named(0, _) if text_at(document, "scheme") == Some("monochrome") => Kind::Light,
+        _ => kind,
+    }
+}
+
 /// Looks at a key of a table. A key of the sign isn't missing if it is told of where it stands in another table.
 fn look_at_key(
     found: &mut Findings,
@@ -122,6 +150,7 @@ fn look_at_key(
     key: &Key,
 ) -> Result<(), AllocError> {
     let Key(name, kind, is_needed) = *key;
+    let kind = kind_in(document, kind);
     if let Some(value) = table.get(name) {
         return look_at_value(found, place, name, kind, value);
     }

@@ -130,7 +130,7 @@ pub struct Findings {
 
 impl Findings {
     /// Nothing.
-    pub(crate) fn new(alloc: Global) -> Findings {
+    pub fn new(alloc: Global) -> Findings {
         Findings {
             alloc,
             faults: Vec::new(alloc),

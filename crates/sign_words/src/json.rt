@@ -11,7 +11,7 @@ pub(crate) struct Document {
     text: String,
     /// How many brackets are open.
     depth: usize,
-    /// Whether nothing stands behind the last open bracket.
+    /// Whether nothing stands after the last open bracket.
     is_first: bool,
 }
 

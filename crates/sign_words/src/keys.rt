@@ -10,6 +10,8 @@ pub(crate) enum Kind {
     Number(i64, i64),
     /// One of the numbers from this one on that have these names.
     Named(i64, &'static [&'static str]),
+    /// A colour of a sign that has one colour: dark, or lit.
+    Light,
     /// `true` or `false`.
     Truth,
     /// One of these texts.
@@ -51,6 +53,7 @@ pub(crate) fn push_kind(text: &mut String, kind: Kind) -> Result<(), AllocError>
     match kind {
         Kind::Number(low, high) => write!(text, "a whole number from {low} to {high}"),
         Kind::Named(first, names) => push_names(text, first, names),
+        Kind::Light => text.push_str("0 (dark) or 1 to 9 (lit)"),
         Kind::Truth => text.push_str("true or false"),
         Kind::Word(one, other) => write!(text, "\"{one}\" or \"{other}\""),
         Kind::Text => text.push_str("a text"),
@@ -70,6 +73,9 @@ pub(crate) const GROUPS: [&str; 3] = ["top", "middle", "bottom"];
 pub(crate) const COLOURS: [&str; 10] = [
     "black", "red", "yellow", "green", "cyan", "blue", "magenta", "white", "orange", "amber",
 ];
+
+/// How pixels of a sign of one colour are, by the numbers 0 and 1; those from 2 to 9 are lit too.
+pub(crate) const LIGHTS: [&str; 2] = ["dark", "lit"];
 
 /// A key: its name, what may stand there, and whether it must be there.
 #[derive(Clone, Copy)]

@@ -10,7 +10,7 @@ use crate::place::{Entry, Place};
 use std::alloc::AllocError;
 use toml::{Table, Value};
 
-/// Looks whether a number rises behind the one before it. The answer is the last number.
+/// Looks whether a number rises after the one before it. The answer is the last number.
 fn look_at_number(
     found: &mut Findings,
     at: Place,

@@ -25,7 +25,7 @@ pub(crate) enum Part<'a> {
     /// Binary digits, which are told as hexadecimal ones, two for each octet.
     Binary(&'a str),
     /// Text of a sign file, which stays on its line: its first 40 octets, with `?` for each that is no printable sign of ASCII, and
-    /// ` ..` behind them if it has more.
+    /// ` ..` after them if it has more.
     Excerpt(&'a str),
 }
 

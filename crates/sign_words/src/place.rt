@@ -1,6 +1,6 @@
 //! Where something stands in a sign file.
 
-use crate::address::{Address, Kind};
+use crate::address::{Address, TableKind};
 use crate::part::{Part, tell};
 use std::alloc::AllocError;
 
@@ -29,7 +29,7 @@ pub(crate) enum Place {
 }
 
 /// The address of an entry.
-fn entry_at(kind: Kind, entry: usize, cell: usize) -> Address {
+fn entry_at(kind: TableKind, entry: usize, cell: usize) -> Address {
     Address { kind, entry, cell }
 }
 
@@ -37,12 +37,12 @@ impl Place {
     /// Where it stands, as the text is read.
     pub(crate) fn address(self) -> Address {
         match self {
-            Place::Text => Address::of(Kind::Other),
-            Place::Sign => Address::of(Kind::Sign),
-            Place::Defaults => Address::of(Kind::Defaults),
-            Place::Font(font) => entry_at(Kind::Font, font.place, 0),
-            Place::Cell(font, cell) => entry_at(Kind::Cell, font.place, cell.place),
-            Place::Permanent(message) => entry_at(Kind::Permanent, message.place, 0),
+            Place::Text => Address::of(TableKind::Other),
+            Place::Sign => Address::of(TableKind::Sign),
+            Place::Defaults => Address::of(TableKind::Defaults),
+            Place::Font(font) => entry_at(TableKind::Font, font.place, 0),
+            Place::Cell(font, cell) => entry_at(TableKind::Cell, font.place, cell.place),
+            Place::Permanent(message) => entry_at(TableKind::Permanent, message.place, 0),
         }
     }
 }

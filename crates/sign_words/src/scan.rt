@@ -1,6 +1,6 @@
 //! Where the keys of a sign file stand in its text, which is TOML.
 
-use crate::address::{Address, Kind, Met};
+use crate::address::{Address, Met, TableKind};
 use crate::findings::Findings;
 use crate::strings::{line_end, mark_len, octet_at, text_end};
 use std::alloc::{AllocError, Global};
@@ -38,7 +38,7 @@ struct Scan {
 impl Scan {
     /// At the front of a text.
     fn new(alloc: Global) -> Scan {
-        let sign = Address::of(Kind::Sign);
+        let sign = Address::of(TableKind::Sign);
         Scan {
             open: Vec::new(alloc),
             met: Met::new(),
@@ -46,7 +46,7 @@ impl Scan {
             is_name: true,
             walk: sign,
             part: (0, 0),
-            value: Address::of(Kind::Other),
+            value: Address::of(TableKind::Other),
             header: (0, 0),
         }
     }
@@ -86,11 +86,15 @@ impl Scan {
         }
     }
 
-    /// Passes a dot of a name.
-    fn pass_dot(&mut self, octets: &[u8]) {
+    /// Passes a dot of a name, before which the name of a table stands.
+    fn pass_dot(&mut self, octets: &[u8], found: &mut Findings) {
         if self.is_name {
-            let child = self.walk.child(self.part_of(octets));
-            self.walk = self.met.last(child);
+            let (brackets, first) = self.header;
+            let at = if brackets == 0 { self.part.0 } else { first };
+            let key = self.part_of(octets);
+            found.place(self.walk, Some(key), at);
+            self.walk = self.met.last(self.walk.child(key));
+            found.place(self.walk, None, at);
             self.part = (0, 0);
         }
     }
@@ -128,7 +132,7 @@ impl Scan {
                 brackets.saturating_add(1),
                 if brackets == 0 { at } else { first },
             );
-            self.begin_name(Address::of(Kind::Sign));
+            self.begin_name(Address::of(TableKind::Sign));
             return Ok(());
         }
         self.open.push(Open {
@@ -205,7 +209,7 @@ impl Scan {
             b']' | b'}' => self.close(octets, found),
             b',' => self.pass_comma(),
             b'=' => self.end_name(octets, found),
-            b'.' => self.pass_dot(octets),
+            b'.' => self.pass_dot(octets, found),
             b' ' | b'\t' | b'\r' => {}
             _ => self.take(at, next),
         }
@@ -218,7 +222,7 @@ fn look(octets: &[u8], found: &mut Findings) -> Result<(), AllocError> {
     let mut scan = Scan::new(found.alloc);
     let mut next = mark_len(octets);
     found.count_sought();
-    found.place(Address::of(Kind::Sign), None, next);
+    found.place(Address::of(TableKind::Sign), None, next);
     for at in 0..octets.len() {
         if found.sought == 0 {
             break;

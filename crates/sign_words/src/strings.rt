@@ -1,6 +1,6 @@
 //! Texts and comments of TOML, whose octets mean nothing else.
 
-/// The octet at a place, or 0 behind the last.
+/// The octet at a place, or 0 after the last.
 pub(crate) fn octet_at(octets: &[u8], at: usize) -> u8 {
     octets.get(at).copied().unwrap_or(0)
 }

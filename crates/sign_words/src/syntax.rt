@@ -64,23 +64,58 @@ fn first_of_line(octets: &[u8], at: usize) -> usize {
     start.saturating_add(blanks)
 }
 
-/// Whether the line of a place begins as no line within brackets does: with a header, or with a name and `=`.
-fn begins_anew(octets: &[u8], at: usize) -> bool {
-    let first = first_of_line(octets, at);
-    if octet_at(octets, first) == b'[' {
-        return true;
-    }
-    let behind = first.saturating_add(word_at(octets, first).len());
+/// Whether a name and `=` stand at a place.
+fn is_key(octets: &[u8], at: usize) -> bool {
+    let behind = at.saturating_add(word_at(octets, at).len());
     let rest = octets.get(behind..).unwrap_or(b"");
     let blanks = rest.iter().take_while(|octet| **octet == b' ').count();
-    behind > first && octet_at(rest, blanks) == b'='
+    behind > at && octet_at(rest, blanks) == b'='
 }
 
-/// Whether an octet can't stand where this bracket is the innermost.
-fn is_other(bracket: u8, octet: u8) -> bool {
-    match bracket {
+/// Whether a header stands at a place: brackets, a name and a closing bracket.
+fn is_header(octets: &[u8], at: usize) -> bool {
+    let rest = octets.get(at..).unwrap_or(b"");
+    let brackets = rest.iter().take_while(|octet| **octet == b'[').count();
+    let name = word_at(rest, brackets).len();
+    brackets > 0 && name > 0 && octet_at(rest, brackets.saturating_add(name)) == b']'
+}
+
+/// Whether a closing brace stands in the line from a place on, and none before it opens.
+fn closes_brace(octets: &[u8], at: usize) -> bool {
+    let line = octets.get(at..line_end(octets, at)).unwrap_or(b"");
+    let brace = line.iter().find(|octet| **octet == b'{' || **octet == b'}');
+    brace == Some(&b'}')
+}
+
+/// Whether the line of a place begins as no line within brackets does: with a header, or with a key that isn't one of a table between
+/// braces.
+fn begins_anew(octets: &[u8], at: usize) -> bool {
+    let first = first_of_line(octets, at);
+    is_header(octets, first) || (is_key(octets, first) && !closes_brace(octets, first))
+}
+
+/// Whether one of these brackets is of a kind.
+fn has_kind(octets: &[u8], brackets: &[usize], kind: u8) -> bool {
+    brackets
+        .iter()
+        .any(|bracket| octet_at(octets, *bracket) == kind)
+}
+
+/// Whether a bracket at a place shows that the last of these isn't closed.
+fn is_other(octets: &[u8], brackets: &[usize], last: usize, at: usize) -> bool {
+    let octet = octet_at(octets, at);
+    match octet_at(octets, last) {
         b'{' => octet == b'{' || octet == b']',
-        _ => octet == b'}',
+        _ => octet == b'}' && has_kind(octets, brackets, b'{'),
+    }
+}
+
+/// Whether a bracket at a place closes none of these, which are open.
+fn closes_none(octets: &[u8], brackets: &[usize], at: usize) -> bool {
+    match octet_at(octets, at) {
+        b']' => !has_kind(octets, brackets, b'['),
+        b'}' => !has_kind(octets, brackets, b'{'),
+        _ => false,
     }
 }
 
@@ -90,7 +125,7 @@ fn unclosed(octets: &[u8], brackets: &[usize], at: usize) -> Option<usize> {
     let rest = octets.get(at..).unwrap_or(b"");
     let last = *brackets.last()?;
     let is_end = rest.iter().all(|octet| octet.is_ascii_whitespace());
-    if is_end || is_other(octet_at(octets, last), octet_at(octets, at)) {
+    if is_end || is_other(octets, brackets, last, at) {
         return Some(last);
     }
     let start = line_start(octets, at);
@@ -110,25 +145,25 @@ fn is_one_of(word: &[u8], words: &[&str]) -> bool {
         .any(|known| word.eq_ignore_ascii_case(known.as_bytes()))
 }
 
-/// What stands in place of the kit's words, if a word is wrong in a way that has a hint.
-fn of_word(word: &[u8]) -> Option<&'static str> {
+/// What stands in place of the kit's words where a word is no value.
+fn of_word(word: &[u8]) -> &'static str {
     if is_one_of(word, &["true", "false"]) {
-        return Some("no value; true and false are written in small letters");
+        return "no value; true and false are written in small letters";
     }
     if is_one_of(word, &["yes", "no", "on", "off"]) {
-        return Some("no value; write true or false");
+        return "no value; write true or false";
     }
-    let (first, second) = (octet_at(word, 0), octet_at(word, 1));
-    if first == b'0' && second.is_ascii_digit() {
-        return Some("no value; a number has no 0 before its other digits");
+    if is_one_of(word, &["null", "none", "nil"]) {
+        return "no value; a key without a value is left out";
     }
-    if first.is_ascii_digit() {
-        return Some("no value; a number stands alone, and a text between quotes");
+    match (octet_at(word, 0), octet_at(word, 1)) {
+        (b'0', second) if second.is_ascii_digit() => {
+            "no value; a number has no 0 before its other digits, and a text stands between quotes"
+        }
+        (b'0', b'x' | b'X') => "no value; a number in hexadecimal digits begins with 0x",
+        (first, _) if first.is_ascii_alphabetic() => "no value; a text stands between quotes",
+        _ => "no value; a number stands alone, and a text between quotes",
     }
-    if first.is_ascii_alphabetic() {
-        return Some("no value; a text stands between quotes");
-    }
-    None
 }
 
 /// Whether curved quotes stand at a place, in UTF-8.
@@ -140,24 +175,39 @@ fn has_curved_quotes(octets: &[u8], at: usize) -> bool {
 }
 
 /// The same for the octets at which the text is wrong, where a value should stand.
-fn of_value(octets: &[u8], at: usize) -> Option<&'static str> {
+fn of_value(octets: &[u8], at: usize) -> &'static str {
     if has_curved_quotes(octets, at) {
-        return Some("curved quotes; a text stands between \" and \", or ' and '");
+        return "curved quotes; a text stands between \" and \", or ' and '";
     }
     match octet_at(octets, at) {
-        0 | b'\n' | b'\r' | b'#' => Some("no value stands after the ="),
+        0 | b'\n' | b'\r' | b'#' => "no value stands after the =",
+        b'(' => "no value; cells stand between [ and ], and each between { and }",
+        b'=' | b'>' => "one = stands between a key and its value",
+        b',' => "a value is missing before this comma",
+        b'`' => "no value; a text stands between \" and \", or ' and '",
+        _ if is_key(octets, at) => "no value; keys with their values stand between { and }",
         _ => of_word(word_at(octets, at)),
     }
 }
 
+/// What is told of a mark that a merge leaves where two files differ.
+const MERGED: &str = "no key; a merge left this mark, and the lines of both files";
+
 /// The same where a key or a header should stand.
-fn of_key(octets: &[u8], at: usize) -> Option<&'static str> {
-    match octet_at(octets, at) {
-        b'/' | b';' | b'-' | b'*' => Some("no key; a comment begins with #"),
-        b'{' => Some("no key; a sign file is TOML, and not JSON"),
-        b'<' => Some("no key; a sign file is TOML, and not XML"),
-        b'=' => Some("a key is missing before the ="),
-        _ => None,
+fn of_key(octets: &[u8], at: usize) -> &'static str {
+    match (octet_at(octets, at), octet_at(octets, at.saturating_add(1))) {
+        (b'/' | b';' | b'-' | b'*', _) => "no key; a comment begins with #",
+        (b'{', _) => "no key; a sign file is TOML, and not JSON",
+        (b'<', b'<') => MERGED,
+        (b'>', b'>') => MERGED,
+        (b'=', b'=') => MERGED,
+        (b'<', _) => "no key; a sign file is TOML, and not XML",
+        (b'=', _) => "a key is missing before the =",
+        (b',', _) => "a key is missing before this comma",
+        (b'.', _) => "a name is missing before this dot",
+        (b']', _) => "a name is missing before this bracket",
+        (b'[', _) => "the brackets of a header stand together, as in [[font]]",
+        _ => "no key; a line begins with a key, with [ or with #",
     }
 }
 
@@ -168,8 +218,16 @@ fn of_equals(octets: &[u8], at: usize) -> Option<&'static str> {
     }
     match octet_at(octets, at) {
         b':' => Some("write = in place of : between a key and its value"),
+        b'{' => Some(
+            "no = stands between a key and its value; a table begins with its name between [ and ]",
+        ),
         _ => Some("no = stands between a key and its value"),
     }
+}
+
+/// The octet before a place.
+fn octet_before(octets: &[u8], at: usize) -> u8 {
+    octet_at(octets, at.saturating_sub(1))
 }
 
 /// The same where a line should end.
@@ -177,17 +235,49 @@ fn of_line_end(octets: &[u8], at: usize) -> Option<&'static str> {
     match octet_at(octets, at) {
         b',' | b';' => Some("no comma stands after a value; each key has a line of its own"),
         b'/' => Some("a comment begins with #"),
-        _ => Some("nothing but a comment stands after a value; each key has a line of its own"),
+        first if first.is_ascii_alphanumeric() && octet_before(octets, at) == b'\'' => Some(
+            "a text with ' stands between \" and \"",
+        ),
+        first if first.is_ascii_alphanumeric() && octet_before(octets, at) == b'"' => Some(
+            "a text with \" stands between ' and '",
+        ),
+        _ => Some(
+            "nothing but a comment stands after a value or a header; each key has a line of its own",
+        ),
     }
+}
+
+/// What is told of an octet that may stand nowhere in a sign file, or only in a text.
+fn of_octet(octets: &[u8], at: usize) -> Option<&'static str> {
+    let octet = *octets.get(at)?;
+    if octet == b'\r' && octet_at(octets, at.saturating_add(1)) != b'\n' {
+        return Some("a carriage return alone ends no line; a line ends with a line feed");
+    }
+    if octet == 127 || (octet < 32 && !octet.is_ascii_whitespace()) {
+        return Some("a control character stands here; no sign file has one");
+    }
+    if octet >= 128 && !has_curved_quotes(octets, at) {
+        return Some("a sign that isn't ASCII, as a wide space or a dash, stands in texts alone");
+    }
+    None
 }
 
 /// What is told of a text that is wrong at a place, in place of the kit's words, if there is something that helps more.
 fn hint(octets: &[u8], at: usize, words: &str) -> Option<&'static str> {
+    if let Some(told) = of_octet(octets, at) {
+        return Some(told);
+    }
+    if words.starts_with("unclosed table") && octet_at(octets, at).is_ascii_alphanumeric() {
+        return Some("the name of a table has no spaces");
+    }
+    if words.starts_with("number out of range") {
+        return Some("a number out of range; none has more than 18 digits");
+    }
     if words.starts_with("invalid value") {
-        return of_value(octets, at);
+        return Some(of_value(octets, at));
     }
     if words.starts_with("invalid key") {
-        return of_key(octets, at);
+        return Some(of_key(octets, at));
     }
     if words.starts_with("key with no value") {
         return of_equals(octets, at);
@@ -216,15 +306,16 @@ fn end_before(octets: &[u8], at: usize) -> usize {
         .unwrap_or(at)
 }
 
-/// What is told of a text that is no TOML: the place at which the kit finds it, and what it says.
-pub(crate) fn syntax_fault(
+/// What is told of a text that is no TOML: the place at which the kit finds it, and what it says. The error says that memory was refused.
+pub fn syntax_fault(
     found: &Findings,
     octets: &[u8],
     at: usize,
     words: &str,
 ) -> Result<Finding, AllocError> {
     let Before { brackets, text } = open_before(found.alloc, octets, at)?;
-    if let (Some(from), true) = (text, words.starts_with("invalid string")) {
+    let is_open = text.is_some() && of_octet(octets, at).is_none();
+    if let (Some(from), true) = (text, is_open && words.starts_with("invalid string")) {
         let told = "a text begins here whose closing quotes are missing";
         return found.at_octet(Code::NotToml, octets, from, told, &[]);
     }
@@ -235,6 +326,10 @@ pub(crate) fn syntax_fault(
             "the bracket { isn't closed"
         };
         return found.at_octet(Code::NotToml, octets, bracket, told, &[]);
+    }
+    if closes_none(octets, &brackets, at) {
+        let told = "no bracket is open that this one closes";
+        return found.at_octet(Code::NotToml, octets, at, told, &[]);
     }
     if words.starts_with("missing comma") {
         let told = "a comma or a closing bracket is missing after this";

@@ -154,7 +154,7 @@ pub(crate) fn look_at_unknown(
     home: Home,
     name: &str,
 ) -> Result<(), AllocError> {
-    if home == Home::Permanent && name == "number" {
+    if home == Home::Permanent && (name == "number" || name == "id" || name == "index") {
         return found.warn(Code::Unknown, place, name, NUMBERED, &[]);
     }
     if let Some(other) = home.other_with(name) {

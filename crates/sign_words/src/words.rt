@@ -1,16 +1,11 @@
-//! What is found in the octets of a sign file.
-ghost use Rattle.std.specs.Prelude.{◌≡◌, [], true, false, IfOk, OnOk};
-ghost use Rattle.sign_file.specs.Nesting.{is_shallow};
-ghost use Rattle.sign_words.specs.Document.{IsDocument};
+//! What is told of the octets of a sign file, part by part.
 
 use crate::code::Code;
 use crate::find::look_at_file;
-use crate::findings::Findings;
+use crate::findings::{Finding, Findings};
 use crate::refusal::{PermanentRefusal, refusal_found};
 use crate::scan::number_lines;
-use crate::syntax::syntax_fault;
-use sign_file::deep_at;
-use std::alloc::{AllocError, Global};
+use std::alloc::AllocError;
 use toml::Table;
 use tool_streams::{MAX_LINE, is_mark, text_of};
 
@@ -31,8 +26,8 @@ fn wrong_line(line: &[u8]) -> Option<(Code, &'static str)> {
     }
 }
 
-/// Tells which lines can't stand in a sign file before a mark.
-fn look_at_lines(found: &mut Findings, octets: &[u8]) -> Result<(), AllocError> {
+/// Tells which lines can't stand in a sign file before a mark. The error says that memory was refused.
+pub fn look_at_lines(found: &mut Findings, octets: &[u8]) -> Result<(), AllocError> {
     let mut at: usize = 0;
     for line in octets.split(|octet| *octet == b'\n') {
         if let Some((code, told)) = wrong_line(line) {
@@ -43,64 +38,22 @@ fn look_at_lines(found: &mut Findings, octets: &[u8]) -> Result<(), AllocError> 
     Ok(())
 }
 
-/// Tells where a text nests too deep, if it does, and whether it does.
-fn look_at_nesting(found: &mut Findings, text: &str) -> Result<bool, AllocError>
-    ensures deep { IfOk result (λ is_deep. is_deep ≡ true → ¬ (found.new.faults.items ≡ [])) }
-    ensures shallow { IfOk result (λ is_deep. is_deep ≡ false → is_shallow text.now ≡ true) }
-{
-    let at = match deep_at(found.alloc, text) {
-        Ok(Some(at)) => at,
-        Ok(None) => return Ok(false),
-        Err(_) => return Err(AllocError),
-    };
-    let told = found.at_octet(Code::TooDeep, text.as_bytes(), at, NESTING, &[])?;
-    found.faults.push(told)?;
-    Ok(true)
-}
-
-/// Tells each fault that is found in a document, and what its maker may not have meant, with their lines.
-fn look_at_document(found: &mut Findings, text: &str, table: &Table) -> Result<(), AllocError> {
+/// Tells each fault that is found in a document, which was read of this text, and what its maker may not have meant, with their lines.
+/// The error says that memory was refused.
+pub fn look_at_document(found: &mut Findings, text: &str, table: &Table) -> Result<(), AllocError> {
     look_at_file(found, table)?;
     number_lines(text.as_bytes(), found)
 }
 
-/// Tells each fault that is found in a text, and what its maker may not have meant.
-fn look_at_text(found: &mut Findings, text: &str) -> Result<(), AllocError>
-    ensures { OnOk result (found.new.faults.items ≡ [] → IsDocument text.now) }
-{
-    if look_at_nesting(found, text)? {
-        return Ok(());
-    }
-    let error = match toml::table_from_str(found.alloc, text) {
-        Ok(table) => return look_at_document(found, text, &table),
-        Err(error) if error.is_memory() => return Err(AllocError),
-        Err(error) => error,
-    };
-    let at = match error.span() {
-        Some(span) => span.start,
-        None => 0,
-    };
-    let fault = syntax_fault(found, text.as_bytes(), at, error.message())?;
-    found.faults.push(fault)?;
-    Ok(())
+/// What is told of octets that are UTF-8 only up to this one. The error says that memory was refused.
+pub fn encoding_fault(found: &Findings, octets: &[u8], at: usize) -> Result<Finding, AllocError> {
+    let told = "no text in UTF-8; the file must be saved as UTF-8";
+    found.at_octet(Code::NotText, octets, at, told, &[])
 }
 
-/// What is found in the octets of a sign file. Where no fault is found, they are a document that can be a sign file. The error says that
-/// memory was refused.
-pub fn find_in(alloc: Global, octets: &[u8]) -> Result<Findings, AllocError>
-    ensures { IfOk result (λ found. found.faults.items ≡ [] → IsDocument octets.now) }
-{
-    let mut found = Findings::new(alloc);
-    look_at_lines(&mut found, octets)?;
-    match str::from_utf8(octets) {
-        Ok(text) => look_at_text(&mut found, text)?,
-        Err(error) => {
-            let told = "no text in UTF-8; the file must be saved as UTF-8";
-            let fault = found.at_octet(Code::NotText, octets, error.valid_up_to(), told, &[])?;
-            found.faults.push(fault)?;
-        }
-    }
-    Ok(found)
+/// What is told of a text that nests too deep at this octet. The error says that memory was refused.
+pub fn nesting_fault(found: &Findings, text: &str, at: usize) -> Result<Finding, AllocError> {
+    found.at_octet(Code::TooDeep, text.as_bytes(), at, NESTING, &[])
 }
 
 /// Adds the permanent messages of the octets that the sign refuses, each with why: lines.

@@ -1,15 +1,17 @@
 //! `signctl explain`, which says of each message why it is refused, or draws its pages.
 
+use crate::annotations::annotations_of;
+use crate::beginning::Beginning;
 use crate::ends::{DONE, FAULTED, UNREAD, say_of_file, say_tool};
 use crate::front::{FileFault, Front};
-use command_line::{ExplainRequest, Messages, ReportFormat};
+use command_line::{ExplainRequest, ManyMessages, ReportFormat};
 use message_report::{Format, Telling};
 use sign_aids::{Counts, run_explain};
 use std::alloc::Global;
 use std::fs;
-use std::io::{BufReader, Read, Write};
+use std::io::{self, BufReader, Read, Write};
 use std::rt::Files;
-use tool_streams::ToolFault;
+use tool_streams::{ToolFault, write_whole};
 
 /// How messages are told of.
 fn telling_of(asked: &ExplainRequest<'_>) -> Telling {
@@ -17,8 +19,10 @@ fn telling_of(asked: &ExplainRequest<'_>) -> Telling {
         format: match asked.format {
             ReportFormat::Text => Format::Text,
             ReportFormat::Ansi => Format::Ansi,
-            ReportFormat::Lines => Format::Lines,
+            ReportFormat::Lines | ReportFormat::Annotations => Format::Lines,
             ReportFormat::Json => Format::Json,
+            ReportFormat::Mended => Format::Mended,
+            ReportFormat::Changed => Format::Changed,
         },
         phase: u64::from(asked.phase),
         refused_only: asked.refused_only,
@@ -27,88 +31,248 @@ fn telling_of(asked: &ExplainRequest<'_>) -> Telling {
 }
 
 /// Says how many messages there were.
-fn say_counts<E: Write>(counts: Counts, errors: &mut E) {
+fn say_counts<E: Write>(counts: Counts, is_mended: bool, errors: &mut E) {
     let Counts {
         messages,
         refused,
         warnings,
+        mended,
     } = counts;
+    if is_mended {
+        let left = refused.saturating_sub(mended);
+        let _ = writeln!(
+            errors,
+            "signctl: messages: {messages}, mended: {mended}, refused: {left}"
+        );
+        return;
+    }
     let _ = writeln!(
         errors,
         "signctl: messages: {messages}, refused: {refused}, warnings: {warnings}"
     );
 }
 
-/// The exit status of a run that explains messages, with what is said of it.
-fn end_of_explain<E: Write>(
-    end: Result<Counts, ToolFault>,
-    strict: bool,
-    front: &Front<'_>,
-    errors: &mut E,
-) -> u8 {
-    let counts = match end {
-        Ok(counts) => counts,
-        Err(fault) => {
-            say_tool(front, fault, errors);
-            return UNREAD;
+/// What was told of the messages of some files (own).
+#[derive(Clone, Copy)]
+struct Sum {
+    counts: Counts,
+    /// Whether all of them were read, and what is told of them was written.
+    is_whole: bool,
+}
+
+impl Sum {
+    /// That of no file.
+    fn new() -> Sum {
+        Sum {
+            counts: Counts {
+                messages: 0,
+                refused: 0,
+                warnings: 0,
+                mended: 0,
+            },
+            is_whole: true,
         }
+    }
+
+    /// With what was told of one more file.
+    fn add(&mut self, more: Counts) {
+        let sum = &mut self.counts;
+        sum.messages = sum.messages.saturating_add(more.messages);
+        sum.refused = sum.refused.saturating_add(more.refused);
+        sum.warnings = sum.warnings.saturating_add(more.warnings);
+        sum.mended = sum.mended.saturating_add(more.mended);
+    }
+}
+
+/// The exit status of a run that explains messages, with what is said of it.
+fn end_of_explain<E: Write>(sum: Sum, asked: &ExplainRequest<'_>, errors: &mut E) -> u8 {
+    let Sum { counts, is_whole } = sum;
+    if !is_whole {
+        return UNREAD;
+    }
+    let is_mended = matches!(asked.format, ReportFormat::Mended | ReportFormat::Changed);
+    if !asked.is_quiet {
+        say_counts(counts, is_mended, errors);
+    }
+    let is_refused = if is_mended {
+        counts.refused > counts.mended
+    } else {
+        counts.refused > 0
     };
-    say_counts(counts, errors);
-    if counts.refused > 0 || (strict && counts.warnings > 0) {
+    if is_refused || (asked.is_strict && counts.warnings > 0) {
         FAULTED
     } else {
         DONE
     }
 }
 
-/// Explains the messages of an input. The answer is the exit status.
+/// Explains the messages of a text, or writes them mended. Its first octets are read.
+fn explain_to<R: Read, W: Write, E: Write>(
+    alloc: Global,
+    asked: &ExplainRequest<'_>,
+    name: &str,
+    front: &Front<'_>,
+    first: &[u8],
+    reader: &mut R,
+    writer: &mut W,
+    errors: &mut E,
+) -> Result<Counts, ToolFault> {
+    let mut input = front.octets.as_slice().chain(first).chain(reader);
+    let (sample, telling) = (asked.sign.is_sample(), telling_of(asked));
+    let (name, before) = (name.as_bytes(), front.lines());
+    if asked.is_quiet {
+        let mut unsaid = io::sink();
+        return run_explain(
+            alloc,
+            sample,
+            telling,
+            name,
+            before,
+            &mut input,
+            writer,
+            &mut unsaid,
+        );
+    }
+    run_explain(
+        alloc, sample, telling, name, before, &mut input, writer, errors,
+    )
+}
+
+/// The same, and writes annotations in place of lines if these are asked for.
+fn explain_text<R: Read, W: Write, E: Write>(
+    alloc: Global,
+    asked: &ExplainRequest<'_>,
+    name: &str,
+    front: &Front<'_>,
+    first: &[u8],
+    reader: &mut R,
+    writer: &mut W,
+    errors: &mut E,
+) -> Result<Counts, ToolFault> {
+    if !matches!(asked.format, ReportFormat::Annotations) {
+        return explain_to(alloc, asked, name, front, first, reader, writer, errors);
+    }
+    let mut lines = Vec::new(alloc);
+    let end = explain_to(alloc, asked, name, front, first, reader, &mut lines, errors);
+    let Ok(annotations) = annotations_of(alloc, name, &lines) else {
+        return Err(ToolFault::Memory);
+    };
+    write_whole(writer, &annotations)?;
+    end
+}
+
+/// Explains the messages of an input. If it is UTF-16, that is said, and the sum isn't whole. The error is another fault.
 fn explain_input<R: Read, W: Write, E: Write>(
     alloc: Global,
     asked: &ExplainRequest<'_>,
     name: &str,
     front: &Front<'_>,
+    sum: &mut Sum,
     reader: &mut R,
     writer: &mut W,
     errors: &mut E,
-) -> u8 {
-    let mut input = front.octets.as_slice().chain(reader);
-    let end = run_explain(
-        alloc,
-        asked.sign.is_sample(),
-        telling_of(asked),
-        name.as_bytes(),
-        front.lines(),
-        &mut input,
-        writer,
-    );
-    end_of_explain(end, asked.is_strict, front, errors)
+) -> Result<(), ToolFault> {
+    let beginning = Beginning::read(reader)?;
+    if beginning.is_utf16() {
+        say_of_file(name, &FileFault::Utf16, errors);
+        sum.is_whole = false;
+        return Ok(());
+    }
+    let first = beginning.text();
+    sum.add(explain_text(alloc, asked, name, front, first, reader, writer, errors)?);
+    Ok(())
 }
 
-/// Explains the messages of a file. The answer is the exit status.
+/// Explains the messages of a file. If it can't be read, why is said, and the sum isn't whole. The error is another fault.
 fn explain_file<P: Files, W: Write, E: Write>(
     alloc: Global,
     files: &P,
     asked: &ExplainRequest<'_>,
     name: &str,
     front: &Front<'_>,
+    sum: &mut Sum,
     writer: &mut W,
     errors: &mut E,
-) -> u8 {
+) -> Result<(), ToolFault> {
     let file = match fs::open(files, name) {
         Ok(file) => file,
         Err(refusal) => {
             say_of_file(name, &FileFault::Unopened(refusal), errors);
-            return UNREAD;
+            sum.is_whole = false;
+            return Ok(());
         }
     };
     let Ok(mut file) = BufReader::new(alloc, file) else {
         say_of_file(name, &ToolFault::Memory, errors);
-        return UNREAD;
+        sum.is_whole = false;
+        return Ok(());
     };
-    explain_input(alloc, asked, name, front, &mut file, writer, errors)
+    explain_input(alloc, asked, name, front, sum, &mut file, writer, errors)
 }
 
-/// Explains the messages, and says how many there were. The answer is the exit status.
+/// Writes the name of a file before what people are told of its messages, if there are several.
+fn write_name<W: Write>(
+    asked: &ExplainRequest<'_>,
+    name: &str,
+    writer: &mut W,
+) -> Result<(), ToolFault> {
+    let is_for_people = matches!(asked.format, ReportFormat::Text | ReportFormat::Ansi);
+    if !is_for_people || !asked.messages.has_several() {
+        return Ok(());
+    }
+    write_whole(writer, b"==> ")?;
+    write_whole(writer, name.as_bytes())?;
+    write_whole(writer, b" <==\n")
+}
+
+/// Explains the messages of a file, or of the input.
+fn explain_named<P: Files, R: Read, W: Write, E: Write>(
+    alloc: Global,
+    files: &P,
+    asked: &ExplainRequest<'_>,
+    name: &str,
+    front: &Front<'_>,
+    sum: &mut Sum,
+    reader: &mut R,
+    writer: &mut W,
+    errors: &mut E,
+) -> Result<(), ToolFault> {
+    write_name(asked, name, writer)?;
+    if name != "-" {
+        return explain_file(alloc, files, asked, name, front, sum, writer, errors);
+    }
+    explain_input(alloc, asked, name, front, sum, reader, writer, errors)
+}
+
+/// Explains the messages of all files, or those of the command line.
+fn explain_all<P: Files, R: Read, W: Write, E: Write>(
+    alloc: Global,
+    files: &P,
+    asked: &ExplainRequest<'_>,
+    front: &Front<'_>,
+    sum: &mut Sum,
+    reader: &mut R,
+    writer: &mut W,
+    errors: &mut E,
+) -> Result<(), ToolFault> {
+    let names = match &asked.messages {
+        ManyMessages::Files(names) => names,
+        ManyMessages::Given(lines) => {
+            let mut given = lines.as_slice();
+            sum.add(explain_text(alloc, asked, "-", front, b"", &mut given, writer, errors)?);
+            return Ok(());
+        }
+    };
+    for name in names.iter() {
+        explain_named(
+            alloc, files, asked, *name, front, sum, reader, writer, errors,
+        )?;
+    }
+    Ok(())
+}
+
+/// Explains the messages, and says how many there were. A file that can't be opened is passed over, and any other fault ends the run. The
+/// answer is the exit status.
 pub(crate) fn answer_explain<P: Files, R: Read, W: Write, E: Write>(
     alloc: Global,
     files: &P,
@@ -118,12 +282,12 @@ pub(crate) fn answer_explain<P: Files, R: Read, W: Write, E: Write>(
     writer: &mut W,
     errors: &mut E,
 ) -> u8 {
-    match &asked.messages {
-        Messages::Input => explain_input(alloc, asked, "-", front, reader, writer, errors),
-        Messages::File(name) => explain_file(alloc, files, asked, name, front, writer, errors),
-        Messages::Given(lines) => {
-            let mut given = lines.as_slice();
-            explain_input(alloc, asked, "-", front, &mut given, writer, errors)
+    let mut sum = Sum::new();
+    match explain_all(alloc, files, asked, front, &mut sum, reader, writer, errors) {
+        Ok(()) => end_of_explain(sum, asked, errors),
+        Err(fault) => {
+            say_tool(front, fault, errors);
+            UNREAD
         }
     }
 }

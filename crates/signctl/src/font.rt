@@ -1,7 +1,7 @@
-//! `signctl font`, which makes a font of a sign file from a font in BDF.
+//! `signctl font`, which makes a font of a sign file from a font in BDF or a font table of NTCIP 1203.
 
 use command_line::{Characters, FontRequest, OutsideChoice};
-use file_aids::{FontFault, run_font};
+use file_aids::{FontFault, run_font, run_listing};
 use font_bdf::{CharacterRange, FontSetting, Outside};
 use std::alloc::{AllocError, Global};
 use std::io::{Read, Write};
@@ -26,6 +26,9 @@ pub(crate) fn answer_font<R: Read, W: Write>(
     reader: &mut R,
     writer: &mut W,
 ) -> Result<(), FontFault> {
+    if asked.is_table {
+        return run_listing(alloc, reader, writer);
+    }
     let Ok(characters) = ranges_of(alloc, &asked.characters) else {
         return Err(FontFault::Tool(ToolFault::Memory));
     };
@@ -33,6 +36,7 @@ pub(crate) fn answer_font<R: Read, W: Write>(
         number: asked.number,
         version: asked.version,
         char_spacing: asked.char_spacing,
+        written_spacing: asked.written_spacing,
         line_spacing: asked.line_spacing,
         characters: &characters,
         outside: match asked.outside {

@@ -1,4 +1,4 @@
-//! What stands before the input: the sign file that the command line names, and the mark behind it.
+//! What stands before the input: the sign file that the command line names, and the mark after it.
 
 use command_line::SignSource;
 use std::alloc::Global;
@@ -17,6 +17,9 @@ pub(crate) enum FileFault {
     /// It can't be read, or has too many octets, or memory was refused.
     #[error("{0}")]
     Unread(ToolFault),
+    /// It begins with a byte-order mark of UTF-16.
+    #[error("this is UTF-16; write it in UTF-8")]
+    Utf16,
 }
 
 /// What stands before the input (own).
@@ -48,7 +51,7 @@ pub(crate) struct Told<'a> {
     pub(crate) fault: ToolFault,
 }
 
-/// Reads a sign file, with the mark behind it.
+/// Reads a sign file, with the mark after it.
 fn read_file<P: Files>(alloc: Global, files: &P, name: &str) -> Result<Vec<u8>, FileFault> {
     let file = match fs::open(files, name) {
         Ok(file) => file,

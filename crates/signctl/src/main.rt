@@ -23,7 +23,7 @@
 //!
 //! `signctl serve` reads lines for one sign for as long as they come, and each gets one reply: those of a script, in which an empty line
 //! and one that begins with `#` get `ok`, and the others of `sign_script`'s table. A line that is none of them gets `bad line`, and one
-//! with too many octets `too long`; the sign goes on after it. What stands behind the last line feed is a line.
+//! with too many octets `too long`; the sign goes on after it. What stands after the last line feed is a line.
 //!
 //! `signctl explain` reads what `check` reads, or in place of message lines the file that is named, or the messages of `-m`. It says of
 //! each message why it is refused, or draws its pages, and warns of what can hardly be meant. `--phase` says when each page is drawn, in
@@ -42,12 +42,17 @@
 //! place of the description, `--format lines` what was found as editors read it, `--format json` all of it in JSON, and with `--strict` a
 //! warning counts as a fault.
 //!
-//! `signctl font` reads a font in BDF, of the input or of the file that is named, and writes it as the `[[font]]` table of a sign file. `--number`, `--version`, `--char-spacing` and
-//! `--line-spacing` are the font's. `--first` and `--last`, or `--characters`, choose what is taken, and `--outside` says what is done with
-//! a character that reaches outside its cell. `--crop` takes off the rows at the top and at the bottom without a pixel, and `--height` adds
-//! such rows.
+//! `signctl font` reads a font in BDF, of the input or of the file that is named, and writes it as the `[[font]]` table of a sign file.
+//! `--number`, `--version`, `--char-spacing` and `--line-spacing` are the font's. `--first` and `--last`, or `--characters`, choose what is
+//! taken, and `--outside` says what is done with a character that reaches outside its cell. `--crop` takes off the rows at the top and at
+//! the bottom without a pixel, and `--height` adds such rows.
 //!
 //! `signctl --version` writes the version, and each command with `--help` its options.
+//!
+//! Where the command line names no sign, the variable `SIGNCTL_SIGN` names its file. `explain` draws pages in colours as with `--ansi` if
+//! the output is a terminal whose `COLORTERM` is `truecolor` or `24bit`, unless `NO_COLOR` is set.
+//!
+//! A byte-order mark at the beginning of a file that is named, or of what `explain` reads, is passed over; one of UTF-16 is a fault.
 //!
 //! A line ends with a line feed, and one carriage return before that is dropped. What is left has at most 8,300 octets.
 //! An input has at most 16,777,216 octets, with those of the sign file, but for the lines of `serve`. The first fault ends the run, after
@@ -66,7 +71,7 @@
 //! | `no such page: the last is N` | the message has no such page |
 //! | `too long: ..`, `too large: ..` | the message plays for longer than a film lasts, or the film has too many octets |
 //! | `read failed`, `write failed`, `out of memory` | what they say |
-//! | `FILE: ` and what is wrong | the file that is named can't be opened or read, or the sign of a sign file has this fault, of which `signctl sign FILE` says more |
+//! | `FILE: ` and what is wrong | the file that is named isn't read, or its sign has this fault: `signctl sign FILE` says more |
 //! | `line N: ` and what is wrong | the line of a font in BDF is wrong, as `font_bdf::BdfProblem` says |
 //!
 //! Lines are counted from 1, from the start of the sign file where the input has one.
@@ -79,6 +84,8 @@
 //! | 3 | of `explain`: the sign file or the messages weren't read, or what is told wasn't written |
 #![tactic(auto)]
 
+mod annotations;
+mod beginning;
 mod ends;
 mod explain;
 mod font;
@@ -86,24 +93,81 @@ mod front;
 mod main_with;
 mod picture;
 
-use std::io::BufReader;
+use command_line::Surroundings;
+use std::alloc::AllocError;
+use std::env::VarError;
+use std::io::{BufReader, IsTerminal};
 use std::process::ExitCode;
 use std::{env, io};
 
+/// The variable that names the sign file of command lines that name no sign (own).
+const SIGN: &str = "SIGNCTL_SIGN";
+
+/// A variable of the environment, if it has text. The error says that memory was refused.
+fn text_of(rt: &HostRuntime, name: &str) -> Result<Option<String>, AllocError> {
+    match env::var(rt, name) {
+        Ok(text) => {
+            if text.as_str().is_empty() {
+                return Ok(None);
+            }
+            Ok(Some(text))
+        }
+        Err(VarError::OutOfMemory) => Err(AllocError),
+        Err(_) => Ok(None),
+    }
+}
+
+/// Whether a terminal says of itself that it has 24-bit colours.
+fn is_coloured(rt: &HostRuntime) -> Result<bool, AllocError> {
+    match text_of(rt, "COLORTERM")? {
+        Some(kind) => Ok(kind.as_str() == "truecolor" || kind.as_str() == "24bit"),
+        None => Ok(false),
+    }
+}
+
+/// Whether a person reads the output, in colours that aren't turned off (https://no-color.org).
+fn has_colours(rt: &HostRuntime) -> Result<bool, AllocError> {
+    if !rt.stdout().is_terminal() || !is_coloured(rt)? {
+        return Ok(false);
+    }
+    Ok(text_of(rt, "NO_COLOR")?.is_none())
+}
+
 /// Runs the tool over the standard streams. If there is no memory for a buffer, it asks the system for each octet of a sign
-/// file.
-fn run(rt: &HostRuntime, words: &[&str]) -> u8 {
+/// file. The error says that memory was refused for what the environment has.
+fn run(rt: &HostRuntime, words: &[&str]) -> Result<u8, AllocError> {
     let alloc = rt.alloc();
+    let sign = text_of(rt, SIGN)?;
+    let around = Surroundings {
+        sign: match &sign {
+            Some(name) => Some(name.as_str()),
+            None => None,
+        },
+        has_colours: has_colours(rt)?,
+    };
     let mut output = rt.stdout();
     let mut errors = rt.stderr();
-    match BufReader::new(alloc, rt.stdin()) {
-        Ok(mut input) => {
-            main_with::main_with(alloc, rt, words, &mut input, &mut output, &mut errors)
-        }
-        Err(_) => {
-            main_with::main_with(alloc, rt, words, &mut rt.stdin(), &mut output, &mut errors)
-        }
-    }
+    let status = match BufReader::new(alloc, rt.stdin()) {
+        Ok(mut input) => main_with::main_with(
+            alloc,
+            rt,
+            words,
+            around,
+            &mut input,
+            &mut output,
+            &mut errors,
+        ),
+        Err(_) => main_with::main_with(
+            alloc,
+            rt,
+            words,
+            around,
+            &mut rt.stdin(),
+            &mut output,
+            &mut errors,
+        ),
+    };
+    Ok(status)
 }
 
 /// Runs the tool on the words of its command line. It is an `Err` if a word is no text, or if there is no memory for the
@@ -115,7 +179,7 @@ fn run_words(rt: &HostRuntime) -> io::Result<u8> {
     for word in owned.iter() {
         words.push(word.as_str())?;
     }
-    Ok(run(rt, &words))
+    Ok(run(rt, &words)?)
 }
 
 fn main(rt: HostRuntime) -> ExitCode {

@@ -1,9 +1,9 @@
 //! `signctl picture`, which writes a message as a picture.
 ghost use Rattle.message_picture.specs.Drawn.{AllowsSeconds};
 
-use command_line::{PictureRequest, Shown};
+use command_line::{LitChoice, PictureRequest, Shown};
 use message_picture::{Moment, View};
-use sign_aids::{PictureFault, draw_picture, run_picture};
+use sign_aids::{Lit, PictureFault, draw_picture, run_picture};
 use std::alloc::Global;
 use std::fs;
 use std::io::{Read, Write};
@@ -38,6 +38,16 @@ fn view_of(shown: Shown, is_gif: bool) -> View
     }
 }
 
+/// The colour of lit pixels.
+fn lit_of(lit: LitChoice) -> Lit {
+    match lit {
+        LitChoice::Amber => Lit::Amber,
+        LitChoice::White => Lit::White,
+        LitChoice::Red => Lit::Red,
+        LitChoice::Green => Lit::Green,
+    }
+}
+
 /// Makes a file, in place of one that was there, and writes it.
 fn write_file<P: Files>(files: &P, name: &str, octets: &[u8]) -> Result<(), ToolFault> {
     let Ok(mut file) = fs::create(files, name) else {
@@ -50,17 +60,21 @@ fn write_file<P: Files>(files: &P, name: &str, octets: &[u8]) -> Result<(), Tool
 pub(crate) fn answer_picture<P: Files, R: Read, W: Write>(
     alloc: Global,
     files: &P,
-    asked: PictureRequest<'_>,
+    asked: &PictureRequest<'_>,
     reader: &mut R,
     writer: &mut W,
 ) -> Result<(), PictureFault> {
     let view = view_of(asked.shown, asked.is_gif);
     let side = asked.side.min(16);
+    let lit = match asked.lit {
+        Some(lit) => Some(lit_of(lit)),
+        None => None,
+    };
     let sample = asked.sign.is_sample();
     let Some(name) = asked.file else {
-        return run_picture(alloc, sample, view, side, reader, writer);
+        return run_picture(alloc, sample, view, side, lit, reader, writer);
     };
-    let octets = match draw_picture(alloc, sample, view, side, reader) {
+    let octets = match draw_picture(alloc, sample, view, side, lit, reader) {
         Ok(octets) => octets,
         Err(fault) => return Err(fault),
     };

@@ -28,7 +28,7 @@ passed octets start end count fits =
     ∙ sym (drop-take count (end - (start + count)) (drop start octets))
     ∙ ap (λ n. drop count (take n (drop start octets))) (sym some)
 
--- what was read behind what waits is added to it
+-- what was read after what waits is added to it
 pub added : (octets read rest : List ℕ) (start end count : ℕ) → start ≤ end → end ≤ length octets → count ≤ length read
     → slice_range (take end octets ++ (read ++ rest)) start (end + count) ≡ slice_range octets start end ++ take count read
 added octets read rest start end count ordered fits few =
@@ -133,7 +133,7 @@ module _ (octets hay : List ℕ) (seen : ℕ) (is : hay ≡ drop seen octets) (f
       sym (take-append-drop seen octets) ∙ ap (λ l. take seen octets ++ l) (sym is ∙ sym (take_all (length hay) hay (omega arith))) in
       subst IsOneLine (sym all) (All-append (λ c. c ≢ 10) (take seen octets) (take (length hay) hay) none (none_in hay (length hay) before))
 
--- ---- behind what is held
+-- ---- after what is held
 
 pub Consumes-held : (a b : Option (List ℕ)) (held more : List ℕ) → Consumes a b more → Consumes (prepend_known held a) b (held ++ more)
 Consumes-held None b held more c = tt
@@ -163,7 +163,7 @@ passes_front (Some x) None rest front others taken is c = absurd c
 passes_front (Some x) (Some y) rest front others taken is c =
     c ∙ ap (λ l. taken ++ (l ++ y)) is ∙ ap (λ l. taken ++ l) (append_assoc front others y) ∙ sym (append_assoc taken front (others ++ y))
 
--- more is read behind it
+-- more is read after it
 pub reads_behind : (a b c : Option (List ℕ)) (rest more taken : List ℕ) → Consumes b c more → Consumes a (prepend_known rest b) taken → Consumes a (prepend_known (rest ++ more) c) taken
 reads_behind None b c rest more taken took t = tt
 reads_behind (Some x) None c rest more taken took t = absurd t
@@ -307,12 +307,12 @@ held_past (Some x) held number left one past most =
       omega (arith, length-take left held),
     )
 
--- a reader fails behind what is held
+-- a reader fails after what is held
 pub held_failing : (old new : Option (List ℕ)) (held : List ℕ) (number left : ℕ) (e : ToolFault) → IsOneLine held → length held ≤ left → (e ≡ faults.Read) × Keeps old new → EndsWith (prepend_known held old) new number left e
 held_failing old new held number left e one few read =
     subst (EndsWith (prepend_known held old) new number left) (sym read.0) (held, Consumes-all_held old new held read.1, few, one)
 
--- the input ends behind what is held
+-- the input ends after what is held
 pub held_last : (old new : Option (List ℕ)) (held more : List ℕ) (number left count : ℕ) → IsOneLine held → length held ≤ left → 0 < length held → count ≡ 0 → length more ≡ count → Consumes old new more → IsAtEnd new
     → EndsWith (prepend_known held old) new number left (faults.BadLine number)
 held_last old new held [] number left count one few some none size took end =

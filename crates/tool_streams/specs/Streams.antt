@@ -54,12 +54,18 @@ IsLineFault number left more input faults.Write = Unit {0}
 IsLineFault number left more input faults.Memory = Unit {0}
 IsLineFault number left more input e = ⊥
 
--- A fault where a whole input is read: it has more octets than an input may have, or the reader failed, or memory was refused (own).
+-- Why a whole input isn't read of which these octets are: there are more than an input may have, or the reader failed, or memory was
+-- refused (own).
+abbrev pub StopsAfter : List ℕ → ToolFault → Type 0
+StopsAfter octets faults.InputTooLong = input_limit < length octets
+StopsAfter octets faults.Read = Unit {0}
+StopsAfter octets faults.Memory = Unit {0}
+StopsAfter octets e = ⊥
+
+-- A fault where a whole input is read: no more than 4,096 octets are taken past those that an input may have (own).
 abbrev pub IsReadFault : Option (List ℕ) → Option (List ℕ) → ToolFault → Type 0
-IsReadFault old new faults.InputTooLong = (octets : List ℕ) × Consumes old new octets × (input_limit < length octets)
-IsReadFault old new faults.Read = Unit {0}
-IsReadFault old new faults.Memory = Unit {0}
-IsReadFault old new e = ⊥
+IsReadFault old new fault =
+    (octets : List ℕ) × Consumes old new octets × (length octets ≤ input_limit + 4096) × StopsAfter octets fault
 
 -- A sign file is read to its end, and octets are those of the file, a line feed that ends its last line, and a line with the mark (own).
 abbrev pub IsSignPart : Option (List ℕ) → Option (List ℕ) → List ℕ → Type 0

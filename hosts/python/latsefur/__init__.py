@@ -12,8 +12,8 @@
 from . import script
 from .controller import NO_END, ActivationCode, Controller, EndCode, message_crc
 from .errors import (
-    BadLength, CommandRefused, LatsefurError, LibraryNotFound, NoController, NoDefault, NoFont, NoMemory, NoPage, NoSignFile, NotAnOctet,
-    Outcome, SignFault, TableFault, TextRefused, TextTooLong, TooSmall, WrongLibrary,
+    BadLength, BadValue, CommandRefused, LargeFilm, LatsefurError, LibraryNotFound, LongFilm, NoController, NoDefault, NoFont, NoMemory, NoPage,
+    NoSignFile, NotAnOctet, Outcome, SignFault, StateRefused, TableFault, TextRefused, TextTooLong, TooSmall, WrongLibrary,
 )
 from .library import Library, load
 from .picture import COLOURS, Picture, Plane, Shown
@@ -27,15 +27,16 @@ from .served import NoAnswer, ProgramNotFound, SignStopped
 from .sign import Sign, Verdict
 from .simulated import SimulatedSign, UnexpectedReply
 from .values import (
-    ActivateError, Default, DefaultError, Memory, MultiError, Request, SourceMode, Status, TableError, Text, ValidateError
+    ActivateError, Default, DefaultError, Memory, MultiError, Request, SourceMode, StateFault, Status, TableError, Text, ValidateError
 )
 
 __all__ = [
-    "COLOURS", "NO_END", "ActivateError", "Activated", "ActivationCode", "BadLength", "BadLine", "CommandRefused", "Controller",
-    "Default", "DefaultError", "Defaults", "Display", "Done", "EndCode", "Ended", "Font", "Frame", "Idle", "LatsefurError", "Library",
-    "LibraryNotFound", "Memory", "Message", "MessageSign", "MultiError", "NoAnswer", "NoController", "NoDefault", "NoFont", "NoMemory",
-    "NoPage", "NoSignFile", "NotAnOctet", "NotSet", "NotShown", "Outcome", "Picture", "Plane", "ProgramNotFound", "Refusal", "Refused",
-    "Reply", "Report", "Request", "Shown", "Sign", "SignFault", "SignStopped", "SimulatedSign", "SourceMode", "Status", "Table",
-    "TableError", "TableFault", "Text", "TextRefused", "TextTooLong", "Ticked", "TooSmall", "UnexpectedReply", "ValidateError", "Verdict",
-    "Worked", "WrongLibrary", "load", "message_crc", "script",
+    "COLOURS", "NO_END", "ActivateError", "Activated", "ActivationCode", "BadLength", "BadLine", "BadValue", "CommandRefused",
+    "Controller", "Default", "DefaultError", "Defaults", "Display", "Done", "EndCode", "Ended", "Font", "Frame", "Idle", "LargeFilm",
+    "LatsefurError", "Library", "LibraryNotFound", "LongFilm", "Memory", "Message", "MessageSign", "MultiError", "NoAnswer",
+    "NoController", "NoDefault", "NoFont", "NoMemory", "NoPage", "NoSignFile", "NotAnOctet", "NotSet", "NotShown", "Outcome", "Picture",
+    "Plane", "ProgramNotFound", "Refusal", "Refused", "Reply", "Report", "Request", "Shown", "Sign", "SignFault", "SignStopped",
+    "SimulatedSign", "SourceMode", "StateFault", "StateRefused", "Status", "Table", "TableError", "TableFault", "Text", "TextRefused",
+    "TextTooLong", "Ticked", "TooSmall", "UnexpectedReply", "ValidateError", "Verdict", "Worked", "WrongLibrary", "load", "message_crc",
+    "script",
 ]

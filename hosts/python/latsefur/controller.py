@@ -3,12 +3,12 @@ from __future__ import annotations
 
 import threading
 import weakref
-from ctypes import byref, c_uint32, c_uint64, create_string_buffer
+from ctypes import byref, c_size_t, c_uint8, c_uint32, c_uint64, create_string_buffer
 from dataclasses import dataclass
 from types import TracebackType
 from typing import Any, NoReturn, Optional, SupportsIndex, Union
 
-from .errors import CommandRefused
+from .errors import CommandRefused, StateRefused
 from .library import (
     DONE, REFUSED, DefaultFacts, FontFacts, Handle, Library, MessageFacts, PathLike, ReplyFacts, ReportFacts, ShownFacts, TableFacts, VerdictFacts,
     load,
@@ -19,8 +19,8 @@ from .replies import (
 )
 from .sign import MOST_CLOCK, Sign, Verdict, shown_of, told_verdict
 from .values import (
-    ActivateError, DefaultError, Memory, MultiError, Octets, Request, SourceMode, Status, TableError, Text, ValidateError, number_of, octets_of,
-    raw_octets,
+    ActivateError, DefaultError, Memory, MultiError, Octets, Request, SourceMode, StateFault, Status, TableError, Text, ValidateError, number_of,
+    octets_of, raw_octets,
 )
 
 # A text has at most 4,096 octets in the table of any sign, and an owner 127.
@@ -350,6 +350,36 @@ class Controller:
         steps = c_uint64()
         self._call("steps", byref(steps))
         return steps.value
+
+    # The state as octets, for a host that survives a loss of power. These calls need a library of version 3.
+
+    def save(self) -> bytes:
+        """The messages, what the display shows and since when, the defaults and the codes, as octets that `restore` takes."""
+        with self._lock:
+            size, count = c_size_t(), c_size_t()
+            self._call("save_size", byref(size))
+            buffer = create_string_buffer(size.value)
+            self._call("save", buffer, len(buffer), byref(count))
+            return buffer.raw[:count.value]
+
+    def restore(self, octets: Octets) -> None:
+        """Restores what a controller of the same sign file saved. Raises `StateRefused`, and then only the count of steps has changed."""
+        saved, fault = raw_octets("octets", octets), c_uint8()
+        if self._call("restore", saved, len(saved), byref(fault), answers=(DONE, REFUSED)) == REFUSED:
+            raise StateRefused(StateFault(fault.value))
+
+    def revision(self) -> int:
+        """A number that rises whenever more than the time has changed of what `save` saves; 2**64 - 1 may stand for more."""
+        revision = c_uint64()
+        self._call("revision", byref(revision))
+        return revision.value
+
+    def end(self) -> EndCode:
+        """The message that follows a duration, as `set_end` has set it."""
+        buffer = create_string_buffer(5)
+        self._call("end", buffer, len(buffer))
+        memory, number, crc = buffer.raw[0], int.from_bytes(buffer.raw[1:3], "big"), int.from_bytes(buffer.raw[3:5], "big")
+        return EndCode(memory, number, crc)
 
     def _call(self, name: str, *words: Any, answers: tuple[int, ...] = (DONE,)) -> int:
         with self._lock:

@@ -9,6 +9,7 @@ from typing import TYPE_CHECKING, Optional
 
 if TYPE_CHECKING:
     from .replies import Reply
+    from .values import StateFault
 
 
 class LatsefurError(Exception):
@@ -45,8 +46,24 @@ class CommandRefused(LatsefurError):
         self.reply = reply
 
     def __str__(self) -> str:
-        why = getattr(self.reply, "why", None)
-        return f"the sign replies {str(self.reply)!r}" + (f": {why.name.lower().replace('_', ' ')}" if why else "")
+        return f"the sign replies {str(self.reply)!r}{because(self.reply)}"
+
+
+def because(reply: Optional[Reply]) -> str:
+    """The sentence of why a reply refuses, behind a colon, if it says why."""
+    why = getattr(reply, "why", None)
+    return "" if why is None else f": {why}"
+
+
+class StateRefused(LatsefurError, ValueError):
+    """Saved octets aren't taken. `why` says why: a `StateFault`."""
+
+    def __init__(self, why: StateFault) -> None:
+        super().__init__(why)
+        self.why = why
+
+    def __str__(self) -> str:
+        return f"the saved octets aren't taken: {self.why}"
 
 
 class Outcome(LatsefurError):
@@ -131,11 +148,29 @@ class NoFont(Outcome, LookupError):
     number, said = 12, "the sign has no such font"
 
 
+class BadValue(Outcome, ValueError):
+    """A number of a film is outside its range. This package looks at them first, so it isn't seen."""
+
+    number, said = 13, "a number is outside its range"
+
+
+class LargeFilm(Outcome, ValueError):
+    """The film would have more than 64,000,000 octets."""
+
+    number, said = 14, "the film would have more than 64,000,000 octets"
+
+
+class LongFilm(Outcome, ValueError):
+    """The text begins anew after more than ten minutes; a film of so many seconds may be asked for."""
+
+    number, said = 15, "the text begins anew after more than ten minutes"
+
+
 NAMED: dict[int, type[Outcome]] = {
     known.number: known
     for known in (
         TextRefused, NoMemory, NoSignFile, SignFault, TooSmall, NoPage, TextTooLong, TableFault, NoController, BadLength, NoDefault,
-        NoFont,
+        NoFont, BadValue, LargeFilm, LongFilm,
     )
 }
 

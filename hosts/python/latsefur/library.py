@@ -10,14 +10,18 @@ import os
 import struct
 import threading
 from array import array
-from ctypes import POINTER, Structure, c_char, c_char_p, c_size_t, c_uint8, c_uint16, c_uint32, c_uint64, c_void_p, cast
+from ctypes import (
+    POINTER, Structure, byref, c_char, c_char_p, c_size_t, c_uint8, c_uint16, c_uint32, c_uint64, c_void_p, cast, create_string_buffer,
+)
 from itertools import accumulate
 from pathlib import Path
 from typing import Any, Optional, Sequence, Union
 
 from .errors import LibraryNotFound, WrongLibrary, named
 
-DONE, REFUSED = 0, 1
+DONE, REFUSED, TOO_SMALL, BAD_VALUE = 0, 1, 5, 13
+# The most octets of a sentence.
+MOST_SENTENCE = 64
 
 # The variable that names a library, and the file's name in the package and in the repository.
 VARIABLE = "LATSEFUR_LIBRARY"
@@ -172,7 +176,7 @@ EXPORTS: dict[str, list[Any]] = {
     "row": [*MESSAGE, POINTER(MessageFacts), *BUFFER, *BUFFER],
     "frame": [*HANDLE, c_uint8, POINTER(ShownFacts), *BUFFER],
 }
-# The calls that a library of version 2 has more.
+# The calls that a library of version 2 has more, and from `explain` on those of version 3.
 LATER: dict[str, list[Any]] = {
     "colours": [*HANDLE, POINTER(ShownFacts), *BUFFER],
     "next_change": [*HANDLE, c_uint32, POINTER(c_uint32)],
@@ -181,6 +185,14 @@ LATER: dict[str, list[Any]] = {
     "held_check": [*HANDLE, *OCTETS, POINTER(VerdictFacts)],
     "held_plane_of_page": [*HANDLE, *OCTETS, c_uint8, c_uint64, c_uint8, *BUFFER],
     "held_colours_of_page": [*HANDLE, *OCTETS, c_uint8, c_uint64, *BUFFER],
+    "explain": [*OCTETS, *OCTETS, c_uint8, *BUFFER, POINTER(c_size_t)],
+    "film": [*OCTETS, *OCTETS, c_uint8, c_uint16, *BUFFER, POINTER(c_size_t)],
+    "sentence": [c_uint8, c_uint8, *BUFFER, POINTER(c_size_t)],
+    "save_size": [*HANDLE, POINTER(c_size_t)],
+    "save": [*HANDLE, *BUFFER, POINTER(c_size_t)],
+    "restore": [*HANDLE, *OCTETS, POINTER(c_uint8)],
+    "revision": [*HANDLE, POINTER(c_uint64)],
+    "end": [*HANDLE, *BUFFER],
 }
 OTHERS: dict[str, tuple[Any, list[Any]]] = {
     "controller_free": (None, HANDLE),
@@ -254,3 +266,11 @@ def load(path: Optional[PathLike] = None) -> Library:
         if there not in LOADED:
             LOADED[there] = Library(there)
         return LOADED[there]
+
+
+def sentence_of(kind: int, number: int) -> Optional[str]:
+    """The sentence of a number of a kind, or `None` if it has none."""
+    buffer, count = create_string_buffer(MOST_SENTENCE), c_size_t()
+    if load().call("sentence", kind, number, buffer, len(buffer), byref(count), answers=(DONE, BAD_VALUE)) == BAD_VALUE:
+        return None
+    return buffer.raw[:count.value].decode("ascii")

@@ -73,8 +73,8 @@ class MessageSign(Protocol):
         """The defaults in force."""
 
     def check(self, text: Text) -> Verdict:
-        """The verdict on a text by the defaults in force. A simulated sign takes a text of one line and at most 4,096
-        octets, and doesn't tell the `cycle`, which is then 0."""
+        """The verdict on a text by the defaults in force. A simulated sign takes a text of at most 4,096 octets, and
+        doesn't tell the `cycle`, which is then 0."""
 
     def frame(self, colour: SupportsIndex = 1) -> Frame:
         """What the display shows now, and which pixels have a colour."""
@@ -84,6 +84,12 @@ class MessageSign(Protocol):
 
     def next_change(self, most: SupportsIndex) -> int:
         """For how many tenths of a second, at most `most`, what the display shows stays as it is if no command comes."""
+
+    def save(self) -> bytes:
+        """The state as octets that `restore` takes. A simulated sign saves at most 4,146."""
+
+    def restore(self, octets: Octets) -> None:
+        """Restores what a sign of the same sign file saved, of either kind."""
 
     def close(self) -> None:
         """Ends it."""

@@ -2,7 +2,7 @@
 from __future__ import annotations
 
 from dataclasses import dataclass
-from typing import Optional
+from typing import Optional, Union
 
 from .errors import CommandRefused
 from .picture import Picture, Plane, Shown
@@ -67,6 +67,11 @@ class Worked(Reply):
     validate_error: ValidateError
     multi_error: MultiError
     multi_position: int
+
+    @property
+    def why(self) -> Union[MultiError, ValidateError]:
+        """Why the message isn't valid: what is wrong with its text, or with the rest of it. NONE of a valid one."""
+        return self.multi_error if self.validate_error == ValidateError.SYNTAX_MULTI else self.validate_error
 
     def __str__(self) -> str:
         return f"worked {self.number} {int(self.status)} {int(self.validate_error)} {int(self.multi_error)} {self.multi_position}"

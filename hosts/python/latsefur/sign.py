@@ -1,14 +1,15 @@
 """A sign, which judges texts and draws their pages."""
 from __future__ import annotations
 
-from ctypes import byref, create_string_buffer
+import json
+from ctypes import byref, c_size_t, create_string_buffer
 from dataclasses import dataclass
 from functools import lru_cache
 from pathlib import Path
 from typing import TYPE_CHECKING, Any, Callable, Iterable, Optional, SupportsIndex, Union
 
 from .errors import TextTooLong
-from .library import DONE, RECORD, REFUSED, VERDICT, Library, PathLike, ShownFacts, SignFacts, Texts, VerdictFacts, load
+from .library import DONE, RECORD, REFUSED, TOO_SMALL, VERDICT, Library, PathLike, ShownFacts, SignFacts, Texts, VerdictFacts, load
 from .picture import Picture, Plane, Shown, stride_of
 from .values import MultiError, Octets, Text, number_of, octets_of, raw_octets, texts_of
 
@@ -16,6 +17,8 @@ if TYPE_CHECKING:
     import numpy
 
 MOST_CLOCK = 2**64 - 1
+# How much room is lent to the first call for a record or a film; a second call has as much as the first one says.
+FIRST_RECORD, FIRST_FILM = 4096, 65536
 
 
 @dataclass(frozen=True)
@@ -170,6 +173,22 @@ class Sign:
         words = number_of("page", page, 255), number_of("phase", phase, MOST_CLOCK), number_of("colour", colour, 255)
         return self._plane("plane_of_page", text, *words)
 
+    def explain(self, text: Text, pictures: bool = False) -> dict[str, Any]:
+        """What the sign says to a text and why, as `signctl explain --format json` tells it: the record that `docs/explain.schema.json` describes.
+        With `pictures` each page has its picture. A text of more than 4,096 octets isn't judged. The library is of version 3."""
+        octets = octets_of(text)
+        told: dict[str, Any] = json.loads(self._told("explain", FIRST_RECORD, octets, len(octets), bool(pictures)))
+        return told
+
+    def film(self, text: Text, side: SupportsIndex = 8, seconds: Optional[SupportsIndex] = None) -> bytes:
+        """A text as it plays, over and over, as a file in GIF: until it begins anew, or for its first seconds, 1 to 600. A pixel is a square of
+        `side` by `side` points, 1 to 16. Raises `TextRefused`, `LargeFilm` and `LongFilm`. The library is of version 3."""
+        octets = octets_of(text)
+        wide, long = number_of("side", side, 16), 0 if seconds is None else number_of("seconds", seconds, 600)
+        if wide == 0 or (seconds is not None and long == 0):
+            raise ValueError("a side is 1 to 16 points, and a film lasts for 1 to 600 seconds")
+        return self._told("film", FIRST_FILM, octets, len(octets), wide, long)
+
     def __repr__(self) -> str:
         colours = "ten colours" if self.classic else "one colour"
         return f"<Sign, {self.width} by {self.height} pixels of {colours}>"
@@ -187,6 +206,15 @@ class Sign:
 
     def _call(self, name: str, *words: Any, answers: tuple[int, ...] = (DONE,)) -> int:
         return self._library.call(name, self._octets, len(self._octets), *words, answers=answers)
+
+    def _told(self, name: str, room: int, *words: Any) -> bytes:
+        """What a call tells, which may say how much room it needs."""
+        count = c_size_t()
+        buffer = create_string_buffer(room)
+        if self._call(name, *words, buffer, len(buffer), byref(count), answers=(DONE, TOO_SMALL)) == TOO_SMALL:
+            buffer = create_string_buffer(count.value)
+            self._call(name, *words, buffer, len(buffer), byref(count))
+        return buffer.raw[:count.value]
 
     def _check_all(self, texts: Iterable[Text]) -> bytes:
         """The verdicts on texts, as the library writes them."""

@@ -9,7 +9,7 @@ from types import TracebackType
 from typing import NoReturn, Optional, SupportsIndex, Union, overload
 
 from .controller import MOST_OWNER, MOST_TEXT, NO_END, ActivationCode, EndCode
-from .errors import BadLength, CommandRefused, NoDefault
+from .errors import BadLength, CommandRefused, NoDefault, StateRefused, because
 from .picture import Picture, Plane, Shown, stride_of
 from .replies import (
     Activated, Defaults, Display, Done, Ended, Frame, Idle, Message, NotSet, NotShown, Refused, Reply, Report, Ticked, Worked
@@ -17,8 +17,8 @@ from .replies import (
 from .served import PROGRAM, Served
 from .sign import Verdict
 from .values import (
-    ActivateError, Default, DefaultError, Memory, MultiError, Octets, Request, SourceMode, Status, TableError, Text, ValidateError, number_of,
-    octets_of, raw_octets,
+    ActivateError, Default, DefaultError, Memory, MultiError, Octets, Request, SourceMode, StateFault, Status, TableError, Text, ValidateError,
+    number_of, octets_of, raw_octets,
 )
 
 MOST_TENTHS = 2**32 - 1
@@ -34,7 +34,7 @@ class UnexpectedReply(CommandRefused, AssertionError):
         self.said = said
 
     def __str__(self) -> str:
-        return f"{self.asked!r} is answered {self.said!r}"
+        return f"{self.asked!r} is answered {self.said!r}{because(self.reply)}"
 
     def __reduce__(self) -> tuple[type[UnexpectedReply], tuple[str, str]]:
         return type(self), (self.asked, self.said)
@@ -238,13 +238,9 @@ class SimulatedSign:
         return bytes.fromhex(self._told(line, "code "))
 
     def check(self, text: Text) -> Verdict:
-        """The verdict on a text by the defaults in force. Its `cycle` is 0, since the program doesn't tell it.
-
-        The text goes to the program as a line: with a line feed, or a carriage return at its end, it
-        raises `ValueError`, and with more than 4,096 octets, which the program doesn't judge,
-        `UnexpectedReply`.
-        """
-        line = b"verdict " + octets_of(text)
+        """The verdict on a text by the defaults in force. Its `cycle` is 0, since the program doesn't tell it. Raises `UnexpectedReply` for more
+        than 4,096 octets, which the program doesn't judge."""
+        line = f"verdictx {octets_of(text).hex()}"
         said = self.ask(line)
         words = re.fullmatch(r"(ok|error) (\d+)(?: (\d+))?", said)
         if not words:
@@ -254,9 +250,25 @@ class SimulatedSign:
         return Verdict(error=MultiError(int(words[2])), at=int(words[3]))
 
     def crc(self, text: Text) -> int:
-        """The CRC of a message with this text, whose beacon and pixel service are 0. Raises what `check` raises, the
-        latter above 8,296 octets."""
-        return int(self._told(b"crc " + octets_of(text), "crc "), 16)
+        """The CRC of a message with this text, whose beacon and pixel service are 0. Raises `UnexpectedReply` for more than 4,147 octets, which
+        are too many for a line."""
+        return int(self._told(f"crcx {octets_of(text).hex()}", "crc "), 16)
+
+    def save(self) -> bytes:
+        """The state of the sign as octets that `restore` takes. Raises `UnexpectedReply` if it has more than 4,146, which are too many for a
+        line."""
+        return bytes.fromhex(self._told("save", "save "))
+
+    def restore(self, octets: Octets) -> None:
+        """Restores what a sign of the same sign file saved, simulated or a `Controller`. Raises `StateRefused`, and then the sign is as it was;
+        and `UnexpectedReply` for more than 4,146 octets."""
+        line = f"restore {raw_octets('octets', octets).hex()}"
+        said = self.ask(line)
+        refused = re.fullmatch(r"refused (\d+)", said)
+        if refused:
+            raise StateRefused(StateFault(int(refused[1])))
+        if said != "done":
+            refuse(line, said)
 
     @overload
     def next_change(self) -> Optional[int]: ...

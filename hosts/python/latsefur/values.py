@@ -2,10 +2,11 @@
 from __future__ import annotations
 
 import operator
+from contextlib import suppress
 from enum import IntEnum
 from typing import Iterable, SupportsIndex, Union
 
-from .errors import NotAnOctet
+from .errors import LibraryNotFound, NotAnOctet, WrongLibrary
 
 Octets = Union[bytes, bytearray, memoryview]
 Text = Union[str, Octets]
@@ -51,7 +52,28 @@ def number_of(name: str, value: SupportsIndex, most: int) -> int:
     return number
 
 
-class MultiError(IntEnum):
+class Sentenced(IntEnum):
+    """A number that says why, by a sentence, which `str` and `print` write. It is still a number: `int(why)`, or `f"{why:d}"`."""
+
+    @property
+    def sentence(self) -> str:
+        """The sentence that the library has for it, or its name in words if the library never answers with it. The library is that which `load`
+        finds, of version 3; if there is none, it is the name in words too."""
+        from .library import sentence_of
+
+        told = None
+        with suppress(LibraryNotFound, WrongLibrary):
+            told = sentence_of(SENTENCED.index(type(self)) + 1, self)
+        return told or self.name.lower().replace("_", " ")
+
+    def __str__(self) -> str:
+        return self.sentence
+
+    def __format__(self, spec: str) -> str:
+        return format(int(self), spec) if spec else self.sentence
+
+
+class MultiError(Sentenced):
     """What is wrong with a text (dmsMultiSyntaxError)."""
 
     OTHER = 1
@@ -98,7 +120,7 @@ class Status(IntEnum):
     ERROR = 5
 
 
-class ValidateError(IntEnum):
+class ValidateError(Sentenced):
     """What the sign found when it judged a message (dmsValidateMessageError)."""
 
     OTHER = 1
@@ -108,7 +130,7 @@ class ValidateError(IntEnum):
     SYNTAX_MULTI = 5
 
 
-class ActivateError(IntEnum):
+class ActivateError(Sentenced):
     """Why a message isn't shown (dmsActivateMsgError)."""
 
     OTHER = 1
@@ -121,7 +143,7 @@ class ActivateError(IntEnum):
     SYNTAX_MULTI = 8
 
 
-class TableError(IntEnum):
+class TableError(Sentenced):
     """Why the message table refuses a command."""
 
     MEMORY_TYPE = 1
@@ -133,7 +155,21 @@ class TableError(IntEnum):
     NO_SPACE = 7
 
 
-class DefaultError(IntEnum):
+class StateFault(Sentenced):
+    """Why saved octets give a controller no state."""
+
+    LENGTH = 1
+    VERSION = 2
+    CHECKSUM = 3
+    VALUE = 4
+    TOO_LONG = 5
+    NO_SPACE = 6
+    SLOTS = 7
+    DEFAULTS = 8
+    TEXT = 9
+
+
+class DefaultError(Sentenced):
     """Why the sign refuses a default."""
 
     BAD_VALUE = 9
@@ -160,3 +196,7 @@ class Default(IntEnum):
     FLASH_OFF = 7
     FORE = 8
     BACK = 9
+
+
+# By the kinds of numbers of `latsefur_sentence`, from 1.
+SENTENCED: tuple[type[Sentenced], ...] = (TableError, ValidateError, ActivateError, MultiError, DefaultError, StateFault)

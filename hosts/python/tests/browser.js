@@ -6,7 +6,7 @@ const fs = require("fs");
 const path = require("path");
 const vm = require("vm");
 
-const USED = new Set(["button", "select", "textarea", "input", "summary"]);
+const USED = new Set(["button", "select", "textarea", "input"]);
 const EMPTY = new Set(["meta", "link", "input", "br"]);
 const REFLECTED = ["id", "title", "type", "href", "download", "placeholder"];
 
@@ -198,6 +198,7 @@ class Page {
   constructor(folder, fetch, {hash = "", kept = {}, still = false} = {}) {
     Object.assign(this, {saved: [], blobs: [], copied: [], links: [], kept, listeners: {}, isGone: false, isClosed: false});
     this.document = {
+      documentElement: {style: {setProperty() {}}},
       activeElement: null, title: "", execCommand: () => false, createElement: (name) => new Element(this, name),
       getElementById: (id) => this.at(id), addEventListener: (kind, act) => { (this.listeners[kind] ??= []).push(act); },
     };
@@ -221,7 +222,7 @@ class Page {
       URL: {createObjectURL: (blob) => `blob:${this.blobs.push(blob)}`, revokeObjectURL() {}},
       getComputedStyle: () => ({paddingLeft: "0px", paddingRight: "0px"}),
       matchMedia: (what) => ({matches: still && what.includes("reduced-motion")}),
-      devicePixelRatio: 1, innerHeight: 800, addEventListener() {},
+      devicePixelRatio: 1, innerHeight: 800, scrollX: 0, scrollY: 0, scrollTo() {}, addEventListener() {},
       Option: function Option(words, value) {
         const option = new Element(page, "option");
         option.append(words);

@@ -76,6 +76,18 @@ const tests = {
     hasNames(page);
   },
 
+  async "fixes as buttons"() {
+    const page = await open(one);
+    const fixes = () => page.at("fixes").children;
+    await judged(page, "ACCIDENT AHEAD SLOW");
+    assert.deepStrictEqual([page.at("fixes").hidden, fixes()[0].textContent], [false, "ACCIDENT AHEAD[nl]SLOW"]);
+    hasNames(page);
+    fixes()[0].click();
+    assert.strictEqual(page.at("text").value, "ACCIDENT AHEAD[nl]SLOW");
+    await page.until("a verdict", () => isJudged(page) && kind(page) === "accepted");
+    assert.deepStrictEqual([page.at("fixes").hidden, fixes().length], [true, 0]);
+  },
+
   async "a slip is marked in the field"() {
     const page = await open(one);
     await judged(page, "ROAD[x]WORK");
@@ -143,14 +155,23 @@ const tests = {
     };
     await written("Colour: red", "A[cf1]B[cf]");
     await written("Font: font 1", "A[fo1]B[fo]");
-    await written("Line: right", "A[jl4]B");
-    await written("Page: top", "A[jp2]B");
+    await written("Justify line: right", "A[jl4]B");
+    await written("Justify page: top", "A[jp2]B");
     await written("Page time: 2 s", "A[pt20]B");
     await judged(page, "A");
     buttonOf(page, "Colour: green").click();
     assert.strictEqual(text.value, "A[cf3]");
-    const groups = page.top.all().filter(({localName}) => localName === "summary").map(({textContent}) => textContent);
-    assert.deepStrictEqual(groups, ["Colour", "Font", "Line", "Page", "Page time"]);
+    const groups = page.at("tags").children.filter((it) => it.className === "opener"), rows = page.at("choices").children;
+    assert.deepStrictEqual(groups.map(({textContent}) => textContent), ["Colour", "Font", "Justify line", "Justify page", "Page time"]);
+    const opened = () => groups.map((it, place) => [it.getAttribute("aria-expanded") === "true", !rows[place].hidden]);
+    const only = (place) => groups.map((_, other) => [other === place, other === place]);
+    assert.deepStrictEqual(opened(), only(-1));
+    for (const place of [0, 3]) {
+      groups[place].click();
+      assert.deepStrictEqual(opened(), only(place));
+    }
+    buttonOf(page, "Justify page: top").click();
+    assert.deepStrictEqual([opened(), text.value], [only(-1), "A[cf3][jp2]"]);
   },
 
   async "keys, and lines that are pasted"() {
@@ -226,13 +247,13 @@ const tests = {
   async "a file in GIF, and a copy"() {
     const page = await open(one);
     await judged(page, TWO_PAGES);
-    if (page.at("save").disabled) {
-      return;
-    }
     page.at("save").click();
-    await page.until("a file", () => page.at("status").textContent === "full-matrix.gif is saved. The message is copied.");
+    await page.until("a file", () => page.at("status").textContent === "full-matrix.gif is saved.");
     const octets = Buffer.from(await page.blobs[0].arrayBuffer());
-    assert.deepStrictEqual([octets.subarray(0, 6).toString(), page.copied], ["GIF89a", [TWO_PAGES]]);
+    assert.strictEqual(octets.subarray(0, 6).toString(), "GIF89a");
+    page.at("copy").click();
+    await page.until("a copy", () => page.at("status").textContent === "The message is copied.");
+    assert.deepStrictEqual(page.copied, [TWO_PAGES]);
   },
 
   async "what was accepted before"() {

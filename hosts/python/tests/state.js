@@ -4,8 +4,8 @@
 
 const assert = require("assert");
 const {
-  Asking, Film, LOST, Looking, MOST_CHARACTERS, MOST_OPEN, MOST_PAST, PATIENCE, Past, RESTED, UNANSWERED,
-  characterAt, fitted, hashOf, kindOf, partsOf, pastOf, slipOf, spelled, spokenOf, textOf, toSpell, wordsOf, wrapped,
+  Asking, BUSY, Film, LOST, Looking, MOST_CHARACTERS, MOST_OPEN, MOST_PAST, PATIENCE, Past, RESTED, UNANSWERED,
+  characterAt, fitted, hashOf, keptText, kindOf, partsOf, partsOfFix, pastOf, slipOf, spelled, spokenOf, textOf, toSpell, wordsOf, wrapped,
 } = require(process.argv[2]);
 
 const settled = () => new Promise(setImmediate);
@@ -116,7 +116,7 @@ const tests = {
     const bench = new Bench();
     bench.type("A");
     await bench.clock.go(10);
-    bench.delay = () => 400;
+    bench.delay = () => PATIENCE + 150;
     bench.type("AB");
     await bench.clock.go(PATIENCE - 1);
     assert.strictEqual(bench.says(), "accepted A");
@@ -130,7 +130,7 @@ const tests = {
     const bench = new Bench();
     bench.type("A");
     await bench.clock.go(10);
-    bench.delay = () => 400;
+    bench.delay = () => PATIENCE + 150;
     bench.type("A");
     await bench.clock.go(PATIENCE - 1);
     assert.deepStrictEqual([bench.says(), bench.drawn.isSeen], ["accepted A", true]);
@@ -173,7 +173,7 @@ const tests = {
     bench.type("A");
     await bench.clock.go(10);
     bench.type("AB");
-    await bench.clock.go(PATIENCE);
+    await bench.clock.go(BUSY);
     assert.strictEqual(bench.says(), "accepted AB");
   },
 
@@ -183,7 +183,7 @@ const tests = {
     bench.type("A");
     await bench.clock.go(10);
     bench.type("ABCDE");
-    await bench.clock.go(PATIENCE + 10);
+    await bench.clock.go(BUSY + 10);
     assert.strictEqual(bench.says(), "refused ABCDE");
     await bench.clock.go(1000);
     assert.strictEqual(bench.says(), "refused ABCDE");
@@ -271,11 +271,11 @@ const tests = {
 
   async "the loss of an older question"() {
     const bench = new Bench();
-    bench.delay = ({text}) => text === "A" ? PATIENCE + 100 : 200;
+    bench.delay = ({text}) => text === "A" ? BUSY + 100 : 200;
     bench.type("A");
     await bench.clock.go(50);
     bench.type("AB");
-    await bench.clock.go(PATIENCE + 40);
+    await bench.clock.go(BUSY + 40);
     bench.alive = false;
     await bench.clock.go(20);
     bench.alive = true;
@@ -364,7 +364,7 @@ const tests = {
     const one = told({...verdict("A"), text: "A"});
     assert.deepStrictEqual([one.outcome, one.code, one.at, one.warnings.length], ["Accepted: 1 page.", "", null, 1]);
     assert.strictEqual(told({...verdict("A"), pages: 2, cycle: 65}).outcome, "Accepted: 2 pages, 6.5 s in all.");
-    assert.strictEqual(told({...verdict("A"), words: null}).code, "What signctl warns of isn't known.");
+    assert.strictEqual(told({...verdict("A"), words: null}).code, "Whether something looks like a slip isn't known.");
     const big = told({...verdict("ABCDE"), text: "ABCDE"});
     assert.deepStrictEqual([big.outcome, big.reason, big.code, big.at], ["Refused.", "ABCDE is too big", "textTooBig (5) at octet 4", 4]);
     assert.strictEqual(told({...verdict("ABCDE"), words: null}).reason, "text too big");
@@ -384,6 +384,22 @@ const tests = {
     const told = parts.slice(0, 2).map((part, place) => ({name: ["one", "two"][place], words: wordsOf({kind: kindOf(part), answer: part})}));
     assert.strictEqual(spokenOf(told.slice(0, 1)), "Accepted: 1 page. warned of A");
     assert.strictEqual(spokenOf(told), "one: Accepted: 1 page. warned of A two: Refused. ABCDE is too big");
+    const mended = [{name: "one", words: {...told[1].words, fixes: [{text: "A", edits: []}]}}];
+    assert.strictEqual(spokenOf(mended), "Refused. ABCDE is too big Buttons write what the sign takes instead: 1.");
+  },
+
+  async "a fix in parts"() {
+    const edit = (from, to, text) => ({from, to, text}), parts = (...words) => words.map((it, place) => ({words: it, isNew: place % 2 === 1}));
+    const fix = {text: "ROAD[nl]WORK!", edits: [edit(4, 5, "[nl]"), edit(9, 9, "!")]};
+    assert.deepStrictEqual(partsOfFix(fix, "ROAD WORK"), parts("ROAD", "[nl]", "WORK", "!"));
+    assert.deepStrictEqual(partsOfFix({text: "AC", edits: [edit(1, 2, "")]}, "ABC").map(({words}) => words), ["A", "C"]);
+    assert.deepStrictEqual(partsOfFix({text: "[nl]B", edits: [edit(0, 1, "[nl]")]}, "AB"), [{words: "[nl]", isNew: true}, {words: "B", isNew: false}]);
+    // Edits that lead elsewhere aren't believed.
+    for (const edits of [[], [edit(0, 9, "C")], [edit(0, 1, null)]]) {
+      assert.deepStrictEqual(partsOfFix({text: "B", edits}, "A"), parts("B"));
+    }
+    const told = wordsOf({kind: "refused", answer: {...verdict("ABCDE"), text: "ABCDE", words: {reason: "no", warnings: [], fixes: [fix]}}});
+    assert.deepStrictEqual(told.fixes, [fix]);
   },
 
   async "a slip in the field"() {
@@ -474,7 +490,7 @@ const tests = {
     assert.deepStrictEqual(fitted(300, 1024, 1, 16), {pitch: 1, shown: 1024});
     assert.deepStrictEqual(fitted(350, 144, 1, 60), {pitch: 2, shown: 288});
     assert.deepStrictEqual(fitted(350, 144, 1, 60, true), {pitch: 5, shown: 350});
-    for (const width of [1, 12, 50, 96, 144, 200]) {
+    for (const width of [1, 12, 50, 96, 144, 200, 1024]) {
       for (const ratio of [1, 1.5, 2, 2.75, 3]) {
         const {pitch, shown} = fitted(350, width, ratio, 1000, true);
         assert(Number.isInteger(pitch) && shown <= 350.001 && shown >= 0.95 * 350 && pitch * width >= shown * ratio - 0.001);
@@ -512,6 +528,9 @@ const tests = {
       assert.strictEqual(textOf(wrong), "");
     }
     assert.strictEqual(hashOf("\ud83d"), "");
+    for (const [kept, text] of [[["#A", "AB"], "AB"], [["#A", ""], ""], [["#B", "AB"], "A"], [["#A", 1], "A"], [["#A", `${long}A`], "A"], [null, "A"]]) {
+      assert.strictEqual(keptText(JSON.stringify(kept), "#A"), text);
+    }
   },
 };
 

@@ -10,7 +10,7 @@ from typing import Any, Callable
 from latsefur import (
     ActivateError, Activated, ActivationCode, BadLength, CommandRefused, Controller, Default, DefaultError, Done, EndCode, Ended, LatsefurError,
     Memory, Message, MessageSign, MultiError, NoDefault, NotSet, NotShown, Refused, Reply, Request, Shown, Sign, SimulatedSign, SourceMode,
-    Status, TableError, Ticked, ValidateError, Worked, message_crc,
+    StateFault, StateRefused, Status, TableError, Ticked, ValidateError, Worked, message_crc,
 )
 
 from tests.places import PROGRAM, SIGNS, needs_program
@@ -132,6 +132,31 @@ class Both:
             self.assertEqual((verdict.error, verdict.at), (MultiError.TEXT_TOO_BIG, 8))
             self.assertEqual([self.sign.check(text).pages for text in (TEXT, b"", bytearray(b"A"))], [2, 1, 1])
 
+        def test_a_text_has_any_octets(self) -> None:
+            for text in ("A\r", "A\nB", b"A\0\xff", "\r\n"):
+                self.assertEqual(self.sign.check(text).error, MultiError.CHARACTER_NOT_DEFINED)
+
+        def test_what_is_saved_is_restored(self) -> None:
+            sign = self.sign
+            sign.store(1, TEXT, owner="me")
+            sign.validate(1)
+            sign.set_default(Default.PAGE_ON, 10)
+            sign.show(1, duration=1)
+            sign.tick(22)
+            saved = sign.save()
+            held, told = sign.message(Memory.CHANGEABLE, 1), (sign.report(), sign.defaults(), sign.frame())
+            sign.tick(578)
+            sign.clear()
+            self.assertNotEqual(sign.save(), saved)
+            with self.assertRaises(StateRefused) as raised:
+                sign.restore(saved[:-1])
+            self.assertEqual(raised.exception.why, StateFault.LENGTH)
+            self.assertEqual(sign.message(Memory.CHANGEABLE, 1).status, Status.NOT_USED)
+            sign.restore(saved)
+            self.assertEqual((sign.save(), sign.message(Memory.CHANGEABLE, 1)), (saved, held))
+            self.assertEqual((sign.report(), sign.defaults(), sign.frame()), told)
+            self.assertRaises(TypeError, sign.restore, 5)
+
         def test_refusals_are_raised(self) -> None:
             sign = self.sign
             self.assertEqual(self.refused(sign.message, 3, 60000), Refused(TableError.NUMBER))
@@ -200,7 +225,7 @@ class Protocols(unittest.TestCase):
 
     def test_both_take_its_arguments(self) -> None:
         names = [name for name in vars(MessageSign) if inspect.isfunction(getattr(MessageSign, name)) and not name.startswith("_")]
-        self.assertEqual(len(names), 16)
+        self.assertEqual(len(names), 18)
         for name in names:
             for kind in (Controller, SimulatedSign):
                 with self.subTest(f"{kind.__name__}.{name}"):

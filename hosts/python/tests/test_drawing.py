@@ -4,10 +4,14 @@ from __future__ import annotations
 import contextlib
 import struct
 import subprocess
+import sys
 import tempfile
 import unittest
 import zlib
 from pathlib import Path
+from types import SimpleNamespace
+from typing import Any, cast
+from unittest import mock
 
 from latsefur import COLOURS, Controller, Picture, Sign
 
@@ -111,7 +115,31 @@ class Files(unittest.TestCase):
             self.assertRaises(OSError, picture.save, Path(folder, "none", "x.png"))
 
 
+class Held:
+    """What stands in for an array of NumPy, where that isn't installed."""
+
+    def __init__(self, octets: bytes, dtype: str) -> None:
+        self.octets, self.dtype, self.shape = octets, dtype, (len(octets),)
+
+    def reshape(self, *shape: int) -> Held:
+        self.shape = shape
+        return self
+
+    def astype(self, dtype: str, copy: bool) -> Held:
+        return Held(self.octets, dtype) if copy or dtype != self.dtype else self
+
+
 class Arrays(unittest.TestCase):
+    def test_what_numpy_is_handed(self) -> None:
+        picture = Picture(3, 2, bytes([0, 1, 2, 9, 8, 7]))
+        numpy = SimpleNamespace(frombuffer=Held, uint8="octets")
+        with mock.patch.dict(sys.modules, {"numpy": numpy}):  # type: ignore[dict-item]
+            held: Any = picture.__array__()
+            self.assertEqual((held.octets, held.dtype, held.shape), (picture.octets, "octets", (2, 3)))
+            for words, dtype in (("octets", False), "octets"), (("other", None), "other"), (("other", True), "other"):
+                self.assertEqual(cast(Any, picture.__array__(*words)).dtype, dtype)
+            self.assertRaises(ValueError, picture.__array__, "other", False)
+
     def test_numpy_takes_a_picture(self) -> None:
         picture = Picture(2, 2, bytes([0, 1, 2, 9]))
         try:

@@ -9,13 +9,16 @@ from importlib import import_module
 from pkgutil import walk_packages
 
 import latsefur
-from latsefur import ActivateError, BadLine, CommandRefused, LatsefurError, NotAnOctet, NotShown, UnexpectedReply
+from latsefur import (
+    ActivateError, BadLine, CommandRefused, LatsefurError, NotAnOctet, NotShown, StateFault, StateRefused, UnexpectedReply
+)
 from latsefur.preview.server import Refused
 
 # The errors that are made of something else than what they say.
 MADE: dict[type[Exception], Exception] = {
     NotAnOctet: NotAnOctet("A\u2190B", 1), UnexpectedReply: UnexpectedReply("request 3 2 6", "refused 2"), BadLine: BadLine(4),
-    CommandRefused: CommandRefused(NotShown(ActivateError.PRIORITY)), Refused: Refused(HTTPStatus.CONFLICT, "what it says"),
+    CommandRefused: CommandRefused(NotShown(ActivateError.PRIORITY)), StateRefused: StateRefused(StateFault.CHECKSUM),
+    Refused: Refused(HTTPStatus.CONFLICT, "what it says"),
 }
 
 

@@ -5,6 +5,7 @@ import contextlib
 import copy
 import gc
 import io
+import json
 import os
 import pickle
 import re
@@ -22,6 +23,9 @@ from latsefur import (
     Activated, ActivationCode, Controller, Default, Done, EndCode, Ended, Idle, Memory, MultiError, NotSet, NotShown, Picture, Plane, Refused,
     Request, Shown, Sign, Status, Ticked, Verdict, Worked, message_crc,
 )
+
+from latsefur.library import sentence_of
+from latsefur.values import SENTENCED, TableError
 
 from tests.places import PROGRAM, SIGNS, TOP, needs_program, sign_with
 
@@ -128,6 +132,73 @@ class Texts(unittest.TestCase):
             self.assertEqual(known, tuple(int(record[name]) for name in ("pages", "cycle", "error", "at")))
         self.assertEqual((len(self.sign.check_array([])), numpy.count_nonzero(told["refused"])), (0, 2))
 
+    def test_it_says_why(self) -> None:
+        told = self.sign.explain("AAAA")
+        self.assertEqual((told["outcome"], told["code"], told["name"], told["octet"]), ("refused", 5, "textTooBig", 3))
+        self.assertEqual([page.get("picture") for page in self.sign.explain("A[np]I")["pages"]], [None, None])
+        self.assertEqual(self.sign.explain("A[np]I", pictures=True)["pages"][0]["picture"].count("\n"), 7)
+        self.assertEqual(self.sign.explain("A" * 4097)["outcome"], "too long")
+        large = Sign.from_file(SIGNS / "full-matrix.toml")
+        self.assertGreater(len(str(large.explain("A[np]B", pictures=True))), 4096)
+
+    def test_numbers_have_sentences(self) -> None:
+        reasons = [reason for kind in SENTENCED for reason in kind]
+        told = {repr(reason): reason.sentence for reason in reasons}
+        self.assertEqual(TableError.MEMORY_TYPE.sentence, "there is no such memory type")
+        self.assertEqual(MultiError.TEXT_TOO_BIG.sentence, "the text is too big for the sign")
+        self.assertEqual(MultiError.GRAPHIC_ID.sentence, "graphic id")
+        self.assertEqual(sentence_of(7, 12), str(latsefur.NoFont()))
+        self.assertTrue(all(words and len(words) <= 64 and words[-1] != "." for words in told.values()))
+        self.assertEqual([sentence_of(kind, 200) for kind in range(9)], [None] * 9)
+        for reason in reasons:
+            self.assertEqual((str(reason), f"{reason}", "%s" % reason), (reason.sentence,) * 3)
+            self.assertEqual((f"{reason:d}", f"{reason:>3}", "%d" % reason), (str(reason.value), str(reason.value).rjust(3), str(reason.value)))
+
+    def test_numbers_have_words_without_a_library(self) -> None:
+        with mock.patch.dict(os.environ, {"LATSEFUR_LIBRARY": "/nowhere/liblatsefur.so"}):
+            self.assertEqual((str(TableError.MEMORY_TYPE), MultiError.TEXT_TOO_BIG.sentence), ("memory type", "text too big"))
+            self.assertEqual(str(latsefur.StateRefused(latsefur.StateFault.CHECKSUM)), "the saved octets aren't taken: checksum")
+
+    def test_a_refusal_says_why(self) -> None:
+        judged = Worked(1, Status.ERROR, latsefur.ValidateError.SYNTAX_MULTI, MultiError.TEXT_TOO_BIG, 3)
+        asked = Worked(1, Status.ERROR, latsefur.ValidateError.BEACONS, MultiError.NONE, 0)
+        self.assertEqual((judged.why, asked.why), (MultiError.TEXT_TOO_BIG, latsefur.ValidateError.BEACONS))
+        for fault, said in (
+            (latsefur.CommandRefused(judged), "the sign replies 'worked 1 5 5 5 3': the text is too big for the sign"),
+            (latsefur.CommandRefused(Idle()), "the sign replies 'idle'"),
+            (latsefur.UnexpectedReply("work", str(judged)), "'work' is answered 'worked 1 5 5 5 3': the text is too big for the sign"),
+            (latsefur.UnexpectedReply("default font 9", "refused 10"), "'default font 9' is answered 'refused 10': the sign has no such font"),
+            (latsefur.UnexpectedReply("tock", "bad line"), "'tock' is answered 'bad line'"),
+            (latsefur.StateRefused(latsefur.StateFault.CHECKSUM), "the saved octets aren't taken: their CRC-32 isn't theirs"),
+        ):
+            self.assertEqual(str(fault), said)
+
+    def test_films(self) -> None:
+        film = self.sign.film("A[np]I", 2)
+        self.assertEqual((film[:6], film[-1:], film[6:10]), (b"GIF89a", b";", bytes((24, 0, 14, 0))))
+        self.assertNotEqual(self.sign.film("A[np]I", 2, seconds=1), film)
+        self.assertGreater(len(Sign.from_file(SIGNS / "full-matrix.toml").film("[cf1]A[np][cf2]B", 16)), 1000)
+        self.assertRaises(latsefur.TextRefused, self.sign.film, "AAAA")
+        many, text = Sign(SAMPLE.replace(b"max_pages = 2", b"max_pages = 20")), "[pt255o255]" + "A[np]" * 12 + "A"
+        self.assertRaises(latsefur.LongFilm, many.film, text)
+        self.assertEqual(many.film(text, 1, seconds=1)[:6], b"GIF89a")
+        for side, seconds in ((0, None), (17, None), (1, 0), (1, 601)):
+            self.assertRaises(ValueError, self.sign.film, "A", side, seconds)
+
+    @needs_program
+    def test_it_says_what_the_program_says(self) -> None:
+        for name in ("portable.toml", "full-matrix.toml"):
+            sign, words = Sign.from_file(SIGNS / name), ["--sign", str(SIGNS / name)]
+            for text in ("ROAD[nl]WORK[np]AHEAD", "A[zz]", "CONGESTION AHEAD", "", "[fl]A[/fl]"):
+                asked = [str(PROGRAM), "explain", "--format", "json", "--pages", *words, "-m", text]
+                said = subprocess.run(asked, stdout=subprocess.PIPE, check=False).stdout
+                self.assertEqual(sign.explain(text, pictures=True), json.loads(said))
+                if sign.check(text):
+                    drawn = subprocess.run(
+                        [str(PROGRAM), "picture", "--all", "--gif", *words], input=text.encode() + b"\n", stdout=subprocess.PIPE, check=True
+                    )
+                    self.assertEqual(sign.film(text), drawn.stdout)
+
     def test_errors(self) -> None:
         for call in (self.sign.shown, self.sign.colours, self.sign.plane, self.sign.pages):
             self.assertRaises(latsefur.TextRefused, call, "B")
@@ -224,7 +295,7 @@ class Controllers(unittest.TestCase):
                 with self.assertRaises(latsefur.CommandRefused) as raised:
                     call()
                 self.assertEqual(raised.exception.reply, reply)
-                self.assertIn(f"the sign replies '{reply}': {reply.why.name.lower().replace('_', ' ')}", str(raised.exception))
+                self.assertEqual(str(raised.exception), f"the sign replies '{reply}': {reply.why.sentence}")
             stored(controller, "A")
             self.assertEqual((controller.activate(A_CODE), controller.tick(1), controller.work()), (Activated(), Ticked(), Idle()))
             self.assertEqual([str(reply) for reply in latsefur.script.run(controller, ["row 3 2", "multi 3 1 A", "work"])],
@@ -288,6 +359,42 @@ class Controllers(unittest.TestCase):
             controller.activate(ActivationCode(3, 1, message_crc("A"), duration=1))
             self.assertEqual(controller.colours(), latsefur.Display(Shown(0, 0), sign.colours("A")))
             self.assertEqual((controller.next_change(), controller.next_change(7)), (600, 7))
+
+    def test_a_state_is_restored(self) -> None:
+        """A controller that takes what another has saved answers as that one would, and refuses anything else."""
+        sign = Sign(SAMPLE)
+        with Controller(sign) as controller, Controller(sign) as other:
+            if sign.library.version < 3:
+                self.assertRaises(latsefur.WrongLibrary, controller.save)
+                self.skipTest("the library is older than version 3")
+            stored(controller, "A")
+            crc, permanent = controller.message(Memory.CHANGEABLE, 1).crc, controller.message(Memory.PERMANENT, 1).crc
+            self.assertTrue(controller.set_end(EndCode(Memory.PERMANENT, 1, permanent)))
+            self.assertTrue(controller.activate(ActivationCode(Memory.CHANGEABLE, 1, crc, duration=1)))
+            controller.tick(37)
+            saved, revision = controller.save(), controller.revision()
+            controller.tick(1)
+            self.assertEqual(controller.revision(), revision)
+            self.assertNotEqual(controller.save(), saved)
+            other.restore(saved)
+            controller.restore(bytearray(saved))
+            self.assertEqual(controller.revision(), revision + 1)
+            for held in (controller, other):
+                self.assertEqual(held.save(), saved)
+                self.assertEqual(held.end(), EndCode(Memory.PERMANENT, 1, permanent))
+                self.assertEqual(held.report().remaining, 1)
+            for tenths in (1, 500, 100):
+                self.assertEqual(str(controller.tick(tenths)), str(other.tick(tenths)))
+                self.assertEqual((controller.frame(), controller.report()), (other.frame(), other.report()))
+            kept = other.save()
+            spoiled = saved[:-1] + bytes([saved[-1] ^ 1])
+            for broken, why in ((saved[:-1], "LENGTH"), (b"", "LENGTH"), (b"\2" + saved[1:], "VERSION"), (spoiled, "CHECKSUM")):
+                with self.assertRaises(latsefur.StateRefused) as refused:
+                    other.restore(broken)
+                self.assertEqual(refused.exception.why, latsefur.StateFault[why])
+                self.assertEqual(other.save(), kept)
+            self.assertRaises(TypeError, other.restore, "saved")
+        self.assertRaises(latsefur.NoController, other.save)
 
     def test_threads(self) -> None:
         with Controller(Sign(SAMPLE)) as controller:
@@ -365,7 +472,7 @@ class Libraries(unittest.TestCase):
                     exec(code, {})
                 written.append(told.getvalue().splitlines())
         self.assertEqual(written, [
-            ["ok 1", "error 5 8"], ["worked 1 4 2 2 0", "ticked 1 ended"], ["the sign replies 'not shown 4': message status"],
+            ["ok 1", "error 5 8"], ["worked 1 4 2 2 0", "ticked 1 ended"], ["the sign replies 'not shown 4': the message isn't valid"],
             ["1 20 ticked page 1 phase 0"],
         ])
         for line in (line for lines in written for line in lines):
@@ -378,7 +485,8 @@ class Libraries(unittest.TestCase):
         known = {*latsefur.library.EXPORTS, *latsefur.library.OTHERS}
         self.assertEqual(known - declared, set())
         self.assertEqual(declared - known - {*latsefur.library.LATER, "held_sign"}, set())
-        numbers = {int(number): name for name, number in re.findall(r"LATSEFUR_(\w+) = (\d+),? +/\* (?!.*REPLY)", header) if "REPLY" not in name}
+        written = re.findall(r"LATSEFUR_(\w+) = (\d+),? +/\* (?!.*REPLY)", header)
+        numbers = {int(number): name for name, number in written if not name.startswith(("REPLY", "WHY"))}
         for number, name in numbers.items():
             if number > 1:
                 kind = latsefur.errors.NAMED[number].__name__.lower()

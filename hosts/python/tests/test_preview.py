@@ -13,12 +13,12 @@ import threading
 import unittest
 from http.client import HTTPConnection
 from pathlib import Path
-from typing import Any, Iterator, Optional, Sequence
+from typing import Any, Iterator, Optional
 from unittest import mock
 
-from latsefur import MultiError, Sign
-from latsefur.preview import program
+from latsefur import MultiError, NoMemory, Sign, preview
 from latsefur.preview.answers import Answers, default_font, name_of, written
+from latsefur.preview.reasons import Reasons
 from latsefur.preview.server import ADDRESS, FILES, MOST_BODY, OneSign, Page, Server, hosts_of
 from latsefur.preview.tags import font_at
 from latsefur.preview.templates import templates
@@ -27,19 +27,15 @@ from tests.places import SIGNS, sign_with
 
 SIGN = Sign.from_file(SIGNS / "sample.toml")
 JSON = {"Content-Type": "application/json"}
-PREVIEW = Path(program.__file__).parent
+PREVIEW = Path(preview.__file__).parent
 SCRIPTS = ("state.js", "panels.js", "helps.js", "page.js")
 
 
 def page_of(*names: str) -> Page:
     """The page of these signs of signs/."""
-    found = program.find()
     signs = {name: Sign.from_file(SIGNS / f"{name}.toml") for name in names}
     return Page(
-        [
-            OneSign(name, Answers(sign), program.Program(found, sign.octets) if found else None)
-            for name, sign in signs.items()
-        ],
+        [OneSign(name, Answers(sign), Reasons(sign)) for name, sign in signs.items()],
         templates(),
     )
 
@@ -61,9 +57,7 @@ class Served(unittest.TestCase):
 
     @classmethod
     def setUpClass(cls) -> None:
-        found = program.find()
-        asked = program.Program(found, SIGN.octets) if found else None
-        page = Page([OneSign("sample", Answers(SIGN), asked)], ["A", "B", "A[np]I"])
+        page = Page([OneSign("sample", Answers(SIGN), Reasons(SIGN))], ["A", "B", "A[np]I"])
         cls.server = Server(page)
         threading.Thread(target=cls.server.serve_forever, daemon=True).start()
 
@@ -174,8 +168,11 @@ class Served(unittest.TestCase):
         self.assertEqual(self.message("A" * 4097)["name"], "too long")
 
     def test_what_more_text_can_mend(self) -> None:
-        for text in ("[", "[n", "A[nl", "A[np]A[", "[hc41", "]", "A]", "[[A]"):
+        for text in ("[", "[n", "A[nl", "A[np]A[", "[hc41", "]", "A]", "[[A]", "[F", "[/", "[tr1,"):
             self.assertTrue(self.message(text)["unfinished"], text)
+        # No name that the sign takes begins so.
+        for text in ("[x", "[nx", "[c1", "[ ", "[m", "[cb", "[\xe9"):
+            self.assertFalse(self.message(text)["unfinished"], text)
         for text in ("[x]", "[]", "A]B", "[n[", "B[", "AAAA[", "]]]A", "A[np]A[np]A[", "\u2190["):
             self.assertFalse(self.message(text).get("unfinished"), text)
         # From key to key of a message that is accepted in the end, nothing else is refused.
@@ -231,28 +228,32 @@ class Served(unittest.TestCase):
         for font in (0, 3, 255):
             self.assertEqual(self.told("/font", font=font)["characters"], [])
 
-    def test_words_and_pictures_of_signctl(self) -> None:
-        asked = self.server.page.first.program
-        if asked is None:
-            self.assertIsNone(self.message("A")["words"])
-            self.assertEqual(self.ask("POST", "/gif", b'{"text":"A"}', **JSON)[0], 409)
-            self.skipTest("signctl isn't there")
+    def test_words_and_films(self) -> None:
         status, headers, octets = self.ask("POST", "/gif", b'{"text":"A[np]I"}', **JSON)
-        self.assertEqual(
-            (status, headers["Content-Type"], octets[:6]), (200, "image/gif", b"GIF89a")
-        )
-        for text in ("B", "A\nA", "\u2190"):
+        self.assertEqual((status, headers["Content-Type"]), (200, "image/gif"))
+        self.assertEqual(octets, SIGN.film("A[np]I", self.server.page.scale()))
+        for text in ("B", "A\nA", "\u2190", "A" * 4097):
             body = json.dumps({"text": text}).encode()
             status, _, octets = self.ask("POST", "/gif", body, **JSON)
             self.assertEqual(status, 409)
             self.assertTrue(json.loads(octets)["said"])
-        for text in ("A\nA", "\u2190", "A\r", "A" * 4097):
-            self.assertIsNone(self.message(text)["words"])
-        if asked.explains:
-            words = self.message("B")["words"]
-            self.assertTrue(words["reason"])
-            self.assertEqual(self.message("A")["words"], {"reason": "", "warnings": []})
-            self.assertEqual(self.message("B", begin=3)["words"], words)
+        self.assertIsNone(self.message("\u2190")["words"])
+        for text in ("B", "A\nA", "A\r", "A" * 4097):
+            self.assertTrue(self.message(text)["words"]["reason"])
+        words = self.message("B")["words"]
+        self.assertEqual(words["reason"], SIGN.explain("B")["reason"])
+        self.assertEqual(self.message("A")["words"], {"reason": "", "warnings": [], "fixes": []})
+        self.assertEqual(self.message("B", begin=3)["words"], words)
+
+    def test_fixes(self) -> None:
+        """They are those of the library, and the sign takes each of them."""
+        for text in ("a", "AAAA", "A[x]I", "B"):
+            fixes, known = self.message(text)["words"]["fixes"], SIGN.explain(text)["fixes"]
+            self.assertEqual(
+                fixes, [{key: fix[key] for key in ("text", "edits")} for fix in known], text
+            )
+            self.assertTrue(all(self.message(fix["text"])["accepted"] for fix in fixes), text)
+        self.assertTrue(self.message("a")["words"]["fixes"])
 
     def test_a_file_in_png(self) -> None:
         text = "A[np][fl]I[/fl]"
@@ -284,7 +285,7 @@ class Served(unittest.TestCase):
     def test_small_signs_have_a_limit(self) -> None:
         answers = Answers(SIGN)
         with mock.patch("latsefur.preview.answers.MOST_SMALL", 84):
-            self.assertEqual(len(answers.strip("A[np]I")), 1)
+            self.assertEqual(len(answers.strip("A[np]I", 2)), 1)
             self.assertEqual([bool(it) for it in answers.small(["A", "I"])], [True, False])
 
     def test_the_font_at_the_caret(self) -> None:
@@ -311,11 +312,12 @@ class Served(unittest.TestCase):
         self.assertTrue(any(portable.check_all(templates())))
 
 
-class Telling(program.Program):
-    """A program that says of each text what it is given to say."""
+class Telling(Reasons):
+    """Says of each text what it is given to say."""
 
     def __init__(self, records: dict[bytes, Optional[dict[str, Any]]]) -> None:
-        self.records, self.explains = records, True
+        super().__init__(SIGN)
+        self.records = records
 
     def explained(self, text: bytes) -> Optional[dict[str, Any]]:
         return self.records.get(text)
@@ -335,9 +337,17 @@ class OneAnswer(unittest.TestCase):
     def test_words_of_the_verdict(self) -> None:
         warnings = [{"octet": 1, "text": "a space"}]
         accepted = {"outcome": "accepted", "pages": [], "warnings": warnings}
-        self.assertEqual(self.words("A ", accepted), {"reason": "", "warnings": warnings})
-        refused = {"outcome": "refused", "code": 7, "octet": 1, "reason": "no B"}
-        self.assertEqual(self.words("AB", refused), {"reason": "no B", "warnings": []})
+        told = {"reason": "", "warnings": warnings, "fixes": []}
+        self.assertEqual(self.words("A ", accepted), told)
+        edits = [{"from": 1, "to": 2, "text": "A", "octets": None}]
+        fixes = [
+            {"kind": "other letters", "text": "AA", "octets": None, "edits": edits},
+            # What isn't UTF-8 can't be written on the page.
+            {"kind": "other letters", "text": None, "octets": "41ff", "edits": edits},
+        ]
+        refused = {"outcome": "refused", "code": 7, "octet": 1, "reason": "no B", "fixes": fixes}
+        told = {"reason": "no B", "warnings": [], "fixes": [{"text": "AA", "edits": edits}]}
+        self.assertEqual(self.words("AB", refused), told)
 
     def test_no_words_of_another_verdict(self) -> None:
         refused = {"outcome": "refused", "code": 7, "octet": 1, "reason": "no B"}
@@ -394,7 +404,8 @@ class Tags(unittest.TestCase):
             for tag in tags:
                 groups[name][tag.group].append(tag.name)
         self.assertEqual(
-            list(groups["full-matrix"]), ["", "Colour", "Font", "Line", "Page", "Page time"]
+            list(groups["full-matrix"]),
+            ["", "Colour", "Font", "Justify line", "Justify page", "Page time"],
         )
         self.assertEqual(len(groups["full-matrix"]["Colour"]), 10)
         self.assertEqual(groups["full-matrix"]["Font"], ["font 1", "font 2"])
@@ -459,7 +470,7 @@ TEXTS = {
     "panel": ("text", "quiet"),
     "button": ("text", "off"),
     "slip": ("text",),
-    "sign": ("sign-text",),
+    "sign": ("sign-text", "sign-amber"),
 }
 EDGES = {"ground": ("edge", "amber"), "panel": ("edge", "amber"), "button": ("amber",)}
 
@@ -468,7 +479,7 @@ class Colours(unittest.TestCase):
     def test_contrast(self) -> None:
         """In light and dark all text has a contrast of at least 4.5, and each edge one of 3."""
         dark, light = schemes((PREVIEW / "page.css").read_text())
-        self.assertEqual((len(dark), set(light) - set(dark)), (13, set()))
+        self.assertEqual((len(dark), set(light) - set(dark)), (14, set()))
         for name, colours in (("dark", dark), ("light", {**dark, **light})):
             for table, least in ((TEXTS, 4.5), (EDGES, 3)):
                 for ground, texts in table.items():
@@ -504,34 +515,15 @@ def luminance(colour: str) -> float:
     return 0.2126 * red + 0.7152 * green + 0.0722 * blue
 
 
-class InTurn(program.Program):
-    """A program that answers in turn, and isn't run."""
-
-    def __init__(self, *answers: bytes) -> None:
-        self.answers = [b"", *answers]
-        super().__init__(Path("signctl"), b"")
-
-    def _ask(self, words: Sequence[str], lines: bytes) -> subprocess.CompletedProcess[bytes]:
-        return subprocess.CompletedProcess([], 0, self.answers.pop(0), b"")
-
-
 class Explained(unittest.TestCase):
     def test_an_answer_is_kept_and_a_failure_is_not(self) -> None:
-        asked = InTurn(b"", b'{"outcome":"accepted"}\n', b'{"outcome":"refused"}\n')
-        self.assertIsNone(asked.explained(b"A"))
-        for _ in range(2):
-            self.assertEqual(asked.explained(b"A"), {"outcome": "accepted"})
-        self.assertEqual(asked.explained(b"B"), {"outcome": "refused"})
-
-
-class NoProgram(unittest.TestCase):
-    def test_it_is_said_by_name(self) -> None:
-        self.assertRaises(FileNotFoundError, program.find, "/nowhere/signctl")
-        nothing = program.Program(Path("/nowhere/signctl"), SIGN.octets)
-        self.assertFalse(nothing.explains)
-        self.assertIsNone(nothing.explained(b"A"))
-        with self.assertRaises(program.NotDrawn):
-            nothing.gif(b"A", ["--all"])
+        answers = [NoMemory(), {"outcome": "accepted"}, {"outcome": "refused"}]
+        with mock.patch.object(Sign, "explain", side_effect=answers):
+            asked = Reasons(SIGN)
+            self.assertIsNone(asked.explained(b"A"))
+            for _ in range(2):
+                self.assertEqual(asked.explained(b"A"), {"outcome": "accepted"})
+            self.assertEqual(asked.explained(b"B"), {"outcome": "refused"})
 
 
 if __name__ == "__main__":

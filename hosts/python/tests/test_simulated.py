@@ -46,9 +46,14 @@ class SimulatedSigns(unittest.TestCase):
             served.show(1)
             self.assertEqual(served.colours().picture, sign.colours(text))
             self.assertEqual(served.frame(2).plane, sign.plane(text, 2))
-            self.assertEqual(served.crc(text), message_crc(text))
+            for any_octets in (text, "A\r", "A\n", b"\0\xff", ""):
+                self.assertEqual(served.crc(any_octets), message_crc(any_octets))
+                self.assertEqual(served.check(any_octets).error, sign.check(any_octets).error)
             with Controller(sign) as controller:
                 self.assertEqual(served.defaults(), controller.defaults())
+                controller.restore(served.save())
+                self.assertEqual(controller.message(3, 1), served.message(3, 1))
+                self.assertEqual(controller.save(), served.save())
             self.assertIsInstance(served.defaults(), Defaults)
 
     def test_another_reply_is_told(self) -> None:

@@ -1,5 +1,8 @@
 //! The enumerations of NTCIP 1203 that the library takes and answers with.
 
+use crate::ffi;
+use crate::sign::told;
+use alloc::string::String;
 use core::fmt;
 
 /// An enumeration by its numbers.
@@ -43,7 +46,18 @@ macro_rules! codes {
 
 /// Enumerations that say what is wrong: errors, with the words of each.
 macro_rules! errors {
-    ($($name:ident { $($variant:ident: $words:literal),* $(,)? })*) => {$(
+    ($($name:ident $kind:literal { $($variant:ident: $words:literal),* $(,)? })*) => {$(
+        impl $name {
+            /// The sentence that the library has for it, which `Display` writes too, or `None` if the number has none.
+            pub fn sentence(self) -> Option<String> {
+                let octets = told(64, |told: &mut [u8], count: &mut usize| {
+                    // SAFETY: what is written is borrowed by this call alone.
+                    unsafe { ffi::latsefur_sentence($kind, self.number(), told.as_mut_ptr(), told.len(), count) }
+                });
+                octets.ok().map(|octets| String::from_utf8_lossy(&octets).into_owned())
+            }
+        }
+
         impl fmt::Display for $name {
             fn fmt(&self, to: &mut fmt::Formatter<'_>) -> fmt::Result {
                 match self {
@@ -185,6 +199,30 @@ codes! {
 }
 
 codes! {
+    /// Why octets give a controller no state.
+    StateFault {
+        /// there are fewer or more octets than there should be
+        Length = 1,
+        /// they are of another version
+        Version = 2,
+        /// their CRC-32 isn't theirs
+        Checksum = 3,
+        /// a number is outside its range
+        Value = 4,
+        /// a text is too long
+        TooLong = 5,
+        /// the texts would pass the budget
+        NoSpace = 6,
+        /// the table has another number of messages
+        Slots = 7,
+        /// the sign refuses the defaults
+        Defaults = 8,
+        /// the sign refuses the text of the display
+        Text = 9,
+    }
+}
+
+codes! {
     /// Why the sign refuses a default.
     DefaultError {
         /// the value is outside its range
@@ -231,7 +269,7 @@ codes! {
 }
 
 errors! {
-    MultiError {
+    MultiError 4 {
         Other: "another fault",
         None: "nothing is wrong with the text",
         UnsupportedTag: "the sign doesn't support the tag",
@@ -244,7 +282,7 @@ errors! {
         FontVersionId: "the font has another version",
     }
 
-    ValidateError {
+    ValidateError 2 {
         Other: "another fault",
         None: "nothing is wrong with the message",
         Beacons: "the sign can't do what the message asks of its beacons",
@@ -252,7 +290,7 @@ errors! {
         SyntaxMulti: "the text of the message is wrong",
     }
 
-    ActivateError {
+    ActivateError 3 {
         Other: "another fault",
         None: "nothing is wrong with the activation",
         Priority: "what is shown has a higher priority",
@@ -263,7 +301,7 @@ errors! {
         SyntaxMulti: "the text of the message is wrong",
     }
 
-    TableError {
+    TableError 1 {
         MemoryType: "there is no such memory type",
         Number: "there is no message of this number",
         ReadOnly: "messages of this memory type aren't written",
@@ -273,7 +311,19 @@ errors! {
         NoSpace: "the table has no room left for it",
     }
 
-    DefaultError {
+    StateFault 6 {
+        Length: "there are fewer or more octets than there should be",
+        Version: "they are of another version",
+        Checksum: "their CRC-32 isn't theirs",
+        Value: "a number is outside its range",
+        TooLong: "a text is too long",
+        NoSpace: "the texts would pass the budget",
+        Slots: "the table has another number of messages",
+        Defaults: "the sign refuses the defaults",
+        Text: "the sign refuses the text of the display",
+    }
+
+    DefaultError 5 {
         BadValue: "the value is outside its range",
         NoFont: "the sign has no such font",
     }

@@ -780,4 +780,74 @@ impl Controller {
         done(unsafe { ffi::latsefur_steps(self.handle.get(), &mut steps) })?;
         Ok(steps)
     }
+
+    /// The messages, what the display shows and since when, the defaults and the codes, as octets that [`restore`](Controller::restore)
+    /// takes after a loss of power.
+    ///
+    /// ```
+    /// use latsefur::{Controller, Sign};
+    ///
+    /// let sign = Sign::from_file("../../signs/portable.toml")?;
+    /// let (mut controller, mut other) = (Controller::new(&sign)?, Controller::new(&sign)?);
+    /// controller.tick(7)?.obeyed()?;
+    /// let saved = controller.save()?;
+    /// other.restore(&saved)?;
+    /// assert_eq!(other.save()?, saved);
+    /// assert!(other.restore(&saved[1..]).is_err());
+    /// # Ok::<(), latsefur::Error>(())
+    /// ```
+    ///
+    /// # Errors
+    ///
+    /// As [`request`](Controller::request).
+    pub fn save(&self) -> Result<Vec<u8>, Error> {
+        let (mut size, mut count) = (0, 0);
+        // SAFETY: the handle and the size are borrowed by this call alone.
+        done(unsafe { ffi::latsefur_save_size(self.handle.get(), &mut size) })?;
+        let mut octets = vec![0; size];
+        // SAFETY: the octets have this length; they, the count and the handle are borrowed by this call alone.
+        done(unsafe { ffi::latsefur_save(self.handle.get(), octets.as_mut_ptr(), octets.len(), &mut count) })?;
+        octets.truncate(count);
+        Ok(octets)
+    }
+
+    /// Restores what a controller of the same sign file has saved. If it isn't taken, only the count of steps has changed.
+    ///
+    /// # Errors
+    ///
+    /// [`Error::NotRestored`].
+    pub fn restore(&mut self, octets: impl AsRef<[u8]>) -> Result<(), Error> {
+        let octets = octets.as_ref();
+        let mut fault = 0;
+        // SAFETY: the octets are those of a slice; the handle and the fault are borrowed by this call alone.
+        let outcome = unsafe { ffi::latsefur_restore(self.handle.get(), octets.as_ptr(), octets.len(), &mut fault) };
+        if outcome == 1 {
+            return Err(Error::NotRestored(fault.into()));
+        }
+        done(outcome)
+    }
+
+    /// A number that rises whenever more than the time has changed of what [`save`](Controller::save) saves; `u64::MAX` may stand for more.
+    ///
+    /// # Errors
+    ///
+    /// As [`request`](Controller::request).
+    pub fn revision(&self) -> Result<u64, Error> {
+        let mut revision = 0;
+        // SAFETY: the handle and the number are borrowed by this call alone.
+        done(unsafe { ffi::latsefur_revision(self.handle.get(), &mut revision) })?;
+        Ok(revision)
+    }
+
+    /// The message that follows a duration, as [`set_end`](Controller::set_end) has set it.
+    ///
+    /// # Errors
+    ///
+    /// As [`request`](Controller::request).
+    pub fn end(&self) -> Result<EndCode, Error> {
+        let mut code = [0; 5];
+        // SAFETY: the octets are those of an array; they and the handle are borrowed by this call alone.
+        done(unsafe { ffi::latsefur_end(self.handle.get(), code.as_mut_ptr(), code.len()) })?;
+        Ok(EndCode::from(code))
+    }
 }

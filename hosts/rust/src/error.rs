@@ -1,6 +1,6 @@
 //! What goes wrong, by name.
 
-use crate::codes::{ActivateError, DefaultError, TableError};
+use crate::codes::{ActivateError, DefaultError, StateFault, TableError};
 use core::fmt;
 
 /// An outcome of the library that gives no answer, or a file that can't be read.
@@ -33,12 +33,20 @@ pub enum Error {
     NoDefault,
     /// The sign has no font of this number.
     NoFont,
+    /// The side of a pixel of a film isn't 1 to 16, or its seconds aren't 1 to 600.
+    BadValue,
+    /// The film would have more than 64,000,000 octets.
+    LargeFilm,
+    /// The text begins anew after more than ten minutes; a film of so many seconds may be asked for.
+    LongFilm,
     /// The message table refuses a command, or has no such message.
     Refused(TableError),
     /// The message isn't shown.
     NotShown(ActivateError),
     /// The sign refuses a default.
     NotSet(DefaultError),
+    /// The octets give the controller no state.
+    NotRestored(StateFault),
     /// The library has answered with an outcome that this call hasn't.
     Outcome(u8),
 }
@@ -58,9 +66,13 @@ impl fmt::Display for Error {
             Error::BadLength => to.write_str("the code hasn't the length that it must have"),
             Error::NoDefault => to.write_str("no default has this number"),
             Error::NoFont => to.write_str("the sign has no such font"),
+            Error::BadValue => to.write_str("a number is outside its range"),
+            Error::LargeFilm => to.write_str("the film would have more than 64,000,000 octets"),
+            Error::LongFilm => to.write_str("the text begins anew after more than ten minutes"),
             Error::Refused(why) => write!(to, "the message table refuses the command: {why}"),
             Error::NotShown(why) => write!(to, "the message isn't shown: {why}"),
             Error::NotSet(why) => write!(to, "the sign refuses the default: {why}"),
+            Error::NotRestored(why) => write!(to, "the saved octets aren't taken: {why}"),
             Error::Outcome(outcome) => write!(to, "the library answers with the outcome {outcome}"),
         }
     }
@@ -74,6 +86,7 @@ impl std::error::Error for Error {
             Error::Refused(why) => Some(why),
             Error::NotShown(why) => Some(why),
             Error::NotSet(why) => Some(why),
+            Error::NotRestored(why) => Some(why),
             _ => None,
         }
     }
@@ -93,6 +106,9 @@ pub(crate) fn done(outcome: u8) -> Result<(), Error> {
         10 => Error::BadLength,
         11 => Error::NoDefault,
         12 => Error::NoFont,
+        13 => Error::BadValue,
+        14 => Error::LargeFilm,
+        15 => Error::LongFilm,
         outcome => Error::Outcome(outcome),
     })
 }

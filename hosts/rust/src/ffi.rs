@@ -182,6 +182,28 @@ extern "C" {
         colours: *mut u8,
         colours_len: usize,
     ) -> u8;
+    pub fn latsefur_explain(
+        sign_file: Octets,
+        sign_file_len: usize,
+        text: Octets,
+        text_len: usize,
+        pictures: u8,
+        told: *mut u8,
+        told_len: usize,
+        count: *mut usize,
+    ) -> u8;
+    pub fn latsefur_film(
+        sign_file: Octets,
+        sign_file_len: usize,
+        text: Octets,
+        text_len: usize,
+        side: u8,
+        seconds: u16,
+        film: *mut u8,
+        film_len: usize,
+        count: *mut usize,
+    ) -> u8;
+    pub fn latsefur_sentence(kind: u8, number: u8, told: *mut u8, told_len: usize, count: *mut usize) -> u8;
     pub fn latsefur_controller_new(sign_file: Octets, sign_file_len: usize, handle: *mut Handle) -> u8;
     pub fn latsefur_controller_free(handle: *mut Handle);
     pub fn latsefur_request(handle: *mut Handle, memory: u8, number: u16, status: u8, reply: *mut Reply) -> u8;
@@ -234,5 +256,10 @@ extern "C" {
         colours: *mut u8,
         colours_len: usize,
     ) -> u8;
+    pub fn latsefur_save_size(handle: *mut Handle, size: *mut usize) -> u8;
+    pub fn latsefur_save(handle: *mut Handle, octets: *mut u8, octets_len: usize, count: *mut usize) -> u8;
+    pub fn latsefur_restore(handle: *mut Handle, octets: Octets, octets_len: usize, fault: *mut u8) -> u8;
+    pub fn latsefur_revision(handle: *mut Handle, revision: *mut u64) -> u8;
+    pub fn latsefur_end(handle: *mut Handle, code: *mut u8, code_len: usize) -> u8;
     pub fn latsefur_message_crc(text: Octets, text_len: usize, beacon: u8, pixel: u8) -> u16;
 }

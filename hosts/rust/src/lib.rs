@@ -24,7 +24,7 @@ mod ffi;
 mod picture;
 mod sign;
 
-pub use codes::{ActivateError, DefaultError, DefaultField, Memory, MultiError, Request, SourceMode, Status, TableError, ValidateError};
+pub use codes::{ActivateError, DefaultError, DefaultField, Memory, MultiError, Request, SourceMode, StateFault, Status, TableError, ValidateError};
 pub use controller::{message_crc, ActivationCode, Controller, Defaults, Display, EndCode, Font, Frame, Message, Reply, Report, Table};
 pub use error::Error;
 pub use picture::{Picture, Plane, Shown};

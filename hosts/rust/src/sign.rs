@@ -4,6 +4,7 @@ use crate::codes::MultiError;
 use crate::error::{done, Error};
 use crate::ffi;
 use crate::picture::{stride, Picture, Plane, Shown};
+use alloc::string::String;
 use alloc::vec;
 use alloc::vec::Vec;
 use core::fmt;
@@ -256,4 +257,67 @@ impl Sign {
         })?;
         Ok(Plane { width: self.width(), octets })
     }
+
+    /// What the sign says to a text and why, as `signctl explain --format json` tells it: a line of JSON, which `docs/explain.schema.json`
+    /// describes. With `pictures` each page has its picture. A text of more than 4,096 octets isn't judged.
+    ///
+    /// ```
+    /// let sign = latsefur::Sign::from_file("../../signs/sample.toml")?;
+    /// assert!(sign.explain("AAAA", false)?.contains("\"name\":\"textTooBig\""));
+    /// # Ok::<(), latsefur::Error>(())
+    /// ```
+    ///
+    /// # Errors
+    ///
+    /// Those of the type.
+    pub fn explain(&self, text: impl AsRef<[u8]>, pictures: bool) -> Result<String, Error> {
+        let text = text.as_ref();
+        let (file, len) = (self.file.as_ptr(), self.file.len());
+        let record = told(4096, |told: &mut [u8], count: &mut usize| {
+            // SAFETY: the octets are those of slices, and what is written is borrowed by this call alone.
+            unsafe {
+                ffi::latsefur_explain(file, len, text.as_ptr(), text.len(), u8::from(pictures), told.as_mut_ptr(), told.len(), count)
+            }
+        })?;
+        Ok(String::from_utf8_lossy(&record).into_owned())
+    }
+
+    /// A text as it plays, over and over, as a file in GIF: until it begins anew, or for its first seconds, 1 to 600. A pixel is a square of
+    /// `side` by `side` points, 1 to 16.
+    ///
+    /// ```
+    /// let sign = latsefur::Sign::from_file("../../signs/sample.toml")?;
+    /// assert!(sign.film("A[np]I", 4, None)?.starts_with(b"GIF89a"));
+    /// # Ok::<(), latsefur::Error>(())
+    /// ```
+    ///
+    /// # Errors
+    ///
+    /// [`Error::TextRefused`], [`Error::BadValue`], [`Error::LargeFilm`], [`Error::LongFilm`], and those of the type.
+    pub fn film(&self, text: impl AsRef<[u8]>, side: u8, seconds: Option<u16>) -> Result<Vec<u8>, Error> {
+        let text = text.as_ref();
+        let (file, len) = (self.file.as_ptr(), self.file.len());
+        let long = match seconds {
+            None => 0,
+            Some(0) => return Err(Error::BadValue),
+            Some(count) => count,
+        };
+        told(65536, |film: &mut [u8], count: &mut usize| {
+            // SAFETY: the octets are those of slices, and what is written is borrowed by this call alone.
+            unsafe { ffi::latsefur_film(file, len, text.as_ptr(), text.len(), side, long, film.as_mut_ptr(), film.len(), count) }
+        })
+    }
+}
+
+/// What a call tells that says how much room it needs: at first it has this much.
+pub(crate) fn told(room: usize, mut call: impl FnMut(&mut [u8], &mut usize) -> u8) -> Result<Vec<u8>, Error> {
+    let (mut octets, mut count) = (vec![0; room], 0);
+    let mut outcome = call(&mut octets, &mut count);
+    if outcome == 5 {
+        octets = vec![0; count];
+        outcome = call(&mut octets, &mut count);
+    }
+    done(outcome)?;
+    octets.truncate(count);
+    Ok(octets)
 }

@@ -4,7 +4,7 @@ mod common;
 
 use latsefur::{
     message_crc, ActivateError, ActivationCode, Controller, DefaultError, DefaultField, EndCode, Error, Font, Memory, MultiError, Reply, Request,
-    Sign, SourceMode, Table, TableError, ValidateError, Verdict,
+    Sign, SourceMode, StateFault, Table, TableError, ValidateError, Verdict,
 };
 use std::error::Error as _;
 use std::fs;
@@ -52,6 +52,40 @@ fn numbers_that_say_what_is_wrong_are_errors() {
     let told: Vec<String> = all.iter().map(|fault| fault.to_string()).collect();
     assert_eq!((told[0].as_str(), told[3].as_str()), ("the text is too big for the sign", "the table has no room left for it"));
     assert_eq!(told[5], "the number 99, which has no name");
+    for number in 1..=13 {
+        let (multi, table, state) = (MultiError::from(number), TableError::from(number), StateFault::from(number));
+        let (activate, validate, default) = (ActivateError::from(number), ValidateError::from(number), DefaultError::from(number));
+        let sentences = [multi.sentence(), table.sentence(), state.sentence(), activate.sentence(), validate.sentence(), default.sentence()];
+        let words = [multi.to_string(), table.to_string(), state.to_string(), activate.to_string(), validate.to_string(), default.to_string()];
+        for (sentence, words) in sentences.into_iter().zip(words) {
+            assert_eq!(sentence.unwrap_or_else(|| format!("the number {number}, which has no name")), words);
+        }
+    }
+}
+
+#[test]
+fn a_state_is_restored() {
+    let sign = Sign::new(sample()).unwrap();
+    let (mut held, mut other) = (Controller::new(&sign).unwrap(), Controller::new(&sign).unwrap());
+    store(&mut held, "A").unwrap().obeyed().unwrap();
+    let crc = held.message(Memory::Changeable, 1).unwrap().crc;
+    held.activate(a_code(crc)).unwrap().obeyed().unwrap();
+    held.set_end(EndCode { memory: Memory::Permanent, number: 1, crc: 7 }).unwrap().obeyed().unwrap();
+    held.tick(37).unwrap().obeyed().unwrap();
+    let (saved, revision) = (held.save().unwrap(), held.revision().unwrap());
+    other.restore(&saved).unwrap();
+    assert_eq!(other.end().unwrap(), EndCode { memory: Memory::Permanent, number: 1, crc: 7 });
+    for tenths in [1, 500, 100] {
+        assert_eq!(other.tick(tenths).unwrap(), held.tick(tenths).unwrap());
+        assert_eq!(other.report().unwrap(), held.report().unwrap());
+    }
+    held.restore(&saved).unwrap();
+    assert!(held.revision().unwrap() > revision);
+    assert_eq!(held.save().unwrap(), saved);
+    let fault = held.restore(&saved[..saved.len() - 1]).unwrap_err();
+    assert!(matches!(fault, Error::NotRestored(StateFault::Length)));
+    assert_eq!(fault.to_string(), "the saved octets aren't taken: there are fewer or more octets than there should be");
+    assert_eq!(held.save().unwrap(), saved);
 }
 
 #[test]

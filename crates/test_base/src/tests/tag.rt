@@ -127,7 +127,7 @@ fn listed_bodies_are_tags(rt: HostRuntime) {
         (b"[hcffff]", Tag::HexChar(65535)),
     ];
     for (octets, tag) in rows {
-        // a step for each octet behind the first
+        // a step for each octet after the first
         let steps = octets.len().saturating_sub(1) as u64;
         assert!(rt; read(octets) == Some((Ok(tag), steps)), "at {octets:?}");
     }

@@ -4,6 +4,7 @@ mod change;
 mod frame;
 mod lists;
 mod memory;
+mod saved;
 
 use crate::tests::so;
 use message_store::{MsgRef, Permanent, Store, StoreLimits};

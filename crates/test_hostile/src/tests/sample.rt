@@ -31,7 +31,7 @@ fn a_string_of_millions_of_octets_is_judged_in_few_steps(rt: HostRuntime) -> Res
     assert_rows(&rt, rt.alloc(), &filled, &rows)
 }
 
-/// Asserts the verdicts on this octet alone, and behind each bracket.
+/// Asserts the verdicts on this octet alone, and after each bracket.
 fn assert_short(rt: &impl Abort, alloc: Global, sign: &Sign, octet: u8) -> Result<(), Fail> {
     let alone = match octet {
         b' ' | b'A' | b'I' => Ok(1),

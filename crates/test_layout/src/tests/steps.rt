@@ -29,7 +29,7 @@ impl Walk {
         }
     }
 
-    /// Reads the next item, a character as the tag of its number: its first octet, the octet behind a bracket, and those ahead of a
+    /// Reads the next item, a character as the tag of its number: its first octet, the octet after a bracket, and those ahead of a
     /// tag. At the end the answer is `None`.
     fn read(&mut self, source: &mut Source<'_>) -> Option<Tag> {
         let at = self.at.min(source.len());
@@ -69,7 +69,7 @@ impl Walk {
         }
     }
 
-    /// Goes behind a page, and looks up no cell: behind the tag that begins the next one, or to the end of the string.
+    /// Goes past a page, and looks up no cell: after the tag that begins the next one, or to the end of the string.
     fn pass_page(&mut self, sign: &Sign, source: &mut Source<'_>) {
         for _ in 0..=source.len() {
             let Some(item) = self.read(source) else {
@@ -82,14 +82,14 @@ impl Walk {
         }
     }
 
-    /// Goes behind so many pages.
+    /// Goes past so many pages.
     fn pass_pages(&mut self, sign: &Sign, source: &mut Source<'_>, pages: u8) {
         for _ in 0..pages {
             self.pass_page(sign, source);
         }
     }
 
-    /// Goes behind the settings from here on. What stands behind them is read with its area.
+    /// Goes past the settings from here on. What stands after them is read with its area.
     fn pass_settings(&mut self, sign: &Sign, source: &mut Source<'_>, octets: &[u8]) {
         for _ in 0..=octets.len() {
             let mut next = *self;
@@ -122,7 +122,7 @@ impl Walk {
         }
     }
 
-    /// Goes over the items of an area for the first time. Where lines aren't filled, a run begins behind each character that is an octet:
+    /// Goes over the items of an area for the first time. Where lines aren't filled, a run begins after each character that is an octet:
     /// it looks up its font, and looks at the octet that ends it.
     fn pass_lines(&mut self, sign: &Sign, source: &mut Source<'_>, octets: &[u8]) {
         let mut in_run = false;
@@ -159,7 +159,7 @@ fn is_setting(item: Tag) -> bool {
 }
 
 /// The steps of judging a string: of each item the first octet is read and looked up, which is all for an octet that stands for
-/// itself; the octet behind each bracket is read, with each tag 26 octets more or as many as there are, and each cell and font is
+/// itself; the octet after each bracket is read, with each tag 26 octets more or as many as there are, and each cell and font is
 /// looked up once. The end is read.
 fn judged(sign: &Sign, octets: &[u8]) -> u64 {
     let mut source = Source::new(octets);

@@ -44,7 +44,7 @@ fn with_full_font(alloc: Global) -> Result<Sign, Fail> {
 fn a_wide_number_takes_few_steps(rt: HostRuntime) -> Result<(), Fail> {
     let sign = with_full_font(rt.alloc())?;
     let mut plane = Plane::new(rt.alloc(), sign.width(), sign.height())?;
-    // the bracket is read and looked up, the octet behind it is read, and the seven ahead; the search for the cell takes eight, and the
+    // the bracket is read and looked up, the octet after it is read, and the seven ahead; the search for the cell takes eight, and the
     // end is read
     let Ok(mut checked) = check(&sign, Source::new(b"[hcffff]")) else {
         panic!(rt; "the string is accepted");

@@ -1,6 +1,7 @@
 use crate::tests::so;
 use font_bdf::{
-    BdfFault, BdfProblem, CharacterRange, FontSetting, Outside, font_tables, read_font,
+    BdfFault, BdfProblem, CharacterRange, FontSetting, Outside, font_tables, listed_tables,
+    read_font, read_listed,
 };
 use std::alloc::{AllocError, Global};
 use std::fmt::Write;
@@ -10,6 +11,7 @@ const SETTING: FontSetting<'static> = FontSetting {
     number: 7,
     version: 0,
     char_spacing: Some(1),
+    written_spacing: None,
     line_spacing: 2,
     characters: &[CharacterRange {
         first: 1,
@@ -47,9 +49,8 @@ ENDCHAR
 ENDFONT
 ";
 
-#[test]
-fn a_font_becomes_a_table(rt: HostRuntime) -> Result<(), Fail> {
-    let table = "[[font]]
+/// Its table.
+const TABLE: &str = "[[font]]
 number = 7
 version = 0
 height = 3
@@ -60,12 +61,36 @@ cell = [
   { number = 73, width = 1, bits = \"60\" }, # I
 ]
 ";
+
+/// The same font in a table of NTCIP 1203.
+const LISTED: &str = "fontNumber,fontHeight,fontCharSpacing,fontLineSpacing,fontVersionID
+7,3,1,2,0
+characterNumber,characterWidth,characterBitmap
+65,3,5E80
+73,1,60
+";
+
+#[test]
+fn a_font_becomes_a_table(rt: HostRuntime) -> Result<(), Fail> {
     let Ok(text) = font_tables(rt.alloc(), SMALL.as_bytes(), &SETTING) else {
         panic!(rt; "the font is taken");
     };
-    so(&rt, text.as_slice() == table.as_bytes(), "the table");
+    so(&rt, text.as_slice() == TABLE.as_bytes(), "the table");
     let Ok(font) = read_font(rt.alloc(), SMALL.as_bytes(), &SETTING) else {
         panic!(rt; "the font is read");
+    };
+    so(&rt, font.cells.len() == 2, "two cells");
+    Ok(())
+}
+
+#[test]
+fn a_font_table_becomes_a_table(rt: HostRuntime) -> Result<(), Fail> {
+    let Ok(text) = listed_tables(rt.alloc(), LISTED.as_bytes()) else {
+        panic!(rt; "the font table is taken");
+    };
+    so(&rt, text.as_slice() == TABLE.as_bytes(), "the table");
+    let Ok(font) = read_listed(rt.alloc(), LISTED.as_bytes()) else {
+        panic!(rt; "the font table is read");
     };
     so(&rt, font.cells.len() == 2, "two cells");
     Ok(())

@@ -49,6 +49,7 @@ the line needs 15 pixels, the rectangle has 12
 [green]
 ^
 the sign takes no tag 'green'; no tag of the standard begins so; perhaps [cf3] is meant
+try: [cf3]
 
 ",
         ),
@@ -58,6 +59,7 @@ the sign takes no tag 'green'; no tag of the standard begins so; perhaps [cf3] i
 A[nl]A[nl]A
           ^
 the area needs 11 rows of 7
+try: A[nl]A[np]A
 
 ",
         ),
@@ -78,10 +80,20 @@ fn a_message_is_told_in_lines_and_records(rt: HostRuntime) -> Result<(), Fail> {
             "day:2:4: error: textTooBig (5): the line needs 15 pixels, the rectangle has 12\n",
         ),
         (Format::Lines, "A", ""),
+        (Format::Mended, "A", "A\n"),
+        (Format::Mended, "AAAA", "AAAA\n"),
+        (Format::Mended, "A[nl]A[nl]A", "A[nl]A[np]A\n"),
+        (Format::Mended, "ai", "AI\n"),
+        (
+            Format::Lines,
+            "ai",
+            "day:2:1: error: characterNotDefined (7): font 1 has no character 97 'a'; it has A I [ ] space; write A\n\
+             day:2:1: note: try AI\n",
+        ),
         (
             Format::Json,
             "AAAA",
-            "{\"code\":5,\"line\":2,\"message\":\"AAAA\",\"name\":\"textTooBig\",\"octet\":3,\"octets\":null,\
+            "{\"code\":5,\"fixes\":[],\"line\":2,\"message\":\"AAAA\",\"name\":\"textTooBig\",\"octet\":3,\"octets\":null,\
              \"outcome\":\"refused\",\"reason\":\"the line needs 15 pixels, the rectangle has 12\"}\n",
         ),
         (

@@ -49,8 +49,8 @@ default lines: 3, centre
 default groups: 3, middle
 default page times: 30 tenths of a second on, 0 off
 default flash times: 5 tenths of a second on, 6 off
-default foreground: 1, red
-default background: 0, black
+default foreground: 1, lit
+default background: 0, dark
 font 1: version 6699, in MULTI [fo1,1A2B]
 font 1: height 3, character spacing 1, line spacing 2
 font 1: characters 32 65 73

@@ -4,6 +4,8 @@ use super::{FailingReader, NarrowWriter};
 use crate::tests::so;
 use message_report::{Format, Telling};
 use sign_aids::{Counts, run_explain};
+use std::alloc::Global;
+use std::io::{Read, Write};
 use tool_streams::ToolFault;
 
 /// Messages in words and pictures, at the beginning of their pages.
@@ -19,6 +21,7 @@ const COUNTS: Counts = Counts {
     messages: 2,
     refused: 1,
     warnings: 0,
+    mended: 0,
 };
 
 const MESSAGES: &str = "AI\nAB\n";
@@ -42,6 +45,16 @@ font 1 has no character 66 'B'; it has A I [ ] space
 
 ";
 
+/// Explains messages on the sample sign.
+fn explained<R: Read, W: Write>(
+    alloc: Global,
+    reader: &mut R,
+    writer: &mut W,
+) -> Result<Counts, ToolFault> {
+    let mut errors: Vec<u8> = Vec::new(alloc);
+    run_explain(alloc, true, TELLING, b"-", 0, reader, writer, &mut errors)
+}
+
 #[test]
 fn explanations_end_where_their_streams_fail(rt: HostRuntime) {
     let alloc = rt.alloc();
@@ -51,28 +64,12 @@ fn explanations_end_where_their_streams_fail(rt: HostRuntime) {
             room,
             fails: room % 2 == 1,
         };
-        let end = run_explain(
-            alloc,
-            true,
-            TELLING,
-            b"-",
-            0,
-            &mut MESSAGES.as_bytes(),
-            &mut writer,
-        );
+        let end = explained(alloc, &mut MESSAGES.as_bytes(), &mut writer);
         let front = writer.taken.as_slice() == &EXPLAINED.as_bytes()[..room];
         assert!(rt; end == Err(ToolFault::Write) && front, "room for {room}");
     }
     let mut output = Vec::new(alloc);
-    let end = run_explain(
-        alloc,
-        true,
-        TELLING,
-        b"-",
-        0,
-        &mut MESSAGES.as_bytes(),
-        &mut output,
-    );
+    let end = explained(alloc, &mut MESSAGES.as_bytes(), &mut output);
     so(
         &rt,
         end == Ok(COUNTS) && output.as_slice() == EXPLAINED.as_bytes(),
@@ -82,7 +79,7 @@ fn explanations_end_where_their_streams_fail(rt: HostRuntime) {
     for read in 0..MESSAGES.len() + 1 {
         let mut reader = FailingReader(&MESSAGES.as_bytes()[..read]);
         let mut output = Vec::new(alloc);
-        let end = run_explain(alloc, true, TELLING, b"-", 0, &mut reader, &mut output);
+        let end = explained(alloc, &mut reader, &mut output);
         let whole = match read {
             0..=2 => "",
             3..=5 => &EXPLAINED[..first],
@@ -100,7 +97,7 @@ fn a_last_line_needs_no_end(rt: HostRuntime) {
     let alloc = rt.alloc();
     let mut output = Vec::new(alloc);
     let mut messages = "AI\nAB".as_bytes();
-    let end = run_explain(alloc, true, TELLING, b"-", 0, &mut messages, &mut output);
+    let end = explained(alloc, &mut messages, &mut output);
     so(
         &rt,
         end == Ok(COUNTS) && output.as_slice() == EXPLAINED.as_bytes(),
@@ -108,7 +105,7 @@ fn a_last_line_needs_no_end(rt: HostRuntime) {
     );
     let mut output = Vec::new(alloc);
     let mut long = [b'A'; 8_301].as_slice();
-    let end = run_explain(alloc, true, TELLING, b"-", 0, &mut long, &mut output);
+    let end = explained(alloc, &mut long, &mut output);
     so(
         &rt,
         end == Err(ToolFault::LineTooLong { line: 1 }) && output.is_empty(),

@@ -35,6 +35,7 @@ const SETTING: FontSetting<'static> = FontSetting {
     number: 1,
     version: 0,
     char_spacing: Some(1),
+    written_spacing: None,
     line_spacing: 1,
     characters: &[CharacterRange {
         first: 1,

@@ -51,7 +51,10 @@ fn a_picture_has_its_dots(rt: HostRuntime) -> Result<(), Fail> {
     let input = small_input(alloc)?;
     let picture = small_picture(alloc)?;
     let [ppm, _, _] = VIEWS;
-    let drawn = draw_picture(alloc, false, ppm, 8, &mut input.as_slice()).expect(&rt, "a picture");
+    let drawn = draw_picture(alloc, false, ppm, 8, None, &mut input.as_slice()).expect(
+        &rt,
+        "a picture",
+    );
     assert!(rt; drawn.as_slice() == picture.as_slice());
     Ok(())
 }
@@ -61,7 +64,7 @@ fn a_picture_ends_where_its_streams_fail(rt: HostRuntime) -> Result<(), Fail> {
     let alloc = rt.alloc();
     let input = small_input(alloc)?;
     for view in VIEWS {
-        let picture = draw_picture(alloc, false, view, 8, &mut input.as_slice()).expect(
+        let picture = draw_picture(alloc, false, view, 8, None, &mut input.as_slice()).expect(
             &rt,
             "a picture",
         );
@@ -71,7 +74,15 @@ fn a_picture_ends_where_its_streams_fail(rt: HostRuntime) -> Result<(), Fail> {
                 room,
                 fails: room % 2 == 1,
             };
-            let result = run_picture(alloc, false, view, 8, &mut input.as_slice(), &mut writer);
+            let result = run_picture(
+                alloc,
+                false,
+                view,
+                8,
+                None,
+                &mut input.as_slice(),
+                &mut writer,
+            );
             let want = if room == picture.len() {
                 Ok(())
             } else {
@@ -83,7 +94,7 @@ fn a_picture_ends_where_its_streams_fail(rt: HostRuntime) -> Result<(), Fail> {
         for read in 0..input.len() + 1 {
             let mut reader = FailingReader(&input[..read]);
             let mut output = Vec::new(alloc);
-            let result = run_picture(alloc, false, view, 8, &mut reader, &mut output);
+            let result = run_picture(alloc, false, view, 8, None, &mut reader, &mut output);
             let end = result == Err(PictureFault::Tool(ToolFault::Read));
             assert!(rt; end && output.is_empty(), "a failure after {read}");
         }

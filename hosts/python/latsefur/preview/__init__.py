@@ -2,6 +2,5 @@
 
     python -m latsefur.preview --sign signs/full-matrix.toml
 
-It is served on the loopback interface alone. Verdicts, times and pictures come from the library; why a message is refused, warnings and the
-file in GIF come from the program `signctl`, where it is found. The page itself knows nothing of MULTI.
+It is served on the loopback interface alone. All that it shows comes from the library; the page itself knows nothing of MULTI.
 """

@@ -9,20 +9,18 @@ from typing import Optional
 
 from ..errors import LatsefurError
 from ..sign import Sign
-from . import program
 from .answers import Answers
+from .reasons import Reasons
 from .server import OneSign, Page, Server
 from .templates import templates
 
 
-def one_sign(
-    file: str, files: list[str], library: Optional[str], path: Optional[Path]
-) -> OneSign:
+def one_sign(file: str, files: list[str], library: Optional[str]) -> OneSign:
     """The sign of a file, which is named without its folder if no other file has that name."""
     sign = Sign.from_file(file, library)
     stems = [Path(other).stem for other in files]
     name = Path(file).stem if stems.count(Path(file).stem) == 1 else file
-    return OneSign(name, Answers(sign), program.Program(path, sign.octets) if path else None)
+    return OneSign(name, Answers(sign), Reasons(sign))
 
 
 def main() -> None:
@@ -43,29 +41,15 @@ def main() -> None:
     )
     parser.add_argument("--open", action="store_true", help="open the page in the browser")
     parser.add_argument("--library", metavar="FILE", help="the shared library")
-    parser.add_argument(
-        "--signctl", metavar="FILE", help="the program that explains messages and writes GIF"
-    )
     words = parser.parse_args()
     if not 0 <= words.port <= 65535:
         parser.error("a port is 0 to 65535")
     try:
-        path = program.find(words.signctl)
-        signs = [one_sign(name, words.sign, words.library, path) for name in words.sign]
+        signs = [one_sign(name, words.sign, words.library) for name in words.sign]
         server = Server(Page(signs, templates(words.templates)), words.port)
     except (LatsefurError, OSError) as fault:
         sys.exit(f"latsefur.preview: {fault}")
     print(server.url, flush=True)
-    asked = signs[0].program
-    if asked is None:
-        print(
-            "signctl isn't there: refusals have their names alone, and no GIF is written",
-            file=sys.stderr,
-        )
-    elif not asked.explains:
-        print(
-            f"{asked.path} tells no reasons in JSON: refusals have their names alone", file=sys.stderr
-        )
     if words.open:
         webbrowser.open(server.url)
     try:

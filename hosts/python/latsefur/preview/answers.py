@@ -23,8 +23,10 @@ MOST_TENTHS = 100
 MOST_DRAWN = 1024
 MOST_SMALL = 1 << 20
 
-# A bracket that more text can still mend: a tag that isn't closed, or a lone `]` at the end.
-OPEN = re.compile(rb"\]|\[[^][]*")
+# A bracket at the end: a lone `]`, or a tag that isn't closed; and the names that such a tag may still
+# come to have. Which of them a sign takes, the sign says.
+OPEN = re.compile(rb"\]|\[([^][]*)")
+NAMES = b"nl np jl jp fo sc /sc pt fl /fl tr hc cf pb cb cr f g ms mv".split()
 
 DIGITS = bytes(range(ord("0"), ord("0") + 10)) + bytes(246)
 
@@ -75,11 +77,10 @@ class Answers:
         drawn = [digits(self.sign.colours(text).octets) for text in texts[:most]]
         return drawn + [""] * (len(texts) - len(drawn))
 
-    def strip(self, text: Text) -> list[str]:
-        """How each page of an accepted text begins, as a picture of digits, if the text has several
-        pages. Of very many not all are drawn."""
+    def strip(self, text: Text, pages: int) -> list[str]:
+        """How each of the pages of an accepted text begins, as a picture of digits, if there are
+        several. Of very many not all are drawn."""
         octets = octets_of(text)
-        pages = self.sign.check(octets).pages
         drawn = range(min(pages, self.most_small()) if pages > 1 else 0)
         return [digits(self.sign.colours_of_page(octets, page).octets) for page in drawn]
 
@@ -120,10 +121,10 @@ class Answers:
                 "at": verdict.at,
                 "code": int(verdict.error),
                 "name": name_of(verdict.error),
-                "unfinished": is_unfinished(octets, verdict),
+                "unfinished": is_unfinished(self.sign, octets, verdict),
             }
         if view == "caret":
-            view = self._page_at(octets, caret)
+            view = self._page_at(octets, caret) if verdict.pages > 1 else 0
         page = None if view is None else min(view, verdict.pages - 1)
         return {
             "accepted": True,
@@ -202,10 +203,19 @@ def is_there(verdict: Verdict) -> bool:
     return verdict.accepted or verdict.error == MultiError.TEXT_TOO_BIG
 
 
-def is_unfinished(octets: bytes, verdict: Verdict) -> bool:
-    """Whether what is wrong with a text is a bracket at its end that more text can mend."""
-    is_bracket = verdict.error == MultiError.UNSUPPORTED_TAG
-    return is_bracket and OPEN.fullmatch(octets, verdict.at) is not None
+def is_unfinished(sign: Sign, octets: bytes, verdict: Verdict) -> bool:
+    """Whether what is wrong with a text is a bracket at its end that more text can mend: a `]` that a
+    second one makes a character, or a tag whose name the sign takes, or whose beginning may become
+    such a name."""
+    bracket = OPEN.fullmatch(octets, verdict.at)
+    if verdict.error != MultiError.UNSUPPORTED_TAG or bracket is None:
+        return False
+    begun = bracket[1]
+    if begun is None:
+        return True
+    ends = [name[len(begun) :] for name in NAMES if name.startswith(begun.lower())] or [b""]
+    closed = sign.check_all(octets + end + b"]" for end in ends)
+    return any((one.error, one.at) != (verdict.error, verdict.at) for one in closed)
 
 
 def name_of(error: MultiError) -> str:

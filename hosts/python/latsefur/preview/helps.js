@@ -3,26 +3,34 @@
 
 // ---- Tags.
 
-// The buttons of the tags that the signs have. Tags of one group open below its name.
+// The buttons of the tags that the signs have. Those of one group stand in a row of their own, which the group's button opens.
 function listTags(tags, write) {
-  const groups = [...new Set(tags.map(({group}) => group))];
+  const groups = [...new Set(tags.map(({group}) => group))], rows = [];
   byId("tags").replaceChildren(...groups.flatMap((group) => {
     const own = tags.filter((tag) => tag.group === group);
-    return group === "" ? own.map((tag) => tagButton(tag, write)) : [tagGroup(group, own, write)];
+    if (group === "") {
+      return own.map((tag) => tagButton(tag, write));
+    }
+    const {opener, row} = tagGroup(group, own, write);
+    rows.push(row);
+    return [opener];
   }));
+  byId("choices").replaceChildren(...rows);
 }
+
+const idOf = (name) => name.toLowerCase().replace(" ", "-");
 
 function tagButton(tag, write) {
   const element = button(tag.name, () => write(tag));
-  element.id = tag.name.toLowerCase().replace(" ", "-");
+  element.id = idOf(tag.name);
   element.title = `Write ${tag.open}${tag.close}`;
   return element;
 }
 
 function tagGroup(group, tags, write) {
-  const inside = made("div", {className: "choices"}, ...tags.map((tag) => {
+  const row = made("div", {id: `choices-${idOf(group)}`, className: "choices", hidden: true}, ...tags.map((tag) => {
     const element = button("", () => {
-      details.open = false;
+      openGroup(null);
       write(tag);
     });
     element.append(...(group === "Colour" ? [swatch(tag.name), tag.name] : [tag.name]));
@@ -30,12 +38,20 @@ function tagGroup(group, tags, write) {
     element.title = `Write ${tag.open}`;
     return element;
   }));
-  const details = made("details", {}, made("summary", {}, group), inside);
-  // A browser that knows this closes the group that was open.
-  details.setAttribute("name", "tags");
-  inside.setAttribute("role", "group");
-  inside.setAttribute("aria-label", group);
-  return details;
+  row.setAttribute("role", "group");
+  row.setAttribute("aria-label", group);
+  const opener = button(group, () => openGroup(row.hidden ? row : null));
+  opener.className = "opener";
+  opener.setAttribute("aria-expanded", "false");
+  opener.setAttribute("aria-controls", row.id);
+  return {opener, row};
+}
+
+// Opens the row of a group, and closes any other.
+function openGroup(opened) {
+  [...byId("choices").children].forEach((row) => { row.hidden = row !== opened; });
+  [...byId("tags").children].filter((one) => one.getAttribute("aria-controls")).forEach((opener) =>
+    opener.setAttribute("aria-expanded", String(opened !== null && opener.getAttribute("aria-controls") === opened.id)));
 }
 
 function swatch(name) {
@@ -46,9 +62,16 @@ function swatch(name) {
 
 // ---- Characters.
 
+// Writes, and stays where one has scrolled to: on a phone the sign is in sight there, and the next character is below the finger.
+function inPlace(write) {
+  const {scrollX, scrollY} = window;
+  write();
+  window.scrollTo(scrollX, scrollY);
+}
+
 function cell({number, text: given, rows}) {
   const words = given.length === 1 ? `${given}, character ${number}` : `character ${number}, ${given}`;
-  const element = button("", () => insert(given));
+  const element = button("", () => inPlace(() => insert(given)));
   Object.assign(element, {tabIndex: -1, title: words});
   element.setAttribute("aria-label", given === " " ? `space, character ${number}` : words);
   if (rows.length) {
@@ -116,7 +139,7 @@ function walk(event) {
 // ---- Templates, and what was accepted before.
 
 function template({text: words, picture}) {
-  const element = button("", () => replace(words));
+  const element = button("", () => inPlace(() => replace(words)));
   element.append(...(picture === "" ? [] : [smallSign(sign, picture).canvas]), made("span", {}, words));
   return made("li", {}, element);
 }
@@ -135,7 +158,7 @@ function recall() {
 }
 
 function listPast() {
-  byId("kept").replaceChildren(...past.texts.map((words) => made("li", {}, button(words, () => replace(words)))));
+  byId("kept").replaceChildren(...past.texts.map((words) => made("li", {}, button(words, () => inPlace(() => replace(words))))));
   byId("nothing").hidden = past.texts.length > 0;
   byId("forget").hidden = past.texts.length === 0;
 }

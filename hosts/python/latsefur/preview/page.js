@@ -200,7 +200,7 @@ function tell() {
   }
   byId("strip").classList.toggle("stale", !panels[0].holds);
   if (!panels[0].holds) {
-    byId("clock").textContent = canvas.dataset.page === undefined ? "" : "the last message that was accepted";
+    byId("clock").textContent = canvas.dataset.page === undefined ? "" : "the last accepted message";
   }
   // The last thing that changes: who waits for an answer sees all of it.
   if (revision !== undefined && canvas.dataset.revision !== String(revision)) {
@@ -275,6 +275,7 @@ function written() {
   say("");
   grow();
   keeping ??= setTimeout(keep, KEPT_AFTER);
+  keepHere();
   write();
   want(0);
   clearTimeout(standing);
@@ -344,6 +345,26 @@ function keep() {
   } catch {
     // The browser takes no more for now; the next key keeps it.
   }
+  keepHere();
+}
+
+// Keeps the text for a reload of this page that comes before it stands in the link. Another link has a text of its own.
+const HERE = "latsefur.text";
+
+function keepHere() {
+  try {
+    sessionStorage.setItem(HERE, JSON.stringify([location.hash, text.value]));
+  } catch {
+    // The link keeps it soon.
+  }
+}
+
+function textHere() {
+  try {
+    return keptText(sessionStorage.getItem(HERE), location.hash);
+  } catch {
+    return textOf(location.hash);
+  }
 }
 
 // Another link of this page was followed. One without a text is passed over.
@@ -384,7 +405,7 @@ function listPages(pages) {
   if (view.options.length !== pages + 2) {
     const chosen = view.value;
     const one = (value, words) => new Option(words, value);
-    view.replaceChildren(one("plays", "the message as it plays"), one("caret", "the page of the caret"),
+    view.replaceChildren(one("plays", "all as it plays"), one("caret", "the caret's page"),
                          ...Array.from({length: pages}, (_, page) => one(String(page), `page ${page + 1}`)));
     view.value = [...view.options].some(({value}) => value === chosen) ? chosen : chosen === "" ? "plays" : String(pages - 1);
   }
@@ -436,10 +457,10 @@ async function copied() {
   }
 }
 
-// Saves a file, and gives its name: what is shown as PNG; as GIF the message as it plays, or a page that is chosen to be seen alone.
+// Saves a file, and gives its name: what is shown as PNG, or the message as it plays as GIF.
 async function save(kind) {
-  const {film, holds} = panels[0], isAlone = kind === "png" || view.value !== "plays";
-  const reply = await ask(kind, {text: text.value, view: film && holds && isAlone ? film.page : null, begin: now()});
+  const {film, holds} = panels[0], isOne = kind === "png" && film && holds;
+  const reply = await ask(kind, {text: text.value, view: isOne ? film.page : null, begin: now()});
   const link = made("a", {href: URL.createObjectURL(await reply.blob()), download: `${sign.name}.${kind}`});
   link.click();
   setTimeout(() => URL.revokeObjectURL(link.href), 10000);
@@ -447,10 +468,9 @@ async function save(kind) {
   return link.download;
 }
 
-async function saved(kind, more = async () => "") {
+async function saved(kind) {
   try {
-    const name = await save(kind);
-    say(`${name} is saved. ${await more()}`.trim());
+    say(`${await save(kind)} is saved.`);
   } catch (fault) {
     say(`No picture: ${fault.message}`);
   }
@@ -458,6 +478,8 @@ async function saved(kind, more = async () => "") {
 
 function fit() {
   panels.forEach((panel) => panel.fit());
+  // On a phone the sign stays where it is, and what takes the focus is scrolled to below it.
+  document.documentElement.style.setProperty("--case", `${byId("case").offsetHeight}px`);
 }
 
 function listen() {
@@ -484,7 +506,7 @@ function listen() {
   byId("play").addEventListener("click", () => turn(!playing));
   byId("go").addEventListener("click", () => goTo(Number(byId("go").dataset.at)));
   byId("copy").addEventListener("click", async () => say(await copied()));
-  byId("save").addEventListener("click", () => saved("gif", copied));
+  byId("save").addEventListener("click", () => saved("gif"));
   byId("save-png").addEventListener("click", () => saved("png"));
   byId("font").addEventListener("change", showFont);
   byId("use-font").addEventListener("click", () => {
@@ -504,18 +526,19 @@ function lay() {
   byId("name").textContent = `A message for ${named.join(" and ")}`;
   document.title = byId("name").textContent;
   byId("size").textContent = several ? "" : `${sizeOf(sign)}, at most ${sign.pages} pages`;
-  byId("first").textContent = `${sign.name}: ${sizeOf(sign)}`;
+  byId("first").replaceChildren(...headOf(sign));
   byId("first").hidden = !several;
   byId("signs").classList.toggle("several", several);
   byId("shown").setAttribute("aria-label", several ? `The sign ${sign.name}` : "The sign");
-  const own = ["outcome", "reason", "code", "go", "warnings", "verdict", "case"].map((id) => [id, byId(id)]);
-  panels = [new Panel({...sign, several}, {canvas, ...Object.fromEntries(own)}, goTo),
-            ...sign.others.map((other) => otherPanel({...other, several}, goTo))];
+  const own = ["outcome", "reason", "fixes", "code", "go", "warnings", "verdict", "case"].map((id) => [id, byId(id)]);
+  const acts = {goTo, replace};
+  panels = [new Panel({...sign, several}, {canvas, ...Object.fromEntries(own)}, acts),
+            ...sign.others.map((other) => otherPanel({...other, several}, acts))];
   byId("signs").append(...panels.slice(1).map(({parts}) => parts.section));
 }
 
 async function begin() {
-  text.value = textOf(location.hash);
+  text.value = textHere();
   byId("port").textContent = `--port ${location.port || 80}`;
   sign = await patiently("sign", undefined, tellLost);
   tellLost("");
@@ -526,10 +549,6 @@ async function begin() {
   view.value = playing ? "plays" : "caret";
   turn(playing);
   text.placeholder = sign.templates.length ? `For example ${sign.templates[0].text}` : "";
-  if (!sign.draws_gif) {
-    byId("save").disabled = true;
-    byId("save").title = "signctl, which writes GIF, isn't there";
-  }
   listTags(sign.tags, writeTag);
   byId("list").replaceChildren(...sign.templates.map(template));
   byId("none").hidden = sign.templates.length > 0;

@@ -6,8 +6,10 @@ const BETWEEN = "rgb(12,12,12)";
 const SHINE = ["40,40,40", "255,32,32", "255,240,32", "32,224,64", "32,224,240", "64,96,255", "240,64,240", "255,255,255", "255,128,16",
                "255,176,0"].map((shares) => `rgb(${shares})`);
 
-// The largest dot in CSS pixels, and what a phone is, as in page.css.
+// The largest dot in CSS pixels, the largest part of the window's height that a sign takes, so that what is said of a message is in sight without
+// scrolling, and what a phone is, as in page.css.
 const LARGEST = 16;
+const HIGHEST = 0.4;
 const PHONE = "(max-width: 40rem), (max-height: 32rem)";
 
 // The width of a small sign in CSS pixels, and its largest dot.
@@ -86,19 +88,22 @@ function smallSign({width, height, classic}, picture) {
 
 const sizeOf = ({width, height, classic}) => `${width} by ${height} pixels, ${classic ? "ten colours" : "one colour"}`;
 
+// What stands above one of several signs. On a phone there is room for its name alone.
+const headOf = (sign) => [sign.name, made("span", {}, `: ${sizeOf(sign)}`)];
+
 // A sign of the page: its picture, and what is said of the message on it. `parts` are its elements; those of the first sign stand in page.html.
 class Panel {
-  constructor(sign, parts, goTo) {
-    Object.assign(this, {sign, parts, goTo, film: null, holds: false, words: null, lastWords: ""});
+  constructor(sign, parts, {goTo, replace}) {
+    Object.assign(this, {sign, parts, goTo, replace, film: null, holds: false, words: null, lastWords: ""});
     this.dots = new Dots(parts.canvas, sign.width, sign.height, sign.classic);
   }
 
   fit() {
     const was = this.dots.there, style = getComputedStyle(this.parts.case);
     const room = this.parts.case.clientWidth - parseFloat(style.paddingLeft) - parseFloat(style.paddingRight);
-    // On a phone it fills its panel, but leaves half of the height to the message.
-    const isPhone = window.matchMedia(PHONE).matches;
-    this.dots.fit(room, isPhone ? window.innerHeight / 2 / this.sign.height : LARGEST, isPhone);
+    // On a phone, and beside another sign, it fills its panel. On a phone it leaves half of the height to the message.
+    const isPhone = window.matchMedia(PHONE).matches, most = (isPhone ? 0.5 : HIGHEST) * window.innerHeight / this.sign.height;
+    this.dots.fit(room, isPhone ? most : Math.min(LARGEST, most), isPhone || this.sign.several);
     this.dots.draw(was || "0".repeat(this.sign.width * this.sign.height));
   }
 
@@ -150,6 +155,9 @@ class Panel {
     if (this.sign.several && !this.parts.section) {
       this.parts.outcome.textContent = `${this.sign.name}: ${words.outcome}`;
     }
+    const fixes = words.fixes.map((fix) => fixButton(partsOfFix(fix, words.text), () => this.replace(fix.text)));
+    this.parts.fixes.hidden = fixes.length === 0;
+    this.parts.fixes.replaceChildren("Write instead:", ...fixes);
     this.parts.go.hidden = words.at === null;
     if (words.at !== null) {
       this.parts.go.textContent = `Go to octet ${words.at}`;
@@ -161,23 +169,32 @@ class Panel {
   }
 }
 
+// A button that writes a text in place of the one that is refused. What is new in it stands out.
+function fixButton(parts, act) {
+  const element = button("", act);
+  element.append(...parts.map(({words, isNew}) => isNew ? made("b", {}, words) : words));
+  return element;
+}
+
 const pageOf = (frame, film) => frame.page === null ? "off time" : `page ${frame.page + 1} of ${film.pages}`;
 
 // The panel of another sign, with elements of its own.
-function otherPanel(sign, goTo) {
+function otherPanel(sign, acts) {
   const parts = {
     canvas: made("canvas"), outcome: made("p", {className: "outcome"}), reason: made("p", {className: "reason", hidden: true}),
     code: made("small", {className: "code", hidden: true}), warnings: made("ul", {className: "warnings", hidden: true}),
-    go: made("button", {type: "button", hidden: true}),
+    go: made("button", {type: "button", hidden: true}), fixes: made("div", {className: "fixes", hidden: true}),
   };
   parts.canvas.setAttribute("role", "img");
   parts.canvas.setAttribute("aria-label", `The sign ${sign.name} is dark`);
   parts.warnings.setAttribute("aria-label", `Warnings of ${sign.name}`);
-  parts.go.addEventListener("click", () => goTo(Number(parts.go.dataset.at)));
+  parts.fixes.setAttribute("role", "group");
+  parts.fixes.setAttribute("aria-label", `What ${sign.name} takes instead`);
+  parts.go.addEventListener("click", () => acts.goTo(Number(parts.go.dataset.at)));
   parts.case = made("div", {className: "case"}, parts.canvas);
   const told = made("p", {className: "told"}, parts.code, " ", parts.go);
-  parts.verdict = made("div", {className: "verdict"}, parts.outcome, parts.reason, told, parts.warnings);
-  parts.section = made("section", {className: "other"}, made("h2", {}, `${sign.name}: ${sizeOf(sign)}`), parts.case, parts.verdict);
+  parts.verdict = made("div", {className: "verdict"}, parts.outcome, parts.reason, parts.fixes, told, parts.warnings);
+  parts.section = made("section", {className: "other"}, made("h2", {}, ...headOf(sign)), parts.case, parts.verdict);
   parts.section.setAttribute("aria-label", `The sign ${sign.name}`);
-  return new Panel(sign, parts, goTo);
+  return new Panel(sign, parts, acts);
 }

@@ -10,9 +10,17 @@ from http.server import BaseHTTPRequestHandler, ThreadingHTTPServer
 from pathlib import Path
 from typing import Any, Callable, Optional
 
-from ..errors import LatsefurError, NoPage, NotAnOctet, TextRefused, TextTooLong
+from ..errors import (
+    LargeFilm,
+    LatsefurError,
+    LongFilm,
+    NoPage,
+    NotAnOctet,
+    TextRefused,
+    TextTooLong,
+)
 from .answers import Answers, TooLong
-from .program import NotDrawn, Program
+from .reasons import Reasons
 
 ADDRESS = "127.0.0.1"
 
@@ -56,18 +64,17 @@ class Refused(Exception):
 
 @dataclass(frozen=True)
 class OneSign:
-    """One of the signs that the page shows: its name, what is answered of it, and the program that
-    is asked about it."""
+    """One of the signs that the page shows: its name, what is answered of it, and who is asked why."""
 
     name: str
     answers: Answers
-    program: Optional[Program]
+    reasons: Reasons
 
     def judge(self, text: str, asked: dict[str, Any]) -> dict[str, Any]:
         """What is told of a text on this sign: what `message` says, and beside it `words`, the
-        reason and the warnings of `signctl explain`. They are `None` if there are none, or if they
-        are of another verdict than the library's."""
-        # The program runs while the library draws.
+        reason and the warnings of `Sign.explain`. They are `None` if there are none, or if they
+        are of another verdict."""
+        # It is explained while it is drawn.
         with ThreadPoolExecutor(1) as asking:
             explained = asking.submit(self.explained, text)
             told = self.message(text, asked)
@@ -99,12 +106,12 @@ class OneSign:
             return {"accepted": False, "at": None, "said": str(fault), "name": "too long"}
 
     def explained(self, text: str) -> Optional[dict[str, Any]]:
-        """What `signctl explain` says of a text, or nothing."""
+        """What `Sign.explain` says of a text, or nothing."""
         try:
             octets = text.encode("latin-1")
         except UnicodeEncodeError:
             return None
-        return self.program.explained(octets) if self.program else None
+        return self.reasons.explained(octets)
 
 
 @dataclass(frozen=True)
@@ -134,7 +141,6 @@ class Page:
         shared = [set(sign.answers.tags()) for sign in self.signs]
         return {
             "name": self.first.name,
-            "draws_gif": self.first.program is not None,
             **first.facts(),
             "stamp": self.stamp,
             "templates": [
@@ -154,15 +160,19 @@ class Page:
         more.
         """
         text, caret = text_of(asked), number(asked, "caret", MOST_BODY)
+
+        def judged(sign: OneSign) -> dict[str, Any]:
+            return sign.judge(text, asked)
+
         with ThreadPoolExecutor(len(self.signs)) as asking:
-            told, *others = asking.map(lambda sign: sign.judge(text, asked), self.signs)
+            told, *others = asking.map(judged, self.signs)
         is_drawn = told["accepted"] and asked.get("strip") is True
         return {
             **told,
             "others": others,
             "stamp": self.stamp,
             "font": self.first.answers.font_at(text, caret),
-            "strip": self.first.answers.strip(text) if is_drawn else [],
+            "strip": self.first.answers.strip(text, told["pages"]) if is_drawn else [],
         }
 
     def font(self, asked: dict[str, Any]) -> dict[str, Any]:
@@ -179,22 +189,10 @@ class Page:
             raise Refused(HTTPStatus.CONFLICT, str(fault)) from fault
 
     def gif(self, asked: dict[str, Any]) -> bytes:
-        """A file in GIF: of a page of the first sign at a phase, or of the message as it plays."""
-        if self.first.program is None:
-            raise Refused(HTTPStatus.CONFLICT, "signctl, which writes GIF, isn't there")
-        words = ["--scale", str(self.scale())]
-        if asked.get("view") is None:
-            words += ["--all"]
-        else:
-            words += [
-                "--page",
-                str(number(asked, "view", 254) + 1),
-                "--phase",
-                str(number(asked, "begin", 2**32 - 1)),
-            ]
+        """A file in GIF: the message as it plays on the first sign."""
         try:
-            return self.first.program.gif(text_of(asked).encode("latin-1", "replace"), words)
-        except NotDrawn as fault:
+            return self.first.answers.sign.film(text_of(asked), self.scale())
+        except (NotAnOctet, TextRefused, TextTooLong, LargeFilm, LongFilm) as fault:
             raise Refused(HTTPStatus.CONFLICT, str(fault)) from fault
 
     def scale(self) -> int:
@@ -203,13 +201,19 @@ class Page:
 
 
 def words_of(record: Optional[dict[str, Any]], told: dict[str, Any]) -> Optional[dict[str, Any]]:
-    """The reason and the warnings of a record of `signctl explain`, if its verdict is the one that is told."""
+    """The reason, the warnings and the fixes of a record of `Sign.explain`, if its verdict is the one
+    that is told. A fix is a text that the sign takes instead, with the edits that lead to it."""
     if record is None:
         return None
     verdict = record.get("outcome") == "accepted", record.get("code"), record.get("octet")
     if verdict != (told["accepted"], told.get("code"), told.get("at")):
         return None
-    return {"reason": record.get("reason", ""), "warnings": record.get("warnings", [])}
+    fixes = [fix for fix in record.get("fixes", []) if fix["text"] is not None]
+    return {
+        "reason": record.get("reason", ""),
+        "warnings": record.get("warnings", []),
+        "fixes": [{"text": fix["text"], "edits": fix["edits"]} for fix in fixes],
+    }
 
 
 def text_of(asked: dict[str, Any]) -> str:

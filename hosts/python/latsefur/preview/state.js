@@ -2,8 +2,10 @@
 // What the page may say of a text, and when it asks. No element of the page is known here, and no clock: `hosts/python/tests/state.js` hands
 // in its own. Times are in milliseconds.
 
-// How long a text may wait for its answer before the page says that it isn't judged.
-const PATIENCE = 250;
+// How long a text may wait for its answer before the page says that it isn't judged, and how long another text waits for the answer to a question
+// that is open.
+const PATIENCE = 100;
+const BUSY = 250;
 
 // After how long a question is asked again: if no answer comes, and if it is known that none will. The last pause is that of all after it.
 const UNANSWERED = [2000, 4000, 5000];
@@ -63,7 +65,7 @@ class Judging {
       return null;
     }
     this.askAt = now + pause(UNANSWERED, this.asks);
-    this.busyUntil = now + PATIENCE;
+    this.busyUntil = now + BUSY;
     this.asks += 1;
     return {...this.wanted, revision: this.revision};
   }
@@ -320,7 +322,7 @@ const seconds = (tenths) => (tenths / 10).toFixed(1);
 
 // The words of what `Judging.said` gives. `at` is the octet that is marked in `text`, if one is.
 function wordsOf({kind, answer}) {
-  const nothing = {kind, outcome: "", reason: "", code: "", text: "", at: null, warnings: []};
+  const nothing = {kind, outcome: "", reason: "", fixes: [], code: "", text: "", at: null, warnings: []};
   const {[kind]: told} = {accepted: acceptedWords, refused: refusedWords, unfinished: unfinishedWords};
   return {...nothing, ...(told ? told(answer) : {outcome: OTHERWISE[kind]})};
 }
@@ -329,13 +331,21 @@ const OTHERWISE = {empty: "Nothing is written yet.", waiting: "Not judged yet.",
 
 function acceptedWords({pages, cycle, words}) {
   const outcome = pages === 1 ? "Accepted: 1 page." : `Accepted: ${pages} pages, ${seconds(cycle)} s in all.`;
-  return {outcome, warnings: words ? words.warnings : [], code: words ? "" : "What signctl warns of isn't known."};
+  return {outcome, warnings: words ? words.warnings : [], code: words ? "" : "Whether something looks like a slip isn't known."};
 }
 
 function refusedWords(answer) {
   const {at, text, said, name, words} = answer;
   const reason = (words && words.reason) || said || spaced(name);
-  return {outcome: "Refused.", reason, code: codeOf(answer), text, at};
+  return {outcome: "Refused.", reason, fixes: (words && words.fixes) || [], code: codeOf(answer), text, at};
+}
+
+// A fix in parts: what stands in the text that is refused, and what is new. If the edits don't lead to it, it is one part.
+function partsOfFix({text, edits}, refused) {
+  const parts = edits.flatMap(({from, text: words}, place) =>
+    [{words: refused.slice(place ? edits[place - 1].to : 0, from), isNew: false}, {words, isNew: true}]);
+  parts.push({words: refused.slice(edits.length ? edits[edits.length - 1].to : 0), isNew: false});
+  return parts.map(({words}) => words).join("") === text ? parts.filter(({words}) => words) : [{words: text, isNew: false}];
 }
 
 // One is writing a tag: nothing is wrong yet.
@@ -347,8 +357,9 @@ function unfinishedWords(answer) {
 
 // What is heard: the words of each sign, behind its name if there are several.
 function spokenOf(told) {
-  const said = told.map(({name, words: {outcome, reason, warnings}}) => {
-    const parts = [outcome, reason, ...warnings.map((one) => one.text)];
+  const said = told.map(({name, words: {outcome, reason, fixes, warnings}}) => {
+    const ways = fixes.length === 0 ? "" : `Buttons write what the sign takes instead: ${fixes.length}.`;
+    const parts = [outcome, reason, ways, ...warnings.map((one) => one.text)];
     return (told.length > 1 ? [`${name}:`, ...parts] : parts).filter(Boolean).join(" ");
   });
   return said.join(" ");
@@ -447,13 +458,19 @@ function textOf(hash) {
   }
 }
 
+// The text of a page with this link that was kept beside it, as `[link, text]`, or else that of the link.
+function keptText(kept, hash) {
+  const [link, text] = JSON.parse(kept) ?? [];
+  return link === hash && typeof text === "string" && text.length <= MOST_CHARACTERS ? text : textOf(hash);
+}
+
 // ---- How large a picture is.
 
 // How a picture with `width` dots a row is drawn in a room: the points of the screen for a dot, and the width in which it is shown. The room and
 // `largest`, the most that a dot may have, are in CSS pixels, of which each has `ratio` points. Whole points are crisp. Where they would leave much
 // of a room that is to be filled, about twice as many are drawn, and shown smaller.
 function fitted(room, width, ratio, largest, fills) {
-  const wanted = Math.max(1, Math.min(largest, room / width) * ratio), whole = Math.floor(wanted);
+  const wanted = Math.max(fills ? 0 : 1, Math.min(largest, room / width) * ratio), whole = Math.floor(wanted);
   return !fills || whole >= FILLED * wanted
     ? {pitch: whole, shown: whole * width / ratio}
     : {pitch: Math.ceil(2 * wanted), shown: wanted * width / ratio};
@@ -462,7 +479,7 @@ function fitted(room, width, ratio, largest, fills) {
 // Node's tests take this file as a module; in the page it is a script.
 if (typeof module === "object") {
   module.exports = {
-    Asking, Film, Judging, LOST, Looking, MOST_CHARACTERS, MOST_OPEN, MOST_PAST, PATIENCE, Past, RESTED, UNANSWERED,
-    characterAt, fitted, hashOf, kindOf, partsOf, pastOf, slipOf, spelled, spokenOf, textOf, toSpell, wordsOf, wrapped,
+    Asking, BUSY, Film, Judging, LOST, Looking, MOST_CHARACTERS, MOST_OPEN, MOST_PAST, PATIENCE, Past, RESTED, UNANSWERED,
+    characterAt, fitted, hashOf, keptText, kindOf, partsOf, partsOfFix, pastOf, slipOf, spelled, spokenOf, textOf, toSpell, wordsOf, wrapped,
   };
 }

@@ -48,10 +48,10 @@ LONE = (
     Tag("", "Flash", "[fl]", "[/fl]", pairs=True),
 )
 LINES = tuple(
-    Tag("Line", name, f"[jl{number}]") for number, name in enumerate(("left", "centre", "right"), 2)
+    Tag("Justify line", name, f"[jl{number}]") for number, name in enumerate(("left", "centre", "right"), 2)
 )
 PAGES = tuple(
-    Tag("Page", name, f"[jp{number}]") for number, name in enumerate(("top", "middle", "bottom"), 2)
+    Tag("Justify page", name, f"[jp{number}]") for number, name in enumerate(("top", "middle", "bottom"), 2)
 )
 # Times matter where a message has several pages.
 TIMES = tuple(

@@ -19,4 +19,5 @@ returns-in-Ok-new-2-clause-ok c =
       c.in-Ok-store_of.ensures.sound,
       cc,
       c.in-Ok-new-2.ensures.steps,
+      c.in-Ok-new-2.ensures.revision,
     )

@@ -4,7 +4,7 @@ use Rattle.multi_token.proofs.ReadingLemmas.{spelling_some}
 use Rattle.multi_token.proofs.StepLemmas.{rises_then}
 use Rattle.multi_token.specs.Tokens.{item_of}
 use Rattle.multi_meaning.specs.Meaning.{meaning, meanings}
-use Rattle.message_change.specs.kept.Walk.{IsSaid}
+use Rattle.message_change.specs.internal.Walk.{IsSaid}
 use Rattle.message_change.proofs.NextItemLemmas
 use Rattle.message_change.proofs.said.next_said.Goals as goal
 

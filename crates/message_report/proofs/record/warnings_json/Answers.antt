@@ -1,4 +1,7 @@
+use Rattle.std.proofs.Common.{ap, ◌∙◌}
+use Rattle.serde_json.specs.Written.{compact_text, has_float}
+use Rattle.message_report.proofs.RecordLemmas
 use Rattle.message_report.proofs.record.warnings_json.Goals as goal
 
 pub returns : goal.returns
-returns c = (_, c.in_ok-json.ensures.text c.in_ok-all.ensures)
+returns c = c.in_ok-json.ensures.text (ap has_float c.in_ok-all.ensures ∙ RecordLemmas.warnings_whole c.args.warnings.now) ∙ ap compact_text c.in_ok-all.ensures

@@ -1,4 +1,4 @@
-use Rattle.message_store.specs.kept.Pool.{moved_start}
+use Rattle.message_store.specs.internal.Pool.{moved_start}
 use Rattle.message_store.proofs.PlaceLemmas.{one-changed}
 use Rattle.message_store.proofs.places.move_starts.Goals as goal
 

@@ -1,5 +1,5 @@
 use Rattle.std.proofs.Common.{◌≡◌, ◌++◌, map, take, drop}
-use Rattle.message_store.specs.kept.Pool.{moved_start}
+use Rattle.message_store.specs.internal.Pool.{moved_start}
 use Rattle.message_store.proofs.places.move_starts.Given as goal
 
 abbrev pub invariant-loop-index : goal.invariant-loop-index

@@ -1,7 +1,7 @@
 use Rattle.std.proofs.Common.{sym, ◌∙◌}
 use Rattle.message_store.specs.declared.slot.Slot.{Slot}
 use Rattle.message_store.specs.Slot.{is_validating}
-use Rattle.message_store.specs.kept.Stored.{unused_slot}
+use Rattle.message_store.specs.internal.Stored.{unused_slot}
 use Rattle.message_store.proofs.WaitLemmas.{first-here, first-later, first-nowhere}
 use Rattle.message_store.proofs.slots.first_validating.Goals as goal
 

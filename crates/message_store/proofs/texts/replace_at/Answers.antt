@@ -1,7 +1,7 @@
 use Rattle.std.proofs.Common.{◌≡◌, ◌+◌, ◌++◌, ap, ◌∙◌, arith, List, ℕ, length, length-append, length-drop, map, slice_set, take, drop}
 use Rattle.std.proofs.lemmas.List.{length-take-le}
 use Rattle.message_store.specs.declared.places.Span.{Span}
-use Rattle.message_store.specs.kept.Pool.{Reserve, moved, span_at, text_in}
+use Rattle.message_store.specs.internal.Pool.{Reserve, moved, span_at, text_in}
 use Rattle.message_store.proofs.PoolLemmas.{replaced_octets, replaced_spans, replaced-placed, replaced-texts, texts-over}
 use Rattle.message_store.proofs.texts.replace_at.Goals as goal
 

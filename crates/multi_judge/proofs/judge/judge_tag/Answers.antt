@@ -39,9 +39,10 @@ returns-then-state-max_pages-clause-judged c = λ items st held.
 pub returns-else-state-max_pages-clause-judged : goal.returns-else-state-max_pages-clause-judged
 returns-else-state-max_pages-clause-judged c = λ items st held.
     let room : c.args.state.now.pages + 1 ≤ c.args.sign.now.max_pages = omega (arith, c.max_pages.ensures.max_pages, ap (λ (s : SignData). s.max_pages) c.sign.view_is) in
+    let small = subst (λ (a : Attributes). IsSmall a.rectangle) c.sign.invariant.3 c.sign.invariant.4 in
     rw c.in-NewPage.is (
       judged-page c.args.sign.now items c.args.state.now st ∙ ap (λ b. cond {A = Option ℕ} b (Some 12) None) (le-ltb c.args.sign.now.max_pages (c.args.state.now.pages + 1) room),
-      state-page c.args.sign.now items c.args.state.now st _ refl (omega (arith, c.from.ensures, c.from-in-NewPage.ensures)) (rw c.whole_sign-state.ensures.is refl) (search rules) (omega arith) (omega arith) (subst IsSmall c.whole_sign-state.ensures.is c.whole_sign-state.ensures.small),
+      state-page c.args.sign.now items c.args.state.now st _ refl (omega (arith, c.from.ensures, c.from-in-NewPage.ensures)) (rw (c.sign.invariant.3, ← c.sign.view_is) refl) (search rules) (omega arith) (omega arith) (rw (← c.sign.view_is) small),
     )
 
 pub returns-in_default-rectangle-clause-judged : goal.returns-in_default-rectangle-clause-judged

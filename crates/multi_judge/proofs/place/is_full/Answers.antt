@@ -1,5 +1,5 @@
 use Rattle.multi_judge.proofs.Lemmas.{◌≡◌, ◌∷◌, ◌++◌, ◌==◌, ◌<◌, ◌^◌, ℕ, length, arith, nat_tests, [], sym, ap, ◌∙◌, take, slice_index_or, after_last, count_by, line_number, is_break, lines_of, ended_count, Group, group_sum, counted_line, full_known, kept_width_is, line_is_there, width_in_is, look_up, held, segment, width_of, table_length}
-use Rattle.multi_judge.specs.Table.{width_in}
+use Rattle.multi_judge.specs.internal.Table.{width_in}
 use Rattle.multi_judge.proofs.place.is_full.Goals as goal
 
 -- what is kept of a sum is a small number where the sum is

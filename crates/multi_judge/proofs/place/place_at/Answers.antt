@@ -1,5 +1,5 @@
 use Rattle.multi_judge.proofs.Lemmas.{◌≡◌, ◌≤◌, ◌<◌, ◌^◌, ◌-◌, line_is_there, look_up, line_number, arith, length, count_by, is_break, Option, option_map_or, rules, CountedLine, refl, ap, subst, ◌∙◌, page_number, Spot, area_of, group_of, lines_of, line_before, largest, Attributes, column_is, group_with, height_found, part_with, place_from, UnwrapsOrElse, is_default-value, own_entry, table_length, min}
-use Rattle.multi_judge.specs.Table.{width_in}
+use Rattle.multi_judge.specs.internal.Table.{width_in}
 use Rattle.multi_judge.proofs.place.place_at.Goals as goal
 
 bottom_if : (o : Option CountedLine) (l : CountedLine) → UnwrapsOrElse o is_default-value.it l → l.bottom ≡ option_map_or (λ (l : CountedLine). l.bottom) o 0
@@ -22,7 +22,7 @@ returns-clause-place c before all rest spot glyph at width area lines joins apar
     let (wide, count) = part_with before all rest spot c.args.area.now.group.line counted glyph line apart joins entry narrow few in
     let just = line_number c.args.attributes.now.line_just in
     place_from before all spot c.args.attributes.now c.args.area.now.group c.args.lines.now counted _ _ c.unwrap_or_default-bottom.result.bottom at ended lines there c.line_at-line.ensures.line
-    (rw (c.from-6.ensures, c.moved.ensures.pixels, c.saturating_sub.ensures, c.from-5.ensures, c.min-right.ensures, c.from-2.ensures, c.from-4.ensures, c.start.ensures.place, c.from-3.ensures, c.saturating_sub-before.ensures, c.min.ensures, c.from.ensures, c.saturating_sub-spare.ensures, c.width-size.ensures, c.number-just.ensures.number)
+    (rw (c.from-6.ensures, c.moved.ensures.pixels, c.saturating_sub.ensures, c.from-5.ensures, c.from-right.ensures, c.min-2.ensures, c.from-2.ensures, c.from-4.ensures, c.start.ensures.place, c.from-3.ensures, c.saturating_sub-before.ensures, c.min.ensures, c.from.ensures, c.saturating_sub-spare.ensures, c.width-size.ensures, c.number-just.ensures.number)
     (column_is counted (line_before before spot) spot c.args.attributes.now (min part.width (width_in just counted) - c.args.width) (min part.count counted.characters - 1) at (rw (at, wide, width) refl) count))
     (bottom_if c.copied.result c.unwrap_or_default-bottom.result c.unwrap_or_default-bottom.ensures ∙ height_found all_lines c.copied.result (rw (← lines) (search rules)))
     (rw (c.saturating_sub-2.ensures, c.from-10.ensures, c.from-9.ensures, c.from-8.ensures, c.start-2.ensures.place, c.from-7.ensures, c.number.ensures.number) refl)

@@ -5,7 +5,7 @@ use Rattle.multi_tag.specs.Closed.{IsTagAt}
 use Rattle.multi_meaning.proofs.ItemAtLemmas.{closing_read, doubled_read, read_is, read_not, tag_read}
 use Rattle.multi_tag.specs.declared.tag.Tag.TheVariants.{HexChar}
 use Rattle.multi_meaning.specs.Meaning.{said_by}
-use Rattle.multi_meaning.specs.kept.ItemAt.{IsFaultRead, IsBracketedRead}
+use Rattle.multi_meaning.specs.internal.ItemAt.{IsFaultRead, IsBracketedRead}
 use Rattle.multi_layout.proofs.WalkLemmas.{same_octets}
 use Rattle.multi_layout.proofs.bracket.read_spelled.Goals as goal
 

@@ -48,6 +48,7 @@ returns-then-phase-on c =
           ∙ turn c.requires.known c.args.clock c.if-told-eq0.false c.from.ensures c.if-told-eq1.false;
       begins = (page_starts i.begins (accepted_of c.requires.known).2, omega (arith, (skipped here).page_is));
       steps = took here;
+      one = λ is. absurd (c.if-told-eq1.false is);
     }
 
 pub returns-then-over-off : goal.returns-then-over-off
@@ -59,9 +60,10 @@ returns-then-over-off c =
           ∙ turn c.requires.known c.args.clock c.if-told-eq0.false c.from.ensures c.if-told-eq1.false;
       begins = tt;
       steps = took here;
+      one = λ is. absurd (c.if-told-eq1.false is);
     }
 
--- behind a page that is over another begins
+-- after a page that is over another begins
 over : (c : Else-over-off) → (c.pass_page.new.self.state.pages ≡ c.loop-behind.start.state.pages + 1) × (c.loop-behind.start.at < c.pass_page.new.self.at) × (c.pass_page.new.self.at ≤ length c.args.source.now.octets)
     × (c.pass_page.new.self.state.cycle ≤ c.args.clock % c.from.result) × IsAtPage c.args.sign.now c.args.source.now.octets c.pass_page.new.self
 over c =

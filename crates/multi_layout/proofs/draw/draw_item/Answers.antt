@@ -52,7 +52,7 @@ returns-in-Full c =
 pub returns-in_default-line_just : goal.returns-in_default-line_just
 returns-in_default-line_just c =
     let here = (goal.at.returns-in_default-line_just c).After-put_character-in-Char in
-    record { drawn = run here _ (inr (refl, c.in_default-line_just.not-Full)); at = refl; steps = (took here).0; fills = (took here).1 }
+    record { drawn = rw c.from-in-Char-2.ensures (run here _ (inr (refl, c.in_default-line_just.not-Full))); at = refl; steps = (took here).0; fills = (took here).1 }
 
 pub pass_tag-requires-clause-fine : goal.pass_tag-requires-clause-fine
 pass_tag-requires-clause-fine c = let (page, n) = c.requires.known in (map meant n.before, n.up_to.between.state_is, item_fine n.up_to.between n.read_is)

@@ -33,7 +33,7 @@ pass_item-requires-clause-known g c =
     let n = so_read r.so (same_octets i.steps.3) c.read_item-next.result c.read_item-next.ensures.item in
     (items_of (r.drawn.before ++ r.so.pieces), n.0.item, r.so.read, so_next r.so c.read_item-next.result n)
 
--- behind a setting before which nothing else was read the cursor stands behind it
+-- after a setting before which nothing else was read the cursor stands after it
 goes : (g : given.Over) (c : Joined-cursor-at g) → GoesOn c.loop-first.cursor c.loop-first.at c.read_item-next.result c.pass_item.new.kept.state c.if-cursor-at.cursor
 goes g c = grind (arith)
 

@@ -2,7 +2,7 @@ use Rattle.multi_layout.proofs.Common.{◌==◌, not, ◌≡◌, ℕ, ◌≤◌,
 use Rattle.multi_layout.proofs.AreaLinesLemmas.{IsReadFrom}
 use Rattle.multi_layout.proofs.read.read_lines.Given as goal
 
--- the table has the ended lines of the items so far, and each octet of them took at most nine steps; the cursor is behind the first settings
+-- the table has the ended lines of the items so far, and each octet of them took at most nine steps; the cursor is after the first settings
 abbrev pub invariant-loop-first : goal.invariant-loop-first
 invariant-loop-first g l = record {
   so_far : (layer : Layer) (page : ℕ) (plane : BitPlane) → IsPageDrawn l.sign l.fn.source.octets layer page l.fn.cursor plane

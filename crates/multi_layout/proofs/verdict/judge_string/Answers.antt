@@ -1,5 +1,5 @@
 use Rattle.multi_layout.proofs.Common.{false, true, [], subst, sym, ◌∙◌, IsStateOf}
-use Rattle.multi_judge.specs.State.{IsLimited}
+use Rattle.multi_judge.specs.internal.State.{IsLimited}
 use Rattle.multi_layout.proofs.AtLemmas.{pass_told}
 use Rattle.multi_judge.proofs.ReadLemmas.{pass_start}
 use Rattle.multi_layout.proofs.verdict.judge_string.Goals.{in-Off+in_ok-judge_items-in-Off, in-Words+in_ok-judge_items-in-Words}

@@ -6,7 +6,7 @@ use Rattle.page_picture.proofs.palette.palette_of.Goals as goal
 
 pub loop-number-preserved : goal.loop-number-preserved
 loop-number-preserved c =
-    c.in_ok-push_octets.ensures
+    c.in_ok-push_octets.ensures.text
     ∙ ap (λ l. c.loop-number.octets.items ++ l) c.shares.ensures
     ∙ ap (λ l. l ++ shares c.args.classic c.loop-number.number) c.loop-number.invariant
     ∙ sym (PaletteLemmas.numbers_more c.args.classic c.loop-number.number)

@@ -10,5 +10,5 @@ loop-point-init c =
 
 pub loop-point-preserved : goal.loop-point-preserved
 loop-point-preserved c =
-    let next = c.in_ok-push_octet.ensures ∙ ap (λ n. c.loop-point.points.items ++ n ∷ []) c.point_of.ensures.number in
+    let next = c.in_ok-push_octet.ensures.text ∙ ap (λ n. c.loop-point.points.items ++ n ∷ []) c.point_of.ensures.number in
     TextLemmas.grown _ _ _ _ _ _ c.loop-point.invariant next (DotLemmas.dot_more c.args.side c.args.colour c.args.line c.loop-point.point)

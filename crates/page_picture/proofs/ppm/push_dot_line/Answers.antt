@@ -11,5 +11,5 @@ loop-point-init c =
 
 pub loop-point-preserved : goal.loop-point-preserved
 loop-point-preserved c =
-    let next = c.in_ok-push_octets.ensures ∙ ap (λ l. c.loop-point.text.items ++ l) (c.shares.ensures ∙ ap (shares c.args.classic) c.point_of.ensures.number) in
+    let next = c.in_ok-push_octets.ensures.text ∙ ap (λ l. c.loop-point.text.items ++ l) (c.shares.ensures ∙ ap (shares c.args.classic) c.point_of.ensures.number) in
     TextLemmas.grown _ _ _ _ _ _ c.loop-point.invariant next (DotLemmas.painted_one (shares c.args.classic) _ _ _ (DotLemmas.dot_more c.args.side c.args.colour c.args.line c.loop-point.point))

@@ -1,6 +1,6 @@
 use Rattle.std.proofs.Common.{[], get_or, ap, arith, ◌∙◌}
 use Rattle.std.proofs.lemmas.List.FromFn.{get_or-map-range_with_len}
-use Rattle.page_picture.specs.kept.Marks.{eight_marks}
+use Rattle.page_picture.specs.internal.Marks.{eight_marks}
 use Rattle.page_picture.proofs.rows.eight_marks.Goals as goal
 
 pub returns : goal.returns

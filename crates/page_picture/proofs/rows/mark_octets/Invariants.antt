@@ -1,6 +1,6 @@
 use Rattle.std.proofs.Common.{◌≡◌, ℕ, ◌*◌, ◌++◌, drop}
 use Rattle.page_picture.specs.Rows.{octet_marks}
-use Rattle.page_picture.specs.kept.Marks.{IsTable}
+use Rattle.page_picture.specs.internal.Marks.{IsTable}
 use Rattle.page_picture.proofs.rows.mark_octets.Given as goal
 
 abbrev pub invariant-loop-place : goal.invariant-loop-place

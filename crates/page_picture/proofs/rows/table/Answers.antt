@@ -1,7 +1,7 @@
 use Rattle.std.proofs.Common.{ap, map, sym}
 use Rattle.std.specs.List.{range_with_len}
 use Rattle.page_picture.specs.Rows.{octet_of}
-use Rattle.page_picture.specs.kept.Marks.{eight_marks}
+use Rattle.page_picture.specs.internal.Marks.{eight_marks}
 use Rattle.page_picture.proofs.rows.table.Goals as goal
 
 pub returns-in-Hash : goal.returns-in-Hash

@@ -2,7 +2,7 @@ use Rattle.std.proofs.Common.{◌∙◌}
 use Rattle.page_plane.specs.Octets.{bit_place, is_bit_set}
 use Rattle.page_plane.specs.Plane.{is_lit}
 use Rattle.page_picture.specs.Rows.{octet_of}
-use Rattle.page_picture.specs.kept.Marks.{WritesRows}
+use Rattle.page_picture.specs.internal.Marks.{WritesRows}
 use Rattle.page_picture.proofs.RowLemmas.{marked_same}
 use Rattle.page_picture.proofs.rows.write_rows.Goals as goal
 

@@ -1,6 +1,6 @@
 use Rattle.std.proofs.Common.{◌∙◌, ap, inl, inr, subst}
 use Rattle.tool_streams.specs.Lines.{text_of}
-use Rattle.sign_aids.specs.Pictures.{DrawsMessage}
+use Rattle.sign_aids.specs.Pictures.{DrawsLit}
 use Rattle.sign_aids.proofs.picture.draw_picture.Goals as goal
 
 pub returns-in-Err-read_message-clause-fault : goal.returns-in-Err-read_message-clause-fault
@@ -8,8 +8,8 @@ returns-in-Err-read_message-clause-fault g c =
     let (taken, took, leads) = c.in-Ok.ensures.starts in
     inr (inl (taken, c.in-Ok.start.setup, c.in-Ok.start.place, g.R.Read.remaining c.begin.new.reader, leads, took, c.in-Err-read_message.ensures.fault))
 
-pub returns-in-Ok-picture_of-clause-drawn : goal.returns-in-Ok-picture_of-clause-drawn
-returns-in-Ok-picture_of-clause-drawn g c =
+pub returns-in-Ok-lit_picture-clause-drawn : goal.returns-in-Ok-lit_picture-clause-drawn
+returns-in-Ok-lit_picture-clause-drawn g c =
     let (taken, took, leads) = c.in-Ok.ensures.starts in
     let line = c.in-Ok-read_message.line.items in
     let said = c.text_of.ensures.text ∙ ap text_of c.deref.ensures.value in (
@@ -23,5 +23,5 @@ returns-in-Ok-picture_of-clause-drawn g c =
         reads = took;
         last = c.in-Ok-read_message.ensures.last;
       },
-      subst (λ l. DrawsMessage c.args.side c.in-Ok.start.setup.sign l c.args.view c.in-Ok-picture_of.file.items) said c.in-Ok-picture_of.ensures.drawn,
+      subst (λ l. DrawsLit c.args.lit c.args.side c.in-Ok.start.setup.sign l c.args.view c.in-Ok-lit_picture.file.items) said c.in-Ok-lit_picture.ensures.drawn,
     )

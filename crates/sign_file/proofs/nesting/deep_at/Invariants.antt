@@ -2,7 +2,7 @@ use Rattle.std.proofs.Common.{◌≡◌, ◌<◌, ℕ, length}
 use denote.Text.{Utf8}
 use denote.Shadow.{shadow}
 use Rattle.sign_file.specs.Nesting.{fits, is_shallow, outside}
-use Rattle.sign_file.specs.kept.Octets.{IsWithin}
+use Rattle.sign_file.specs.internal.Octets.{IsWithin}
 use Rattle.sign_file.proofs.nesting.deep_at.Given as goal
 
 abbrev pub invariant-octets : goal.invariant-octets

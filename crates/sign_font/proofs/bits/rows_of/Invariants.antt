@@ -1,5 +1,5 @@
 use Rattle.std.proofs.Common.{◌≡◌, length}
-use Rattle.sign_font.specs.kept.Rows.{AreRowsOf}
+use Rattle.sign_font.specs.internal.Rows.{AreRowsOf}
 use Rattle.sign_font.proofs.bits.rows_of.Given as goal
 
 abbrev pub invariant-loop-row : goal.invariant-loop-row

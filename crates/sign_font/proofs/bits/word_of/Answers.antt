@@ -1,6 +1,6 @@
 use Rattle.std.proofs.Common.{◌≡◌, ◌+◌, ◌∙◌, sym, subst, arith, true, false}
 use Rattle.sign_font.specs.Cell.{is_set}
-use Rattle.sign_font.specs.kept.Rows.{IsWordOf}
+use Rattle.sign_font.specs.internal.Rows.{IsWordOf}
 use Rattle.sign_font.proofs.BitLemmas.{word_lit, word_dark}
 use Rattle.sign_font.proofs.bits.word_of.Goals as goal
 use Rattle.sign_font.proofs.bits.word_of.Goals.{then-is_set, else-is_set}

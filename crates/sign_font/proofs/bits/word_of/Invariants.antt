@@ -1,4 +1,4 @@
-use Rattle.sign_font.specs.kept.Rows.{IsWordOf}
+use Rattle.sign_font.specs.internal.Rows.{IsWordOf}
 use Rattle.sign_font.proofs.bits.word_of.Given as goal
 
 abbrev pub invariant-loop-column : goal.invariant-loop-column

@@ -1,7 +1,7 @@
 use Rattle.std.proofs.Common.{ap, ◌∙◌, arith}
 use Rattle.std.proofs.lemmas.List.FromFn.{get_or-map-range_with_len}
 use Rattle.hex.specs.Hex.{hex_digit_value}
-use Rattle.sign_script.specs.kept.Hexadecimal.{digit_value}
+use Rattle.sign_script.specs.internal.Hexadecimal.{digit_value}
 use Rattle.sign_script.proofs.HexadecimalLemmas.{small_value, value_small}
 use Rattle.sign_script.proofs.hexadecimal.digit_value.Goals as goal
 

@@ -2,7 +2,7 @@ use Rattle.std.proofs.Common.{◌≢◌, refl, sym, ap, subst, arith, length}
 use Rattle.std.proofs.lemmas.List.{take_rest}
 use Rattle.std.proofs.lemmas.List.Elements.{All-nil}
 use Rattle.std.proofs.lemmas.Result.{err_from_is_err_and}
-use Rattle.sign_tool.specs.kept.Blocks.{AnswersLines}
+use Rattle.sign_tool.specs.internal.Blocks.{AnswersLines}
 use Rattle.sign_tool.proofs.AnsweringLemmas
 use Rattle.sign_tool.proofs.first.answer_whole.Goals as goal
 

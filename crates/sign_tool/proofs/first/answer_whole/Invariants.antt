@@ -1,5 +1,5 @@
 use Rattle.std.proofs.Common.{◌≡◌, [], ◌-◌, ◌≤◌, ◌<◌, length, take, drop}
-use Rattle.sign_tool.specs.kept.Blocks.{AnswersLines}
+use Rattle.sign_tool.specs.internal.Blocks.{AnswersLines}
 use Rattle.tool_streams.specs.Lines.{IsOneLine}
 use Rattle.sign_tool.proofs.first.answer_whole.Given as goal
 

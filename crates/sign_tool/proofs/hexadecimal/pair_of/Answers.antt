@@ -1,6 +1,6 @@
 use Rattle.std.proofs.Common.{◌∙◌, ap, arith}
 use Rattle.std.proofs.lemmas.List.FromFn.{get_or-map-range_with_len}
-use Rattle.sign_tool.specs.kept.Hexadecimal.{pair_of}
+use Rattle.sign_tool.specs.internal.Hexadecimal.{pair_of}
 use Rattle.sign_tool.proofs.hexadecimal.pair_of.Goals as goal
 
 pub returns : goal.returns

@@ -6,3 +6,6 @@ returns-clause-one c = ServedLemmas.one_reply_each
 
 pub returns-clause-state : goal.returns-clause-state
 returns-clause-state c = ServedLemmas.serves_on
+
+pub returns-clause-commands : goal.returns-clause-commands
+returns-clause-commands c = ServedLemmas.commands_run

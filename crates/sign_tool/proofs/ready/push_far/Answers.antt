@@ -1,5 +1,5 @@
 use Rattle.std.proofs.Common.{◌+◌, ◌≤◌, length, ap, sym, arith}
-use Rattle.sign_tool.specs.kept.Ready.{ReadyData}
+use Rattle.sign_tool.specs.internal.Ready.{ReadyData}
 use Rattle.sign_tool.proofs.WrittenLemmas.{few_grown}
 use Rattle.page_picture.proofs.PartLemmas.{lent_length}
 use Rattle.sign_tool.proofs.ready.push_far.Goals as goal

@@ -1,6 +1,6 @@
 use Rattle.std.proofs.Common.{◌+◌, ◌≤◌, length, ap, sym, arith}
 use Rattle.std.proofs.lemmas.List.{take_all}
-use Rattle.sign_tool.specs.kept.Ready.{ReadyData}
+use Rattle.sign_tool.specs.internal.Ready.{ReadyData}
 use Rattle.sign_tool.proofs.WrittenLemmas.{few_grown}
 use Rattle.page_picture.proofs.PartLemmas.{lent_length}
 use Rattle.sign_tool.proofs.ready.push_short.Goals as goal

@@ -1,7 +1,7 @@
 use Rattle.std.proofs.Common.{◌≡◌, ◌∙◌, ◌*◌, ◌+◌, ◌-◌, length, length-drop, take, drop, ap, sym, arith}
 use Rattle.std.proofs.lemmas.List.{length-take-le, take_all}
 use Rattle.hex.specs.Hex.{encode_lower}
-use Rattle.sign_tool.specs.kept.Ready.{ReadyData}
+use Rattle.sign_tool.specs.internal.Ready.{ReadyData}
 use Rattle.sign_tool.proofs.WrittenLemmas.{grown}
 use Rattle.sign_tool.proofs.replies.push_hex.Goals as goal
 

@@ -1,7 +1,7 @@
 use Rattle.std.proofs.Common.{◌≡◌, ◌+◌, ◌*◌, ◌∙◌, length, take, ap, sym, arith}
 use Rattle.page_plane.specs.Plane.{is_lit}
 use Rattle.sign_tool.specs.Frame.{frame_rows}
-use Rattle.sign_tool.specs.kept.Ready.{ReadyData}
+use Rattle.sign_tool.specs.internal.Ready.{ReadyData}
 use Rattle.sign_tool.proofs.WrittenLemmas.{grown}
 use Rattle.page_picture.proofs.PartLemmas.{lent_length}
 use Rattle.sign_tool.proofs.show.push_rows.Goals as goal

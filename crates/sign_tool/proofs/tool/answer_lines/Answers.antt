@@ -1,6 +1,6 @@
 use Rattle.std.proofs.Common.{◌≡◌, [], ◌++◌, true, false, rules, ap, ◌∙◌, arith, length}
 use Rattle.std.proofs.lemmas.Result.{err_from_is_err_and}
-use Rattle.sign_tool.specs.kept.Ready.{ReadyData}
+use Rattle.sign_tool.specs.internal.Ready.{ReadyData}
 use Rattle.sign_tool.proofs.AnsweringLemmas
 use Rattle.sign_tool.proofs.tool.answer_lines.Goals as goal
 

@@ -74,7 +74,7 @@ loop-taken-preserved g c =
     let count : c.len.result ≡ length c.loop-taken.line.items = c.len.ensures ∙ c.loop-taken.line.ok.0 in (
       elim c.if-len-lt-MAX_KEPT.branch [
         | then-len-lt-MAX_KEPT+in_ok-push_octet-in-Some w ↦
-            rw (w.line-is, w.is_cut-is, w.in_ok-push_octet-in-Some.ensures) (
+            rw (w.line-is, w.is_cut-is, w.in_ok-push_octet-in-Some.ensures.text) (
               seen ++ c.in-Some.octet ∷ [],
               SeenLemmas.Seen-kept 8301 _ _ _ _ _ _ _ seen s more c.in-Some.octet-test.1 (omega arith),
             )

@@ -1,6 +1,6 @@
 use Rattle.std.proofs.Common.{ap, ◌∙◌, sym, List, ℕ, length, replicate}
 use Rattle.message_store.specs.declared.places.Span.{Span}
-use Rattle.message_store.specs.kept.Pool.{no_span, spans_of}
+use Rattle.message_store.specs.internal.Pool.{no_span, spans_of}
 use Rattle.message_store.proofs.PlaceLemmas.{length-spans, none-spans}
 use Rattle.message_store.proofs.places.Places.clear.Goals as goal
 

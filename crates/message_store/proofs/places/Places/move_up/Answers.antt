@@ -1,6 +1,6 @@
 use Rattle.std.proofs.Common.{◌≡◌, ap, ◌∙◌, sym, List, ℕ, length, map}
 use Rattle.std.proofs.lemmas.List.{length-map, with_items_is}
-use Rattle.message_store.specs.kept.Pool.{moved, moved_start, spans_of}
+use Rattle.message_store.specs.internal.Pool.{moved, moved_start, spans_of}
 use Rattle.message_store.proofs.PlaceLemmas.{map-spans}
 use Rattle.message_store.proofs.places.Places.move_up.Goals as goal
 

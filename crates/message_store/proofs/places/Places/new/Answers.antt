@@ -1,5 +1,5 @@
 use Rattle.std.proofs.Common.{ap, ◌∙◌, List, ℕ, replicate}
-use Rattle.message_store.specs.kept.Pool.{spans_of}
+use Rattle.message_store.specs.internal.Pool.{spans_of}
 use Rattle.message_store.proofs.PlaceLemmas.{none-spans}
 use Rattle.message_store.proofs.places.Places.new.Goals as goal
 

@@ -1,5 +1,5 @@
 use Rattle.std.proofs.Common.{◌+◌, ◌≤◌, ◌++◌, ap, ◌∙◌, arith, take, drop, length, length-drop, List, ℕ}
-use Rattle.message_store.specs.kept.Pool.{Reserve}
+use Rattle.message_store.specs.internal.Pool.{Reserve}
 use Rattle.message_store.proofs.ReservedLemmas.{written-over}
 use Rattle.message_store.proofs.reserved.Reserved.put_over.Goals as goal
 

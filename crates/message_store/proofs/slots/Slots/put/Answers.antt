@@ -2,7 +2,7 @@ use Rattle.std.proofs.Common.{◌≡◌, ◌+◌, ◌<◌, ◌∙◌, List, leng
 use Rattle.message_store.specs.declared.slot.Slot.{Slot}
 use Rattle.message_store.specs.declared.slots.Slots.TheInside.{Inside}
 use Rattle.message_store.specs.Slot.{is_not_used, is_validating}
-use Rattle.message_store.specs.kept.Counted.{AreCounted}
+use Rattle.message_store.specs.internal.Counted.{AreCounted}
 use Rattle.message_store.proofs.CountedLemmas.{bit, none_looked, put_counted}
 use Rattle.message_store.proofs.WaitLemmas.{none-put}
 use Rattle.message_store.proofs.slots.Slots.put.Goals as goal
@@ -28,7 +28,7 @@ invariant_of-self c =
     let index = c.args.index in
     let slot = c.args.slot in
     let waiting = λ (slot : Slot). is_validating slot.status in
-    let below : index < length slots = omega (arith, c.requires, ap (λ (l : List Slot). length l) c.self.view_is) in
+    let below : index < length slots = omega (arith, c.requires.index, ap (λ (l : List Slot). length l) c.self.view_is) in
     let P : Inside → Type 0 = λ x. AreCounted (slice_set x.slots.items index slot) x.from c.recounted-self-inside.result c.recounted-self-inside-2.result in
     elim c.if-is_validating.branch [
       | then-is_validating w ↦
@@ -37,6 +37,7 @@ invariant_of-self c =
           (none_looked waiting slots s.from s.waiting w.look_from.result _ index slot below c.self.invariant.waits c.self.invariant.first w.look_from.ensures (omega arith) (omega arith))
           (waits c ∙ ap (λ (x : Inside). x.waiting + bit (waiting slot)) w.self-inside-is)
           (counts c ∙ ap (λ (x : Inside). x.used + bit (not (is_not_used slot.status))) w.self-inside-is)
+          c.requires.ranged
           )
       | else-is_validating w ↦
           subst P (sym w.self-inside-is) (
@@ -44,5 +45,6 @@ invariant_of-self c =
           (none-put waiting slots s.from index slot (sym c.is_validating.ensures ∙ w.if-is_validating.false) c.self.invariant.first)
           (waits c ∙ ap (λ (x : Inside). x.waiting + bit (waiting slot)) w.self-inside-is)
           (counts c ∙ ap (λ (x : Inside). x.used + bit (not (is_not_used slot.status))) w.self-inside-is)
+          c.requires.ranged
           )
     ]

@@ -1,6 +1,6 @@
 use Rattle.std.proofs.Common.{ap, ◌∙◌, sym, subst, arith}
-use Rattle.message_store.specs.kept.Pool.{Pool}
-use Rattle.message_store.specs.kept.Stored.{IsStored, stored}
+use Rattle.message_store.specs.internal.Pool.{Pool}
+use Rattle.message_store.specs.internal.Stored.{IsStored, stored}
 use Rattle.message_store.proofs.StoredLemmas.{seen}
 use Rattle.message_store.proofs.store.Store.keep_crc.Goals as goal
 

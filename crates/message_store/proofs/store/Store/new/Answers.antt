@@ -1,7 +1,7 @@
 use Rattle.std.proofs.Common.{refl, map, ap, sym, ◌∙◌, List}
 use Rattle.message_store.specs.declared.message.Permanent.{Permanent}
 use Rattle.message_store.specs.Limits.{can_be_made}
-use Rattle.message_store.specs.kept.Stored.{stored}
+use Rattle.message_store.specs.internal.Stored.{stored}
 use Rattle.message_store.specs.Slot.{permanent_of}
 use Rattle.message_store.proofs.StoredLemmas.{kept-new, made-is, seen}
 use Rattle.message_store.proofs.store.Store.new.Goals as goal

@@ -1,6 +1,6 @@
 use Rattle.std.proofs.Common.{refl}
 use Rattle.message_store.proofs.StoredLemmas.{seen, kept-clear, cleared-is}
-use Rattle.message_store.specs.kept.Stored.{stored}
+use Rattle.message_store.specs.internal.Stored.{stored}
 use Rattle.message_store.proofs.store.Store.put_all_empty.Goals as goal
 
 pub invariant_of-self : goal.invariant_of-self

@@ -1,7 +1,7 @@
 use Rattle.std.proofs.Common.{refl, ap, ◌∙◌, sym, subst, arith, List, ℕ, length}
-use Rattle.message_store.specs.kept.Pool.{Pool}
+use Rattle.message_store.specs.internal.Pool.{Pool}
 use Rattle.message_store.specs.Slot.{StoreData}
-use Rattle.message_store.specs.kept.Stored.{IsStored, stored}
+use Rattle.message_store.specs.internal.Stored.{IsStored, stored}
 use Rattle.message_store.proofs.StoredLemmas.{seen, put-multi, kept-multi}
 use Rattle.message_store.proofs.store.Store.put_multi.Goals as goal
 

@@ -3,7 +3,7 @@ use Rattle.std.proofs.lemmas.List.Quantifiers.{position-Some}
 use Rattle.message_store.specs.declared.slot.Slot.{Slot}
 use Rattle.message_store.specs.Slot.{SlotData, StoreData, empty_slot, is_validating}
 use Rattle.message_store.specs.Work.{waiting}
-use Rattle.message_store.specs.kept.Stored.{IsStored, stored}
+use Rattle.message_store.specs.internal.Stored.{IsStored, stored}
 use Rattle.message_store.proofs.StoredLemmas.{seen}
 use Rattle.message_store.proofs.WholeLemmas.{position-whole}
 use Rattle.message_store.proofs.store.Store.waiting.Goals as goal

@@ -1,7 +1,7 @@
 use Rattle.std.proofs.Common.{rules, ap, ◌∙◌, sym, List, ℕ, None, [], length, map, replicate}
 use Rattle.std.proofs.lemmas.List.{length-map}
 use Rattle.message_store.specs.declared.places.Span.{Span}
-use Rattle.message_store.specs.kept.Pool.{Pool, Reserve, text_in}
+use Rattle.message_store.specs.internal.Pool.{Pool, Reserve, text_in}
 use Rattle.message_store.proofs.PoolLemmas.{no-texts}
 use Rattle.message_store.proofs.RegisterLemmas.{none-texts}
 use Rattle.message_store.proofs.texts.Texts.clear.Goals as goal

@@ -1,5 +1,5 @@
 use Rattle.std.proofs.Common.{◌≡◌, ap, ◌∙◌, sym, arith, [], Some, length-set, map, slice_index_or}
-use Rattle.message_store.specs.kept.Pool.{Pool, register_behind, text_in}
+use Rattle.message_store.specs.internal.Pool.{Pool, register_behind, text_in}
 use Rattle.message_store.proofs.PoolLemmas.{kept}
 use Rattle.message_store.proofs.RegisterLemmas.{keeps}
 use Rattle.message_store.proofs.texts.Texts.keep_register.Goals as goal

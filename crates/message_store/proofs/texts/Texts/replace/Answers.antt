@@ -1,6 +1,6 @@
 use Rattle.std.proofs.Common.{◌≡◌, ap, ◌∙◌, sym, arith, List, ℕ, None, length, map, slice_set, subst}
 use Rattle.std.proofs.lemmas.List.{length-map, length-set}
-use Rattle.message_store.specs.kept.Pool.{AreRegisters, text_in}
+use Rattle.message_store.specs.internal.Pool.{AreRegisters, text_in}
 use Rattle.message_store.proofs.PoolLemmas.{kept}
 use Rattle.message_store.proofs.RegisterLemmas.{forgets}
 use Rattle.message_store.proofs.texts.Texts.replace.Goals as goal

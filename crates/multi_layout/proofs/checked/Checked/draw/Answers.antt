@@ -19,7 +19,7 @@ loop-cursor-init c =
     let (begins, one) = at_start c.self.invariant c.new-cursor.ensures.start in
     record { begins = begins; few = omega (arith, one); steps = no_steps c.self.inside.source }
 
--- another page begins behind the one that is passed
+-- another page begins after the one that is passed
 follows : (c : After-pass_page) → (c.pass_page.new.self.state.pages ≡ c.loop-cursor.cursor.state.pages + 1) × (c.loop-cursor.cursor.at < c.pass_page.new.self.at) × (c.pass_page.new.self.at ≤ length c.self.inside.source.octets)
     × IsAtPage c.self.inside.terms c.self.inside.source.octets c.pass_page.new.self
 follows c = page_follows (rw (same_octets c.loop-cursor.invariant.steps.3) at c.pass_page.ensures.passed) (omega (arith, c.loop-cursor-test.true, c.if-page-self.false, (accepted_of c.self.invariant).1))

@@ -1,7 +1,7 @@
 use Rattle.multi_layout.proofs.Common.{◌+◌, ◌-◌, ◌*◌, ◌≤◌, length, RisesBetween, IsAtPage}
 use Rattle.multi_layout.proofs.checked.Checked.draw.Given as goal
 
--- a page begins at the cursor, none behind the one that is wanted, and each octet before it took at most nine steps
+-- a page begins at the cursor, none after the one that is wanted, and each octet before it took at most nine steps
 abbrev pub invariant-loop-cursor : goal.invariant-loop-cursor
 invariant-loop-cursor l = record {
   begins : IsAtPage l.sign l.initial.source.octets l.cursor;

@@ -1,7 +1,7 @@
 use Rattle.std.proofs.Common.{◌++◌, Err, subst, sym, ◌∙◌}
 use Rattle.std.specs.Io.KnownBytes.{Appends}
 use Rattle.tool_streams.specs.Streams.{WritesWhole}
-use Rattle.sign_aids.specs.kept.Explaining.{WritesFront}
+use Rattle.sign_aids.specs.internal.Explaining.{WritesFront}
 use Rattle.sign_aids.proofs.HeldLemmas
 use Rattle.sign_aids.proofs.explain.Gathered.keep.Goals as goal
 

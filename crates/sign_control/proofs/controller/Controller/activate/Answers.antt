@@ -4,10 +4,10 @@ use Rattle.sign_control.specs.declared.display.Display.{Display}
 use Rattle.sign_control.specs.declared.display.Showing.{Showing}
 use Rattle.sign_control.specs.declared.code.SourceMode.TheVariants as mode
 use Rattle.sign_control.specs.Activation.{text_of}
-use Rattle.sign_control.specs.kept.Answered.{candidate_of}
+use Rattle.sign_control.specs.internal.Answered.{candidate_of}
 use Rattle.sign_control.specs.State.{StateData, Stepped}
 use Rattle.sign_control.proofs.CountLemmas.{activated-count}
-use Rattle.sign_control.proofs.StepLemmas.{activated-refused, activated-shown, judged-accepted, not-false, not-true, one-taken, ready-shown, shown-accepted, shown-limited}
+use Rattle.sign_control.proofs.StepLemmas.{activated-refused, activated-shown, fits-replaced, judged-accepted, not-false, not-true, one-taken, ready-shown, shown-accepted, shown-limited, shown-ranged}
 use Rattle.sign_control.proofs.controller.Controller.activate.Goals as goal
 
 pub returns-then-not-judged-clause-state : goal.returns-then-not-judged-clause-state
@@ -53,8 +53,11 @@ invariant_of-self-2 c =
     ready-shown s.sign s.store s.defaults s.display c.displayed-self-inside.result s.text.items c.replace_text.new.shown.items _ _ s.plane c.self.invariant
     (ap (λ (d : Display). default_fault s.sign d.defaults) c.displayed-self-inside.ensures ∙ one-taken s.sign c.in-Ok.message.defaults s.display.defaults s.defaults c.in-Ok.ensures.defaults c.self.invariant.shown_taken c.self.invariant.taken)
     (shown-accepted s.sign c.deref.result.now message c.displayed-self-inside.result _ c.replace_text.new.shown.items accepted c.displayed-self-inside.ensures text)
-    c.replace_text.ensures.short c.replace_text.ensures.capacity
+    c.replace_text.ensures.short
+    (fits-replaced c.in-Ok.message.text s.text.items c.replace_text.new.shown.items s.store.limits.max_string c.in-Ok.ensures.within c.self.invariant.fits c.replace_text.ensures.items)
+    c.replace_text.ensures.capacity
     (shown-limited message c.displayed-self-inside.result _ c.displayed-self-inside.ensures c.remaining_of.ensures.limited)
+    (shown-ranged message c.displayed-self-inside.result _ c.displayed-self-inside.ensures c.in-Ok.ensures.ranged)
 
 pub returns-clause-state : goal.returns-clause-state
 returns-clause-state c =

@@ -3,7 +3,7 @@ use Rattle.message_store.specs.declared.limits.StoreLimits.{StoreLimits}
 use Rattle.sign_font.specs.declared.parts.Defaults.{Defaults}
 use Rattle.sign_font.specs.Defaults.{default_fault}
 use Rattle.sign_control.specs.declared.display.Display.{Display}
-use Rattle.sign_control.proofs.StepLemmas.{ready-none, start-limited}
+use Rattle.sign_control.proofs.StepLemmas.{ready-none, start-limited, start-ranged}
 use Rattle.sign_control.proofs.controller.Controller.new.Goals as goal
 
 pub invariant_of-result : goal.invariant_of-result
@@ -15,3 +15,4 @@ invariant_of-result c =
     (omega (arith, c.in-Ok.ensures.capacity, ap (λ (l : StoreLimits). l.max_string) c.limits.ensures.limits, c.from-room.ensures))
     (c.in_ok-plane.ensures.width ∙ c.width.ensures.width, c.in_ok-plane.ensures.height ∙ c.height.ensures.height)
     (start-limited c.defaults-defaults.result c.start.result c.start.ensures)
+    (start-ranged c.defaults-defaults.result c.start.result c.start.ensures)

@@ -1,4 +1,6 @@
-use Rattle.std.proofs.Common.{◌∙◌, arith, refl}
+use Rattle.std.proofs.Common.{◌∙◌, ◌∷◌, [], ap, arith, fold, refl, sym}
+use Rattle.std.proofs.lemmas.List.Sums.{fold-append}
+use Rattle.sign_control.specs.Revision.{revised}
 use Rattle.sign_control.proofs.BudgetLemmas.{every_run_stays_within}
 use Rattle.sign_control.proofs.CountLemmas.{next-run}
 use Rattle.sign_control.proofs.controller.Controller.run.Goals as goal
@@ -15,6 +17,11 @@ loop-command-preserved c =
           c.apply.ensures.state c.apply.ensures.reply c.in-Ok-push.ensures.items c.apply.ensures.steps;
       sign = c.apply.ensures.kept.0 ∙ i.sign;
       plane = c.apply.ensures.kept.1 ∙ i.plane;
+      revision =
+          c.apply.ensures.revision
+          ∙ ap (revised c.loop-command.self.revision) (sym c.apply.ensures.reply)
+          ∙ ap (λ n. revised n c.apply.result) i.revision
+          ∙ sym (ap (fold revised c.args.self.now.revision) c.in-Ok-push.ensures.items ∙ fold-append revised c.args.self.now.revision c.loop-command.replies.items (c.apply.result ∷ []));
     }
 
 pub returns-in_default-clause-within : goal.returns-in_default-clause-within

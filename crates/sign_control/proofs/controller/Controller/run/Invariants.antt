@@ -1,5 +1,6 @@
-use Rattle.std.proofs.Common.{◌≡◌, ◌≤◌, length}
+use Rattle.std.proofs.Common.{◌≡◌, ◌≤◌, fold, length}
 use Rattle.std.specs.Vec.{vec_capacity, vec_len}
+use Rattle.sign_control.specs.Revision.{revised}
 use Rattle.sign_control.proofs.CountLemmas.{IsDone}
 use Rattle.sign_control.proofs.controller.Controller.run.Given as goal
 
@@ -10,4 +11,5 @@ invariant-loop-command l = record {
   done : IsDone l.fn.self.sign l.fn.self.state l.commands l.command-index l.fn.self.steps l.self.state l.replies.items l.self.steps;
   sign : l.self.sign ≡ l.fn.self.sign;
   plane : l.self.plane ≡ l.fn.self.plane;
+  revision : l.self.revision ≡ fold revised l.fn.self.revision l.replies.items;
 }

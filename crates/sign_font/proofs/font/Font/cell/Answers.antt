@@ -1,7 +1,7 @@
 use Rattle.std.proofs.Common.{◌≡◌, ◌∙◌, sym, ap, subst, Option, Some, None, ◌==◌}
 use Rattle.std.specs.Prelude.{find, IfSome}
 use Rattle.sign_font.specs.Cell.{SizedCell}
-use Rattle.sign_font.specs.kept.Font.{font_kept}
+use Rattle.sign_font.specs.internal.Font.{font_kept}
 use Rattle.sign_font.specs.Sound.{IsSoundSize}
 use Rattle.sign_font.proofs.SoundLemmas.{cell_sized}
 use Rattle.sign_font.proofs.KeptLemmas.{cell_found}

@@ -1,6 +1,6 @@
 use Rattle.std.proofs.Common.{◌≡◌, ◌∙◌, ap, sym, subst, ℕ, Option, unwrap_or}
 use Rattle.std.specs.Prelude.{IfSome, option_map}
-use Rattle.sign_font.specs.kept.Font.{font_kept}
+use Rattle.sign_font.specs.internal.Font.{font_kept}
 use Rattle.sign_font.specs.Sign.{CellData, cell_numbered}
 use Rattle.sign_font.specs.Sound.{IsWithin}
 use Rattle.sign_font.proofs.KeptLemmas.{width_found}

@@ -1,7 +1,7 @@
 use Rattle.std.proofs.Common.{◌≡◌, ◌++◌, map, length}
 use Rattle.std.specs.Vec.Iter.{into_iter_items, into_iter_len}
 use Rattle.sign_font.specs.Sign.{cell_of, unsized}
-use Rattle.sign_font.specs.kept.Font.{AreAtHeight}
+use Rattle.sign_font.specs.internal.Font.{AreAtHeight}
 use Rattle.sign_font.proofs.font.Font.new.Given as goal
 
 abbrev pub invariant-loop-cell : goal.invariant-loop-cell

@@ -1,6 +1,6 @@
 use Rattle.std.proofs.Common.{◌≡◌, ℕ, ◌<◌, length, slice_index}
 use Rattle.sign_font.specs.Advance.{advance_of}
-use Rattle.sign_font.specs.kept.Font.{width_among}
+use Rattle.sign_font.specs.internal.Font.{width_among}
 use Rattle.sign_font.proofs.glyphs.Glyphs.advances.Given as goal
 
 abbrev pub invariant-loop-octet : goal.invariant-loop-octet

@@ -3,7 +3,7 @@ use Rattle.sign_font.specs.Cell.{SizedCell}
 use Rattle.sign_font.proofs.HalfLemmas.{AreBelow, AreAbove}
 use Rattle.sign_font.proofs.glyphs.Glyphs.search.Given as goal
 
--- what is left is halved by each probe: in front of it all numbers are smaller, and behind it all are larger
+-- what is left is halved by each probe: in front of it all numbers are smaller, and after it all are larger
 abbrev pub invariant-loop-probe : goal.invariant-loop-probe
 invariant-loop-probe l = record {
   ordered : l.low ≤ l.high;

@@ -1,0 +1,4 @@
+pub mod Cures
+pub mod Edits
+pub mod Shown
+pub mod Taking

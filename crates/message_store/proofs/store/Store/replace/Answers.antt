@@ -1,0 +1,6 @@
+use Rattle.message_store.proofs.StoredLemmas.{filled}
+use Rattle.message_store.proofs.store.Store.replace.Goals as goal
+
+pub returns-clause-put : goal.returns-clause-put
+returns-clause-put c = filled c.args.self.now c.put_slot.new.self c.put_multi.new.self c.put_owner.new.self c.args.index _ c.args.view.now.multi.now c.args.view.now.owner.now
+    c.requires.index c.put_slot.ensures.put c.put_multi.ensures.put c.put_owner.ensures.put

@@ -1,0 +1,4 @@
+-- What the code keeps on its way, which no reader of the public contracts needs.
+pub mod Answered
+pub mod Ready
+pub mod Saving
