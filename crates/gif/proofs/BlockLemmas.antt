@@ -1,19 +1,20 @@
 -- Data in blocks.
-use Rattle.std.proofs.Common.{◌≡◌, ℕ, ◌+◌, ◌*◌, ◌-◌, ◌<◌, ◌≤◌, List, [], ◌∷◌, ◌++◌, length, take, drop, refl, sym, ap, ◌∙◌, arith, append_assoc, append-nil, length-append}
+use Rattle.std.proofs.Common.{◌≡◌, ℕ, ◌+◌, ◌*◌, ◌/◌, ◌%◌, ◌<◌, ◌≤◌, List, [], ◌∷◌, ◌++◌, length, take, drop, refl, sym, ap, ◌∙◌, arith, append_assoc, append-nil, length-append}
 use Rattle.std.proofs.lemmas.Grind.{flat_map-append}
 use Rattle.std.proofs.Math.Seq.{take-add}
+use Rattle.std.proofs.lemmas.List.{length-take-le}
 use Rattle.std.proofs.lemmas.List.Elements.{All-append, All-cons, All-nil}
 use Rattle.std.specs.List.{All, flat_map}
 use Rattle.gif.specs.Gif.{GrewBy, IsBlocks, IsPart, blocks, picture_head}
+use Rattle.gif.specs.Count.{block_octets, data_octets, picture_octets}
 use Rattle.gif.specs.Size.{most_of_picture}
 
 -- a list grew by whole blocks of what stands before a place
 pub record SoFar (old now content : List ℕ) (start : ℕ) : Type 0 where
   pub parts : List (List ℕ)
   pub sized : All IsPart parts
-  pub count : 255 * (length now - length old - start) ≤ start + 254
-  pub whole : start < length content → 255 * (length now - length old - start) ≤ start
-  pub longer : length old + start ≤ length now
+  pub count : length now ≡ length old + start + (start + 254) / 255
+  pub whole : start < length content → start % 255 ≡ 0
   pub taken : flat_map (λ part. part) parts ≡ take start content
   pub grown : now ≡ old ++ flat_map (λ part. length part ∷ part) parts
 
@@ -23,7 +24,6 @@ so_far_none old content = record {
   sized = All-nil IsPart;
   count = omega arith;
   whole = λ _. omega arith;
-  longer = omega arith;
   taken = refl;
   grown = sym (append-nil old);
 }
@@ -35,14 +35,13 @@ so_far_more old now new content part start count s least most full inside long i
     let both = length-append (now ++ count ∷ []) part in
     let one = length-append now (count ∷ []) in
     let whole = s.whole inside in
-    let longer = s.longer in
+    let before = s.count in
     record {
       parts = s.parts ++ part ∷ [];
       sized = All-append IsPart s.parts (part ∷ []) s.sized (All-cons IsPart part [] (omega (arith, long, least), omega (arith, long, most)) (All-nil IsPart));
       taken = flat_map-append (λ p. p) s.parts (part ∷ []) ∙ ap (λ l. flat_map (λ p. p) s.parts ++ l) (append-nil part) ∙ ap (λ l. l ++ part) s.taken ∙ ap (λ l. take start content ++ l) is ∙ sym (take-add start count content);
-      count = omega (arith, all, both, one, long, whole, longer, least);
-      whole = λ more. let fills = full more in omega (arith, all, both, one, long, whole, longer, fills);
-      longer = omega (arith, all, both, one, long, longer, least);
+      count = omega (arith, all, both, one, long, whole, before, least, most);
+      whole = λ more. let fills = full more in omega (arith, whole, fills);
       grown = grew
           ∙ append_assoc now (count ∷ []) part
           ∙ ap (λ l. l ++ count ∷ part) s.grown
@@ -60,21 +59,29 @@ so_far_all old now new content start s all grew = (
 )
 
 -- how many octets there are with all blocks
-pub size_all : (old now new content : List ℕ) (start : ℕ) → SoFar old now content start → start ≤ length content → new ≡ now ++ 0 ∷ [] → 255 * length new ≤ 255 * length old + 256 * length content + 510
-size_all old now new content start s inside grew =
+pub size_all : (old now new content : List ℕ) (start : ℕ) → SoFar old now content start → start ≤ length content → take start content ≡ content → new ≡ now ++ 0 ∷ []
+    → length new ≡ length old + block_octets (length content)
+size_all old now new content start s inside whole grew =
     let all = ap length grew in
     let one = length-append now (0 ∷ []) in
     let count = s.count in
-    let longer = s.longer in
-    omega (arith, all, one, count, longer, inside)
+    let end : start ≡ length content = sym (length-take-le start content inside) ∙ ap length whole in
+    omega (arith, all, one, count, end)
 
 head_count : (width height delay : ℕ) → length (picture_head width height delay) ≡ 19
 unfolding picture_head
 head_count width height delay = refl
 
 -- how many octets a picture has
+pub picture_exact : (width height delay : ℕ) (content start all : List ℕ) (pixels : List ℕ) → length content ≡ data_octets pixels → start ≡ picture_head width height delay
+    → length all ≡ length start + block_octets (length content) → length all ≡ picture_octets pixels
+unfolding picture_octets
+picture_exact width height delay content start all pixels exact is size =
+    let begins = ap length is ∙ head_count width height delay in
+    size ∙ ap (λ n. n + block_octets (length content)) begins ∙ ap (λ n. 19 + block_octets n) exact
+
 pub picture_small : (width height delay points : ℕ) (content start all : List ℕ) → 8 * length content ≤ 13 * points + 32 → start ≡ picture_head width height delay
-    → 255 * length all ≤ 255 * length start + 256 * length content + 510 → length all ≤ most_of_picture points
+    → length all ≡ length start + block_octets (length content) → length all ≤ most_of_picture points
 picture_small width height delay points content start all short is size =
     let begins = ap length is ∙ head_count width height delay in
     omega (arith, short, begins, size)

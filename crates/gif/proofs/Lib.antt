@@ -4,6 +4,7 @@ pub mod StringLemmas
 pub mod FollowLemmas
 pub mod BlockLemmas
 pub mod SizeLemmas
+pub mod PackLemmas
 pub mod FilmLemmas
 pub mod WriterLemmas
 pub mod ReaderExamples

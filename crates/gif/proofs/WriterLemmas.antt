@@ -1,9 +1,12 @@
 -- A file that has begun, and what it means.
 use Rattle.std.proofs.Common.{◌≡◌, ℕ, ◌+◌, ◌*◌, ◌≤◌, List, [], ◌∷◌, ◌++◌, length, Some, refl, sym, ap, ◌∙◌, subst, arith, append_assoc, append-nil, length-append}
 use Rattle.std.specs.Prelude.{codes}
+use Rattle.std.specs.List.{sum_by}
 use Rattle.std.specs.Option.{unwrap_or}
+use Rattle.std.proofs.lemmas.List.Sums.{sum_by_push}
 use Rattle.gif.specs.Gif.{Picture, IsPicture, ArePictures, IsBegun, head}
 use Rattle.gif.specs.Reader.{Film, film_of, film_so_far}
+use Rattle.gif.specs.Count.{film_octets, picture_octets}
 use Rattle.gif.specs.Size.{most_octets, most_of_picture}
 use Rattle.gif.specs.internal.Writing.{IsFilm}
 use Rattle.gif.proofs.FilmLemmas.{found_film}
@@ -52,6 +55,12 @@ begins_small width height palette octets colours is =
     let most : 80 ≤ most_octets (film_so_far octets) = omega arith in
     omega (arith, long, count, most)
 
+pub begins_exact : (width height : ℕ) (palette octets : List ℕ) → length palette ≡ 48 → octets ≡ head width height palette → length octets ≡ film_octets (film_so_far octets).pictures
+unfolding film_octets
+begins_exact width height palette octets colours is =
+    let none : (film_so_far octets).pictures ≡ [] = ap (λ (f : Film). f.pictures) (so_far width height palette [] octets colours (begins width height palette octets is)) in
+    ap length is ∙ head_count width height palette colours ∙ sym (ap (λ p. 80 + sum_by (λ (q : Picture). picture_octets q.pixels) p) none)
+
 -- a file with one picture more
 pub record IsPushed (width height : ℕ) (old : Film) (new : List ℕ) (picture : Picture) : Type 0 where
   pub film : IsFilm width height new
@@ -96,6 +105,15 @@ pushed_small width height octets new piece picture is more grew small old_small 
     let old_small : length octets ≤ 80 + length old.pictures * most_of_picture (width * height) = subst (λ n. length octets ≤ 80 + length old.pictures * most_of_picture n) points old_small in
     let product = more_pictures (width * height) (length old.pictures) (length (film_so_far new).pictures) count in
     subst (λ n. length new ≤ 80 + length (film_so_far new).pictures * most_of_picture n) (sym new_points) (omega (arith, long, small, old_small, product))
+
+pub pushed_exact : (width height : ℕ) (octets new piece : List ℕ) (delay : ℕ) (pixels : List ℕ) → IsPushed width height (film_so_far octets) new (record { delay = delay; pixels = pixels })
+    → new ≡ octets ++ piece → length piece ≡ picture_octets pixels → length octets ≡ film_octets (film_so_far octets).pictures → length new ≡ film_octets (film_so_far new).pictures
+unfolding film_octets
+pushed_exact width height octets new piece delay pixels more grew exact old_exact =
+    let long = ap length grew ∙ length-append octets piece in
+    let pictures = (film_so_far octets).pictures in
+    let all = ap (sum_by (λ (q : Picture). picture_octets q.pixels)) more.pictures ∙ sum_by_push (λ (q : Picture). picture_octets q.pixels) pictures (record { delay = delay; pixels = pixels }) in
+    omega (arith, long, exact, old_exact, all)
 
 -- points that fill the screen of a film fill that of its writer
 pub whole : (width height : ℕ) (octets pixels : List ℕ) (film : Film) → IsFilm width height octets → film_so_far octets ≡ film → length pixels ≡ film.width * film.height

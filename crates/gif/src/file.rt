@@ -2,6 +2,7 @@
 ghost use Rattle.std.specs.Prelude.{◌≡◌, ◌++◌, ◌∷◌, [], ◌<◌, ◌≤◌, ◌+◌, ◌*◌, ◌/◌, ◌%◌, OnOk, IfOk, length};
 ghost use Rattle.std.specs.List.{All};
 ghost use Rattle.gif.specs.Gif.{GrewBy, IsBlocks, IsPicture, head, picture_head};
+ghost use Rattle.gif.specs.Count.{block_octets, picture_octets};
 ghost use Rattle.gif.specs.Size.{most_of_picture};
 
 use crate::lzw::lzw_data;
@@ -71,7 +72,7 @@ fn push_picture_head(
 /// Appends data in blocks.
 fn push_blocks(octets: &mut Vec<u8>, content: &[u8]) -> Result<(), AllocError>
     ensures blocks { OnOk result (GrewBy (IsBlocks content.now) octets.old.items octets.new.items) }
-    ensures size { OnOk result (255 * length octets.new.items ≤ 255 * length octets.old.items + 256 * length content.now + 510) }
+    ensures size { OnOk result (length octets.new.items ≡ length octets.old.items + block_octets (length content.now)) }
 {
     let mut start = 0;
     while start < content.len() {
@@ -96,6 +97,7 @@ pub(crate) fn packed_picture(
     requires whole { length pixels.now ≡ width * height }
     ensures picture { IfOk result (λ octets. IsPicture width height delay pixels.now octets.items) }
     ensures size { IfOk result (λ octets. length octets.items ≤ most_of_picture (width * height)) }
+    ensures exact { IfOk result (λ octets. length octets.items ≡ picture_octets pixels.now) }
 {
     let content = lzw_data(alloc, pixels)?;
     let mut octets = Vec::new(alloc);

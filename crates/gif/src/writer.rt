@@ -1,6 +1,7 @@
 //! A file in GIF that is written picture by picture.
 ghost use Rattle.std.specs.Prelude.{◌≡◌, ◌++◌, ◌∷◌, [], ◌+◌, ◌*◌, ◌<◌, ◌≤◌, Some, OnErr, OnOk, IfOk, length};
 ghost use Rattle.std.specs.List.{All};
+ghost use Rattle.gif.specs.Count.{film_octets};
 ghost use Rattle.gif.specs.Reader.{film_of};
 ghost use Rattle.gif.specs.Size.{most_octets};
 
@@ -17,7 +18,8 @@ pub struct GifWriter {
 }
 
 impl Model for GifWriter {
-    ghost use Rattle.std.specs.Prelude.{◌≤◌, length};
+    ghost use Rattle.std.specs.Prelude.{◌≡◌, ◌≤◌, length};
+    ghost use Rattle.gif.specs.Count.{film_octets};
     ghost use Rattle.gif.specs.Reader.{Film, film_so_far};
     ghost use Rattle.gif.specs.internal.Writing.{IsFilm};
     ghost use Rattle.gif.specs.Size.{most_octets};
@@ -26,7 +28,8 @@ impl Model for GifWriter {
 
     ghost view = { λ w. film_so_far w.octets.items };
 
-    ghost invariant = { λ w. IsFilm w.width w.height w.octets.items × (length w.octets.items ≤ most_octets (film_so_far w.octets.items)) };
+    ghost invariant = { λ w. IsFilm w.width w.height w.octets.items × (length w.octets.items ≤ most_octets (film_so_far w.octets.items))
+        × (length w.octets.items ≡ film_octets (film_so_far w.octets.items).pictures) };
 }
 
 impl GifWriter {
@@ -65,9 +68,10 @@ impl GifWriter {
         Ok(())
     }
 
-    /// The octets so far: at most 80, and for each picture two octets for each of its points, and 32.
+    /// The number of octets so far: at most 80, and for each picture two octets for each of its points, and 32.
     pub fn len(&self) -> usize
-        ensures { result ≤ most_octets self.now }
+        ensures value { result ≡ film_octets self.now.pictures }
+        ensures most { result ≤ most_octets self.now }
     {
         self.octets.len()
     }
@@ -75,6 +79,7 @@ impl GifWriter {
     /// The file, which has one octet more. The error says that memory was refused.
     pub fn finish(mut self) -> Result<Vec<u8>, AllocError>
         ensures film { IfOk result (λ octets. film_of octets.items ≡ Some self) }
+        ensures exact { IfOk result (λ octets. length octets.items ≡ film_octets self.pictures + 1) }
         ensures size { IfOk result (λ octets. length octets.items ≤ most_octets self + 1) }
     {
         push_end(&mut self.octets)?;

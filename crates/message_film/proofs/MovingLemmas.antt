@@ -1,5 +1,5 @@
 -- What a text shows, tenth by tenth.
-use Rattle.std.proofs.Common.{◌≡◌, ℕ, zero, suc, ◌+◌, ◌*◌, ◌/◌, ◌<◌, ◌≤◌, List, [], ◌∷◌, ◌++◌, length, map, replicate, refl, sym, ap, ◌∙◌, subst, arith, append-nil, length-append}
+use Rattle.std.proofs.Common.{◌≡◌, ℕ, zero, suc, ◌+◌, ◌-◌, ◌*◌, ◌/◌, ◌<◌, ◌≤◌, List, [], ◌∷◌, ◌++◌, length, map, replicate, refl, sym, ap, ◌∙◌, subst, arith, append_assoc, append-nil, length-append}
 use Rattle.std.proofs.Math.Nat.{mul-le-mul_right}
 use Rattle.std.proofs.lemmas.Grind.{flat_map-append}
 use Rattle.std.specs.List.{flat_map, range_with_len}
@@ -12,7 +12,9 @@ use Rattle.page_picture.specs.Shown.{colours, shown_colour_at}
 use Rattle.page_picture.specs.Palette.{palette}
 use Rattle.message_film.specs.Moving.{IsFilmOf, Plays, in_tenths, moving, seen_points}
 use Rattle.gif.specs.Size.{most_of_picture}
-use Rattle.message_film.specs.Reel.{ReelData, most_of_film, points_of}
+use Rattle.message_film.specs.Film.{IsTooLarge}
+use Rattle.message_film.specs.Looks.{FrontHasOctets, HasOctets, points_of}
+use Rattle.message_film.specs.Reel.{ReelData, most_of_film}
 
 map_next : (f : ℕ → List ℕ) (a n j : ℕ) → a + n ≡ j → map f (range_with_len a (suc n)) ≡ map f (range_with_len a n) ++ f j ∷ []
 map_next f a zero j is = ap (λ x. x ∷ []) (ap f (omega (arith, is)))
@@ -114,26 +116,81 @@ next side other sign text octets clock sided same =
     ∙ ap (λ t. in_tenths (moving side sign text clock) ++ replicate 10 (seen_points side sign t (shown sign t clock))) same
     ∙ sym (more side sign text clock)
 
--- a film that is too large so far is too large in the end
-pub large : (side : ℕ) (sign : SignData) (reel : ReelData) (clock tenths octets : ℕ) → reel.side ≡ side → reel.width ≡ sign.width → reel.height ≡ sign.height
-    → length reel.points ≡ 10 * (clock + 1) → clock < tenths → octets ≤ most_of_film reel.side reel.width reel.height (length reel.points / 10) → 64000000 < octets
-    → 64000000 ≤ most_of_film side sign.width sign.height tenths
-large side sign reel clock tenths octets sided wide high count less most too_large =
-    let size = most_of_picture (side * sign.width * (side * sign.height)) in
-    let few : length reel.points / 10 ≤ tenths = omega (arith, count, less) in
-    let product : length reel.points / 10 * size ≤ tenths * size = mul-le-mul_right size few in
-    let same = ap (λ s. most_of_film s reel.width reel.height (length reel.points / 10)) sided
-    ∙ ap (λ w. most_of_film side w reel.height (length reel.points / 10)) wide
-    ∙ ap (λ h. most_of_film side sign.width h (length reel.points / 10)) high in
-    omega (arith, same, product, most, too_large)
+-- the first tenths of a second are the beginning of more of them
+ahead : (side : ℕ) (sign : SignData) (text : List ℕ) (start tenths : ℕ)
+    → (rest : List (List ℕ)) × (in_tenths (moving side sign text (start + tenths)) ≡ in_tenths (moving side sign text start) ++ rest)
+ahead side sign text start zero =
+    let same : start + zero ≡ start = omega arith in
+    ([], ap (λ n. in_tenths (moving side sign text n)) same ∙ sym (append-nil (in_tenths (moving side sign text start))))
+ahead side sign text start (suc tenths) =
+    let before = ahead side sign text start tenths in
+    let last = replicate 10 (seen_points side sign text (shown sign text (start + tenths))) in
+    let next : start + suc tenths ≡ start + tenths + 1 = omega arith in (
+      before.0 ++ last,
+      ap (λ n. in_tenths (moving side sign text n)) next
+          ∙ more side sign text (start + tenths)
+          ∙ ap (λ l. l ++ last) before.1
+          ∙ append_assoc (in_tenths (moving side sign text start)) before.0 last,
+    )
 
-pub large_end : (side : ℕ) (sign : SignData) (reel : ReelData) (tenths octets : ℕ) → reel.side ≡ side → reel.width ≡ sign.width → reel.height ≡ sign.height
-    → length reel.points ≡ 10 * tenths → octets ≤ most_of_film reel.side reel.width reel.height (length reel.points / 10) + 1 → 64000000 < octets
-    → 64000000 ≤ most_of_film side sign.width sign.height tenths
-large_end side sign reel tenths octets sided wide high count most too_large =
-    let all : length reel.points / 10 ≡ tenths = omega (arith, count) in
-    let same = ap (λ s. most_of_film s reel.width reel.height (length reel.points / 10)) sided
-    ∙ ap (λ w. most_of_film side w reel.height (length reel.points / 10)) wide
-    ∙ ap (λ h. most_of_film side sign.width h (length reel.points / 10)) high
-    ∙ ap (most_of_film side sign.width sign.height) all in
-    omega (arith, same, most, too_large)
+-- a file of some size, by its reel's
+has_octets : (side : ℕ) (sign : SignData) (reel : ReelData) (points : List (List ℕ)) (octets : ℕ) → reel.side ≡ side → reel.width ≡ sign.width → reel.height ≡ sign.height
+    → HasOctets reel.side reel.width reel.height points octets → HasOctets side sign.width sign.height points octets
+has_octets side sign reel points octets sided wide high file =
+    subst (λ h. HasOctets side sign.width h points octets) high
+    (subst (λ w. HasOctets side w reel.height points octets) wide
+    (subst (λ s. HasOctets s reel.width reel.height points octets) sided file))
+
+-- how many octets a film has at most, by its reel's size
+most_by : (side : ℕ) (sign : SignData) (reel : ReelData) (tenths : ℕ) → reel.side ≡ side → reel.width ≡ sign.width → reel.height ≡ sign.height
+    → most_of_film reel.side reel.width reel.height tenths ≡ most_of_film side sign.width sign.height tenths
+most_by side sign reel tenths sided wide high =
+    ap (λ s. most_of_film s reel.width reel.height tenths) sided
+    ∙ ap (λ w. most_of_film side w reel.height tenths) wide
+    ∙ ap (λ h. most_of_film side sign.width h tenths) high
+
+-- a film that is too large so far is too large in the end
+pub large : (side : ℕ) (sign : SignData) (text : List ℕ) (reel : ReelData) (clock tenths octets : ℕ) → reel.side ≡ side → reel.width ≡ sign.width → reel.height ≡ sign.height
+    → reel.points ≡ in_tenths (moving side sign text (clock + 1)) → clock < tenths → FrontHasOctets reel.side reel.width reel.height reel.points (octets + 1)
+    → octets ≤ most_of_film reel.side reel.width reel.height (length reel.points / 10) → 64000000 < octets → IsTooLarge side sign text tenths
+large side sign text reel clock tenths octets sided wide high points less front most too_large =
+    let size = most_of_picture (side * sign.width * (side * sign.height)) in
+    let long = ap length points ∙ count side sign text (clock + 1) in
+    let few : length reel.points / 10 ≤ tenths = omega (arith, long, less) in
+    let product : length reel.points / 10 * size ≤ tenths * size = mul-le-mul_right size few in
+    let same = most_by side sign reel (length reel.points / 10) sided wide high in
+    let rest = ahead side sign text (clock + 1) (tenths - (clock + 1)) in
+    let end : tenths ≡ clock + 1 + (tenths - (clock + 1)) = omega (arith, less) in
+    record {
+      octets = octets + 1;
+      front = record {
+        first = front.first;
+        rest = front.rest ++ rest.0;
+        parts = ap (λ n. in_tenths (moving side sign text n)) end
+            ∙ rest.1
+            ∙ ap (λ l. l ++ rest.0) (sym points ∙ front.parts)
+            ∙ append_assoc front.first front.rest rest.0;
+        file = has_octets side sign reel front.first (octets + 1) sided wide high front.file;
+      };
+      larger = omega (arith, too_large);
+      most = omega (arith, same, product, most, too_large);
+    }
+
+pub large_end : (side : ℕ) (sign : SignData) (text : List ℕ) (reel : ReelData) (tenths octets : ℕ) → reel.side ≡ side → reel.width ≡ sign.width → reel.height ≡ sign.height
+    → reel.points ≡ in_tenths (moving side sign text tenths) → HasOctets reel.side reel.width reel.height reel.points octets
+    → octets ≤ most_of_film reel.side reel.width reel.height (length reel.points / 10) + 1 → 64000000 < octets → IsTooLarge side sign text tenths
+large_end side sign text reel tenths octets sided wide high points file most too_large =
+    let long = ap length points ∙ count side sign text tenths in
+    let all : length reel.points / 10 ≡ tenths = omega (arith, long) in
+    let same = most_by side sign reel (length reel.points / 10) sided wide high ∙ ap (most_of_film side sign.width sign.height) all in
+    record {
+      octets = octets;
+      front = record {
+        first = reel.points;
+        rest = [];
+        parts = sym points ∙ sym (append-nil reel.points);
+        file = has_octets side sign reel reel.points octets sided wide high file;
+      };
+      larger = too_large;
+      most = omega (arith, same, most, too_large);
+    }

@@ -1,4 +1,5 @@
 pub mod Moving
+pub mod Looks
 pub mod Reel
 pub mod Period
 pub mod Film

@@ -91,7 +91,7 @@ pub fn film(
     requires some { 1 ≤ tenths }
     ensures film { IfOk result (λ octets. IsFilmOf side sign.now (moving side sign.now checked.old.source.octets tenths) octets.items) }
     ensures size { IfOk result (λ octets. length octets.items ≤ 64000000) }
-    ensures fault { IfErr result (IsUnmade side sign.now tenths) }
+    ensures fault { IfErr result (IsUnmade side sign.now checked.old.source.octets tenths) }
     ensures kept { OnOk result ((checked.new.sign ≡ checked.old.sign) × (checked.new.source.octets ≡ checked.old.source.octets)) }
 {
     let Ok(mut reel) = Reel::new(alloc, side, sign.width(), sign.height(), sign.classic()) else {

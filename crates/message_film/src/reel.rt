@@ -1,8 +1,9 @@
 //! A film that is made a tenth of a second at a time.
-ghost use Rattle.std.specs.Prelude.{◌≡◌, ◌++◌, [], ◌+◌, ◌*◌, ◌/◌, ◌≤◌, true, OnErr, OnOk, IfOk, length, replicate};
+ghost use Rattle.std.specs.Prelude.{◌≡◌, ◌≢◌, ◌++◌, [], ◌+◌, ◌*◌, ◌/◌, ◌<◌, ◌≤◌, false, true, OnErr, OnOk, IfOk, length, map, replicate};
 ghost use Rattle.page_picture.specs.Palette.{palette};
 ghost use Rattle.message_film.specs.Moving.{Plays};
-ghost use Rattle.message_film.specs.Reel.{AreColours, most_of_film, points_of, written};
+ghost use Rattle.message_film.specs.Looks.{AreColours, FrontHasOctets, HasOctets, pending, picture_of, points_of};
+ghost use Rattle.message_film.specs.Reel.{most_of_film};
 
 use gif::GifWriter;
 use page_picture::{dot_points, palette_of};
@@ -36,9 +37,36 @@ impl Model for Reel {
 
 /// Whether colours are the same.
 fn same(some: &[u8], others: &[u8]) -> bool
-    ensures { result ≡ true → some.now ≡ others.now }
+    ensures same { result ≡ true → some.now ≡ others.now }
+    ensures other { result ≡ false → some.now ≢ others.now }
 {
     some == others
+}
+
+/// Writes a picture of colours that are shown for some tenths of a second, if that is any time.
+fn write(
+    alloc: Global,
+    writer: &mut GifWriter,
+    side: u8,
+    width: u16,
+    height: u16,
+    colours: &[u8],
+    tenths: u16,
+) -> Result<(), AllocError>
+    requires size { (writer.old.width ≡ side * width) × (writer.old.height ≡ side * height) }
+    requires few { tenths ≤ 6553 }
+    requires whole { 0 < tenths → AreColours width height colours.now }
+    ensures pictures { OnOk result
+        (writer.new.pictures ≡ writer.old.pictures ++ map (picture_of side width height) (pending colours.now tenths)) }
+    ensures size { OnOk result ((writer.new.width ≡ writer.old.width) × (writer.new.height ≡ writer.old.height)) }
+    ensures palette { OnOk result (writer.new.palette ≡ writer.old.palette) }
+    ensures refused { OnErr result (writer.new ≡ writer.old) }
+{
+    if tenths > 0 {
+        let points = dot_points(alloc, colours, width, height, side)?;
+        writer.push(alloc, 10 * tenths, &points)?;
+    }
+    Ok(())
 }
 
 impl Reel {
@@ -69,19 +97,6 @@ impl Reel {
         })
     }
 
-    /// Writes the picture that isn't written yet.
-    fn write(&mut self, alloc: Global) -> Result<(), AllocError>
-        ensures written { OnOk result (self.new ≡ written self.old) }
-        ensures refused { OnErr result (self.new ≡ self.old) }
-    {
-        if self.tenths > 0 {
-            let points = dot_points(alloc, &self.colours, self.width, self.height, self.side)?;
-            self.writer.push(alloc, 10 * self.tenths, &points)?;
-            self.tenths = 0;
-        }
-        Ok(())
-    }
-
     /// Shows the colours of all pixels, 0 to 9, row by row, in the next tenth of a second. The error says that memory was refused; then the
     /// film is as it was.
     pub fn push(&mut self, alloc: Global, colours: Vec<u8>) -> Result<(), AllocError>
@@ -97,15 +112,25 @@ impl Reel {
             self.tenths += 1;
             return Ok(());
         }
-        self.write(alloc)?;
+        write(
+            alloc,
+            &mut self.writer,
+            self.side,
+            self.width,
+            self.height,
+            &self.colours,
+            self.tenths,
+        )?;
         self.colours = colours;
         self.tenths = 1;
         Ok(())
     }
 
-    /// The octets that are written so far: at most 80, and two for each point and 32 in each tenth of a second.
+    /// The number of octets that are written so far, one less than a file of these pictures has: at most 80, and two for each point and 32
+    /// in each tenth of a second.
     pub fn len(&self) -> usize
-        ensures { result ≤ most_of_film self.now.side self.now.width self.now.height (length self.now.points / 10) }
+        ensures front { FrontHasOctets self.now.side self.now.width self.now.height self.now.points (result + 1) }
+        ensures most { result ≤ most_of_film self.now.side self.now.width self.now.height (length self.now.points / 10) }
     {
         self.writer.len()
     }
@@ -114,10 +139,20 @@ impl Reel {
     pub fn finish(mut self, alloc: Global) -> Result<Vec<u8>, AllocError>
         ensures plays { IfOk result
             (λ octets. Plays (self.side * self.width) (self.side * self.height) self.palette self.points octets.items) }
+        ensures exact { IfOk result
+            (λ octets. HasOctets self.side self.width self.height self.points (length octets.items)) }
         ensures size { IfOk result
             (λ octets. length octets.items ≤ most_of_film self.side self.width self.height (length self.points / 10) + 1) }
     {
-        self.write(alloc)?;
+        write(
+            alloc,
+            &mut self.writer,
+            self.side,
+            self.width,
+            self.height,
+            &self.colours,
+            self.tenths,
+        )?;
         let octets = self.writer.finish()?;
         Ok(octets)
     }

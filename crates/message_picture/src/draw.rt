@@ -20,7 +20,7 @@ pub enum DrawFault {
     /// The message has no such page, but this many.
     #[error("no such page: the last is {pages}")]
     NoPage { pages: u8 },
-    /// A film of so many tenths of a second may have more than 64,000,000 octets.
+    /// The file of a film of so many tenths of a second would have more than 64,000,000 octets.
     #[error("too large: a film of {tenths} tenths of a second has more than 64 MB")]
     TooLarge { tenths: u16 },
     /// The message begins anew after so many tenths of a second, and a film lasts for at most

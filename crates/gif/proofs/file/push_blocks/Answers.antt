@@ -25,5 +25,6 @@ loop-start-preserved c =
 pub returns : goal.returns
 returns c = record {
   blocks = BlockLemmas.so_far_all _ _ _ _ _ c.loop-start.invariant.so_far (take_all c.loop-start.start c.args.content.now c.loop-start-test.false) c.in_ok-push-2.ensures.items;
-  size = BlockLemmas.size_all _ _ _ _ c.loop-start.start c.loop-start.invariant.so_far c.loop-start.invariant.inside c.in_ok-push-2.ensures.items;
+  size = BlockLemmas.size_all _ _ _ _ c.loop-start.start c.loop-start.invariant.so_far c.loop-start.invariant.inside (take_all c.loop-start.start c.args.content.now c.loop-start-test.false)
+      c.in_ok-push-2.ensures.items;
 }

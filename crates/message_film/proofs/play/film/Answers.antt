@@ -1,7 +1,7 @@
-use Rattle.std.proofs.Common.{◌≡◌, ◌+◌, ◌++◌, length, refl, replicate, sym, ap, ◌∙◌, arith}
+use Rattle.std.proofs.Common.{◌≡◌, ◌++◌, length, refl, replicate, sym, ap, ◌∙◌, arith}
 use Rattle.multi_meaning.specs.Times.{shown}
 use Rattle.page_picture.specs.Palette.{palette}
-use Rattle.message_film.specs.Moving.{seen_points}
+use Rattle.message_film.specs.Moving.{in_tenths, moving, seen_points}
 use Rattle.message_film.specs.Reel.{ReelData}
 use Rattle.message_film.proofs.MovingLemmas
 use Rattle.message_film.proofs.play.film.Goals as goal
@@ -46,19 +46,23 @@ returns-then-len-gt-MOST_OCTETS-clause-fault c =
     let reel = c.push_moment.new.reel in
     let points = p.points
     ∙ ap (λ q. q ++ replicate 10 (seen_points l.reel.side sign l.checked.source.octets (shown sign l.checked.source.octets l.clock))) h.points
-    ∙ MovingLemmas.next c.args.side l.reel.side sign text l.checked.source.octets l.clock h.side h.text in
-    let count = ap length points ∙ MovingLemmas.count c.args.side sign text (l.clock + 1) in
-    (refl, MovingLemmas.large c.args.side sign reel l.clock c.args.tenths c.len.result (p.size.0 ∙ h.side) (p.size.1 ∙ h.size.0) (p.size.2 ∙ h.size.1) count c.loop-clock-test.true c.len.ensures c.if-len-gt-MOST_OCTETS.true)
+    ∙ MovingLemmas.next c.args.side l.reel.side sign text l.checked.source.octets l.clock h.side h.text in (
+      refl,
+      MovingLemmas.large c.args.side sign text reel l.clock c.args.tenths c.len.result (p.size.0 ∙ h.side) (p.size.1 ∙ h.size.0) (p.size.2 ∙ h.size.1) points c.loop-clock-test.true
+          c.len.ensures.front c.len.ensures.most c.if-len-gt-MOST_OCTETS.true,
+    )
 
 pub returns-then-len-gt-MOST_OCTETS-2-clause-fault : goal.returns-then-len-gt-MOST_OCTETS-2-clause-fault
 returns-then-len-gt-MOST_OCTETS-2-clause-fault c =
     let l = c.loop-clock in
     let sign = c.args.sign.now in
+    let text = c.args.checked.now.source.octets in
     let last = c.loop-clock-test.false in
     let most = l.auto.clock-end in
     let end : l.clock ≡ c.args.tenths = omega (arith, last, most) in
-    let count = ap length l.invariant.points ∙ MovingLemmas.count c.args.side sign c.args.checked.now.source.octets l.clock in
-    let octets = c.in-Ok-finish.ensures.size in
-    let large = MovingLemmas.large_end c.args.side sign l.reel c.args.tenths (length c.in-Ok-finish.octets.items) l.invariant.side l.invariant.size.0 l.invariant.size.1 (omega (arith, count, end)) octets
-    (omega (arith, c.len-2.ensures, c.if-len-gt-MOST_OCTETS-2.true)) in
-    (refl, large)
+    let points = l.invariant.points ∙ ap (λ n. in_tenths (moving c.args.side sign text n)) end in
+    let f = c.in-Ok-finish.ensures in (
+      refl,
+      MovingLemmas.large_end c.args.side sign text l.reel c.args.tenths (length c.in-Ok-finish.octets.items) l.invariant.side l.invariant.size.0 l.invariant.size.1 points f.exact f.size
+          (omega (arith, c.len-2.ensures, c.if-len-gt-MOST_OCTETS-2.true)),
+    )

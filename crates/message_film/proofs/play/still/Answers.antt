@@ -1,7 +1,8 @@
 use Rattle.std.proofs.Common.{◌++◌, ◌∷◌, [], replicate, sym, ap, ◌∙◌}
 use Rattle.page_picture.specs.Palette.{palette}
 use Rattle.message_film.specs.Moving.{seen_points}
-use Rattle.message_film.specs.Reel.{ReelData, points_of}
+use Rattle.message_film.specs.Looks.{points_of}
+use Rattle.message_film.specs.Reel.{ReelData}
 use Rattle.message_film.proofs.MovingLemmas
 use Rattle.message_film.proofs.play.still.Goals as goal
 

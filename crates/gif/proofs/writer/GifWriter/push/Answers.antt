@@ -16,6 +16,7 @@ invariant_of-self-2 c =
     let pushed = WriterLemmas.pushed old.width old.height old.octets.items c.extend_from_slice.new.self.items c.in_ok-picture.picture.items c.args.delay c.args.pixels.now c.self.invariant.0 c.in_ok-picture.ensures.picture grew in (
       pushed.film,
       WriterLemmas.pushed_small old.width old.height old.octets.items c.extend_from_slice.new.self.items c.in_ok-picture.picture.items _ c.self.invariant.0 pushed grew c.in_ok-picture.ensures.size c.self.invariant.1,
+      WriterLemmas.pushed_exact old.width old.height old.octets.items c.extend_from_slice.new.self.items c.in_ok-picture.picture.items c.args.delay c.args.pixels.now pushed grew c.in_ok-picture.ensures.exact c.self.invariant.2,
     )
 
 pub returns : goal.returns

@@ -1,17 +1,18 @@
-use Rattle.std.proofs.Common.{◌*◌, length, subst, ap, ◌∙◌}
-use Rattle.message_film.specs.Moving.{Plays}
-use Rattle.message_film.specs.Reel.{ReelData}
+use Rattle.std.proofs.Common.{◌++◌, map, ap, ◌∙◌}
+use Rattle.message_film.specs.Looks.{pending, picture_of}
 use Rattle.message_film.proofs.ReelLemmas
 use Rattle.message_film.proofs.reel.Reel.finish.Goals as goal
 
 pub returns : goal.returns
 returns c =
-    let last = c.self.inside in
-    let octets = c.in_ok-octets.octets.items in
-    let is = c.self.view_is ∙ c.in_ok-write.ensures.written in
-    let none = ap (λ (r : ReelData). r.left) is in
+    let old = c.self.inside in
+    let w = c.in_ok-write.ensures in
+    let f = c.in_ok-octets.ensures in
+    let written = w.pictures ∙ ap (λ l. old.writer.pictures ++ map (picture_of old.side old.width old.height) (pending l old.tenths)) c.deref.ensures.value in
+    let all = ReelLemmas.finished old.side old.width old.height old.writer c.write.new.writer old.colours.items c.in_ok-octets.octets.items old.tenths c.args.self c.self.invariant c.self.view_is
+    written w.size w.palette f.film f.exact f.size in
     record {
-      plays = subst (λ (r : ReelData). Plays (r.side * r.width) (r.side * r.height) r.palette r.points octets) is
-          (ReelLemmas.finished last.side last.width last.height last.writer last.colours.items octets last.tenths none c.self.invariant c.in_ok-octets.ensures.film);
-      size = ReelLemmas.small_end last.side last.width last.height (length octets) last.writer last.colours.items last.tenths _ c.self.invariant is c.in_ok-octets.ensures.size;
+      plays = all.plays;
+      exact = all.exact;
+      size = all.size;
     }
