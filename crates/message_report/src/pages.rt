@@ -10,7 +10,7 @@ use crate::canvas::Canvas;
 use crate::explanation::Explanation;
 use crate::marks::push_lit;
 use crate::picture::{Picture, push_picture};
-use crate::text::{push_legend, push_message, push_times, push_warnings};
+use crate::text::{push_legend, push_message, push_times, push_warnings, times_of};
 use crate::verdict::{push_accepted, push_head, push_line_head};
 use multi_layout::Checked;
 use std::alloc::AllocError;
@@ -48,10 +48,11 @@ fn push_lit_pages(
     let mut canvas = canvas_of(message)?;
     let Canvas { plane, lines } = &mut *canvas;
     let pages = checked.pages();
+    let times = times_of(message, pages)?;
     let mut next = checked.first_page();
     for page in 0..pages {
         push_head(text, page, pages)?;
-        push_times(text, message, page, pages)?;
+        push_times(text, &times, page)?;
         checked.draw_next(&mut next, message.telling.phase, 1, lines, plane);
         push_lit(text, plane)?;
     }
@@ -81,9 +82,10 @@ fn push_drawn_pages(
         ..
     } = *message;
     let pages = checked.pages();
+    let times = times_of(message, pages)?;
     for page in 0..pages {
         push_head(text, page, pages)?;
-        push_times(text, message, page, pages)?;
+        push_times(text, &times, page)?;
         push_picture(text, alloc, sign, checked, picture, page, telling.phase)?;
     }
     Ok(())

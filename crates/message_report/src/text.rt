@@ -7,7 +7,7 @@ use crate::explanation::Piece::{Number, Octets};
 use crate::explanation::{Explanation, push_all, push_number, push_octet, push_octets};
 use crate::picture::Picture;
 use message_words::{
-    COLOUR_MARKS, FLASHING, MORE, MessageLine, NO_TIMES, PIXEL_MARKS, Times, Warning,
+    COLOUR_MARKS, FLASHING, MORE, MessageLine, NO_TIMES, PIXEL_MARKS, Times, Warning, page_times,
 };
 use sign_font::Sign;
 use std::alloc::{AllocError, Global};
@@ -130,18 +130,26 @@ fn push_shown_for(text: &mut Explanation, times: Times) -> Result<(), AllocError
     Ok(())
 }
 
-/// Appends how long a page of so many is shown, and how long the sign is dark after it, to the end of a line.
+/// The times of the pages of a message of so many. One page is shown all the time, and has none here.
+#[inline(always)]
+pub(crate) fn times_of(message: &AcceptedMessage<'_>, pages: u8) -> Result<Vec<Times>, AllocError> {
+    if pages == 1 {
+        return Ok(Vec::new(message.alloc));
+    }
+    page_times(message.alloc, message.sign, message.message)
+}
+
+/// Appends how long a page is shown, and how long the sign is dark after it, to the end of a line, by the times of all pages.
 #[inline(always)]
 pub(crate) fn push_times(
     text: &mut Explanation,
-    message: &AcceptedMessage<'_>,
+    times: &[Times],
     page: u8,
-    pages: u8,
 ) -> Result<(), AllocError>
     ensures { OnOk result (GrowsByLine text.old text.new) }
 {
-    if pages != 1 {
-        return push_shown_for(text, message.found.times.of(page));
+    if let Some(times) = times.get(usize::from(page)) {
+        return push_shown_for(text, *times);
     }
     push_octets(text, b"shown all the time:\n")?;
     Ok(())
