@@ -1,8 +1,9 @@
 //! Accepted messages in words and pictures.
-ghost use Rattle.std.specs.Prelude.{◌≡◌, ◌++◌, ◌<◌, ◌^◌, false, length, IfOk, OnOk};
+ghost use Rattle.std.specs.Prelude.{◌≡◌, ◌∷◌, ◌++◌, ◌<◌, ◌^◌, [], List, ℕ, false, length, IfOk, OnOk};
 ghost use Rattle.multi_layout.specs.Pages.{IsSized, page_count};
 ghost use Rattle.message_report.specs.Explanation.{HasPages, PassesOver, ShowsPages, TellsAccepted, picture_text};
-ghost use Rattle.message_report.specs.Words.{Grows, GrowsBy};
+ghost use Rattle.message_report.specs.Notes.{AreWarned, is_still, legend_text};
+ghost use Rattle.message_report.specs.Words.{GrowsBy};
 ghost use Rattle.message_report.specs.declared.picture.Picture.TheVariants.{Marks};
 
 use crate::accepted::AcceptedMessage;
@@ -112,17 +113,29 @@ fn push_pages(
     }
 }
 
-/// Appends what stands after the pages: what their marks mean, the warnings, and an empty line.
+/// Whether a message of several pages shows the first one all the time.
+#[inline(always)]
+fn is_still(checked: &Checked<'_>) -> bool
+    requires short { length checked.now.source.octets < 2 ^ 32 }
+    ensures { result ≡ is_still checked.now.sign checked.now.source.octets (page_count checked.now) }
+{
+    let pages = checked.pages();
+    let cycle = checked.cycle();
+    pages > 1 && cycle == 0
+}
+
+/// Appends what stands after the pages: what their marks mean, what pictures don't show, the warnings, and an empty line.
 #[inline(always)]
 fn push_notes(
     text: &mut Explanation,
     message: &AcceptedMessage<'_>,
-    checked: &Checked<'_>,
+    is_still: bool,
     picture: Picture,
 ) -> Result<(), AllocError>
-    ensures { OnOk result (Grows text.old text.new) }
+    ensures { OnOk result ((told : List ℕ) × AreWarned told × (text.new ≡ text.old
+        ++ (legend_text picture message.now.sign.now.classic is_still message.now.found.now.flashes message.now.telling.phase
+        ++ told ++ 10 ∷ []))) }
 {
-    let is_still = checked.pages() > 1 && checked.cycle() == 0;
     push_legend(text, message, is_still, picture)?;
     push_warnings(text, message)
 }
@@ -137,16 +150,18 @@ fn push_shown(
 ) -> Result<(), AllocError>
     requires sign { checked.old.sign ≡ message.now.sign.now }
     requires short { length checked.old.source.octets < 2 ^ 32 }
+    requires octets { checked.old.source.octets ≡ message.now.message.now }
     ensures { OnOk result (GrowsBy
-        (ShowsPages (picture_text picture message.now.sign.now checked.old.source.octets message.now.telling.phase)
-        message.now.line (page_count checked.old))
+        (ShowsPages picture message.now.sign.now checked.old.source.octets message.now.telling.phase message.now.line
+        (page_count checked.old))
         text.old text.new) }
 {
+    let is_still = is_still(checked);
     push_line_head(text, message.line)?;
     push_accepted(text, checked.pages())?;
     push_message(text, message.alloc, message.message)?;
     push_pages(text, message, checked, picture)?;
-    push_notes(text, message, checked, picture)?;
+    push_notes(text, message, is_still, picture)?;
     Ok(())
 }
 
@@ -157,7 +172,7 @@ fn push_warned(
     message: &AcceptedMessage<'_>,
     pages: u8,
 ) -> Result<(), AllocError>
-    ensures { OnOk result (GrowsBy (PassesOver message.now.line pages) text.old text.new) }
+    ensures { OnOk result (GrowsBy (PassesOver message.now.message.now message.now.line pages) text.old text.new) }
 {
     if message.found.warnings.is_empty() {
         return Ok(());
@@ -165,7 +180,8 @@ fn push_warned(
     push_line_head(text, message.line)?;
     push_accepted(text, pages)?;
     push_message(text, message.alloc, message.message)?;
-    push_warnings(text, message)
+    push_warnings(text, message)?;
+    Ok(())
 }
 
 /// Appends the explanation of an accepted message in words and pictures.
@@ -178,9 +194,9 @@ pub(crate) fn push_told(
 ) -> Result<(), AllocError>
     requires sign { checked.old.sign ≡ message.now.sign.now }
     requires short { length checked.old.source.octets < 2 ^ 32 }
+    requires octets { checked.old.source.octets ≡ message.now.message.now }
     ensures { OnOk result (GrowsBy
-        (TellsAccepted message.now.telling.refused_only
-        (picture_text picture message.now.sign.now checked.old.source.octets message.now.telling.phase)
+        (TellsAccepted message.now.telling.refused_only picture message.now.sign.now checked.old.source.octets message.now.telling.phase
         message.now.line (page_count checked.old))
         text.old text.new) }
 {

@@ -23,6 +23,7 @@ mod warnings;
 mod words;
 
 pub use characters::{CharacterRun, FontCharacters};
+pub use excerpt::Excerpt;
 pub use forms::{form_of, left_out, letters_at_front, nearest};
 pub use names::{meant, plain_of};
 pub use room::{LARGE_COLUMNS, LARGE_ROWS};
