@@ -1,7 +1,7 @@
 -- Records that are written.
-use Rattle.std.proofs.Common.{◌≡◌, ℕ, zero, suc, ◌+◌, Bool, true, false, List, [], ◌∷◌, ◌++◌, refl, sym, ap, ◌∙◌, subst, arith, append_assoc, codes, decimal, ◌<◌, length, get_or, take, inl, inr, map, string_bytes}
+use Rattle.std.proofs.Common.{◌≡◌, ℕ, ◌+◌, Bool, true, false, List, [], ◌∷◌, ◌++◌, refl, sym, ap, ◌∙◌, subst, arith, append_assoc, codes, decimal, ◌<◌, length, get_or, take, inl, inr, map, string_bytes}
 use Rattle.std.proofs.lemmas.Bool.{cases_Bool, or_from, or_parts}
-use Rattle.std.proofs.lemmas.List.{take_more}
+use Rattle.std.proofs.lemmas.List.{get_or-map, length-map, length-take-le, take_more}
 use Rattle.std.specs.Str.{IsUtf8, is_utf8}
 use Rattle.std.proofs.lemmas.Str.{IsUtf8-from_is_utf8, is_utf8-from_IsUtf8}
 use Rattle.hex.specs.Hex.{encode_lower}
@@ -10,6 +10,12 @@ use Rattle.serde_json.specs.View.{items_of}
 use Rattle.serde_json.proofs.OnLiterals.{serde_json_on_literals}
 use Rattle.serde_json.specs.Written.{compact_text, has_float, items_have_float}
 use Rattle.sign_font.specs.Sign.{SignData}
+use Rattle.multi_meaning.specs.Meaning.{meanings}
+use Rattle.multi_meaning.specs.Times.{Times, page_times}
+use Rattle.multi_meaning.specs.Verdict.{pages_of}
+use Rattle.multi_meaning.proofs.TimesLemmas.{times_count}
+use Rattle.message_words.specs.PageTimes.{AreTimes, times_data}
+use Rattle.message_words.specs.declared.times.Times as kept
 use Rattle.message_report.specs.declared.format.Telling.{Telling}
 use Rattle.message_report.specs.Names.{name_of}
 use Rattle.message_report.specs.Pictures.{page_text}
@@ -20,7 +26,7 @@ use Rattle.message_cures.specs.declared.mending.Outcome.{Outcome}
 use Rattle.message_cures.specs.declared.mending.Outcome.TheVariants as outcomes
 use Rattle.message_cures.specs.declared.proposal.Proposal.{Proposal}
 use Rattle.message_words.specs.declared.warnings.Warning.{Warning}
-use Rattle.message_report.specs.Records.{AreFixes, AreFixesOf, ArePages, accepted_json, accepted_record, edit_record, fix_record, octets_data, page_record, picture_data, refused_json, refused_record, text_data, too_long_record, warning_record, warning_records}
+use Rattle.message_report.specs.Records.{AreFixes, AreFixesOf, accepted_json, accepted_record, edit_record, fix_record, octets_data, page_data, page_record, pages_from, picture_data, refused_json, refused_record, text_data, too_long_record, warning_record, warning_records}
 
 -- one more item without a float
 pub more_items : (ds : List Data) (d : Data) → items_have_float (items_of ds) ≡ false → has_float d ≡ false → items_have_float (items_of (ds ++ d ∷ [])) ≡ false
@@ -40,11 +46,11 @@ unfolding page_record
 page_whole page on off true text = refl
 page_whole page on off false text = refl
 
--- nor those of all pages
-pub pages_whole : (telling : Telling) (sign : SignData) (octets : List ℕ) (pages : ℕ) (records : List Data) → ArePages telling sign octets pages records → items_have_float (items_of records) ≡ false
-pages_whole telling sign octets zero records none = rw none refl
-pages_whole telling sign octets (suc page) records (front, on, off, are, is) =
-    rw is (more_items front _ (pages_whole telling sign octets page front are) (page_whole page on off telling.pictures (page_text sign octets page telling.phase)))
+-- nor those of pages that follow one another
+pub pages_whole : (telling : Telling) (sign : SignData) (octets : List ℕ) (page : ℕ) (all : List Times) → items_have_float (items_of (pages_from telling sign octets page all)) ≡ false
+pages_whole telling sign octets page [] = refl
+pages_whole telling sign octets page (times ∷ later) =
+    or_from (has_float (page_data telling sign octets page times)) _ (page_whole page times.on times.off telling.pictures (page_text sign octets page telling.phase)) (pages_whole telling sign octets (page + 1) later)
 
 -- octets that are text in UTF-8, and others
 pub text_is : (octets : List ℕ) → IsUtf8 octets → text_data octets ≡ string octets
@@ -164,10 +170,35 @@ too_long_written line =
     let rest : List ℕ = codes ",\"outcome\":\"too long\",\"reason\":\"a message has at most 4096 octets\"}" in
     ap (λ l. codes "{\"line\":" ++ l) (sym (append_assoc (decimal line) rest (10 ∷ [])))
 
--- one more page
-pub more_pages : (telling : Telling) (sign : SignData) (octets : List ℕ) (page on off : ℕ) (front records : List Data) → ArePages telling sign octets page front
-    → records ≡ front ++ page_record page on off (picture_data telling.pictures (page_text sign octets page telling.phase)) ∷ [] → ArePages telling sign octets (page + 1) records
-more_pages telling sign octets page on off front records are is =
-    let next : suc page ≡ page + 1 = omega arith in
-    let more : ArePages telling sign octets (suc page) records = (front, on, off, are, is) in
-    subst (λ n. ArePages telling sign octets n records) next more
+-- one more page comes after those before it
+pub pages_push : (telling : Telling) (sign : SignData) (octets : List ℕ) (page : ℕ) (front : List Times) (times : Times)
+    → pages_from telling sign octets page (front ++ times ∷ []) ≡ pages_from telling sign octets page front ++ page_data telling sign octets (page + length front) times ∷ []
+pages_push telling sign octets page [] times = let here : page ≡ page + 0 = omega arith in ap (λ n. page_data telling sign octets n times ∷ []) here
+pages_push telling sign octets page (first ∷ front) times =
+    let last : (page + 1) + length front ≡ page + length (first ∷ front) = omega arith in
+    ap (λ l. page_data telling sign octets page first ∷ l) (pages_push telling sign octets (page + 1) front times ∙ ap (λ n. pages_from telling sign octets (page + 1) front ++ page_data telling sign octets n times ∷ []) last)
+
+-- the first pages, and one more of them
+pub first_pages : (telling : Telling) (sign : SignData) (octets : List ℕ) (all : List Times) (page : ℕ) (times : Times) → page < length all → times ≡ get_or all page times
+    → pages_from telling sign octets 0 (take (page + 1) all) ≡ pages_from telling sign octets 0 (take page all) ++ page_data telling sign octets page times ∷ []
+first_pages telling sign octets all page times below is =
+    let grows : take (page + 1) all ≡ take page all ++ times ∷ [] = take_more all page times below ∙ ap (λ t. take page all ++ t ∷ []) (sym is) in
+    let taken = length-take-le page all (omega (arith, below)) in
+    let count : 0 + length (take page all) ≡ page = omega (arith, taken) in
+    ap (pages_from telling sign octets 0) grows ∙ pages_push telling sign octets 0 (take page all) times
+    ∙ ap (λ n. pages_from telling sign octets 0 (take page all) ++ page_data telling sign octets n times ∷ []) count
+
+-- there are as many times as pages
+pub times_counted : (sign : SignData) (octets : List ℕ) (all : List kept.Times) → AreTimes sign octets all → length all ≡ pages_of (meanings octets)
+times_counted sign octets all are = sym (length-map all times_data) ∙ ap length are ∙ times_count sign (meanings octets)
+
+-- the records of the first pages, and that of one more
+pub one_page_more : (telling : Telling) (sign : SignData) (octets : List ℕ) (all : List kept.Times) (page : ℕ) (times : kept.Times) → AreTimes sign octets all → page < length all → times ≡ get_or all page times
+    → pages_from telling sign octets 0 (take (page + 1) (page_times sign (meanings octets)))
+    ≡ pages_from telling sign octets 0 (take page (page_times sign (meanings octets))) ++ page_data telling sign octets page (times_data times) ∷ []
+one_page_more telling sign octets all page times are below is =
+    let meant = page_times sign (meanings octets) in
+    let count = sym (length-map all times_data) ∙ ap length are in
+    let here : times_data times ≡ get_or meant page (times_data times) =
+    ap times_data is ∙ sym (get_or-map times_data all page times (times_data times) below) ∙ ap (λ l. get_or l page (times_data times)) are in
+    first_pages telling sign octets meant page (times_data times) (omega (arith, below, count)) here

@@ -1,5 +1,5 @@
--- What is told of a message: the verdict on it and its place, and the pages as pictures, with words for people between them.
-use Rattle.std.specs.Prelude.{◌≡◌, ◌⊎◌, ℕ, zero, suc, ◌+◌, Bool, true, false, ◌==◌, nat_lt, List, [], ◌∷◌, ◌++◌, All, length, codes, decimal, Option, None, Some, if◌then◌else◌}
+-- What is told of a message: the verdict on it and its place, and the pages as pictures, with lines of words for people between them.
+use Rattle.std.specs.Prelude.{◌≡◌, ◌⊎◌, ℕ, zero, suc, ◌+◌, ◌-◌, Bool, true, false, ◌==◌, nat_lt, List, [], ◌∷◌, ◌++◌, All, drop, length, codes, decimal, Option, None, Some, if◌then◌else◌}
 use Rattle.std.specs.List.{flat_map}
 use Rattle.sign_font.specs.Sign.{SignData}
 use Rattle.multi_meaning.specs.Verdict.{Verdict, Accepted, Refused, verdict}
@@ -7,7 +7,7 @@ use Rattle.message_cures.specs.Cures.{Mends}
 use Rattle.message_cures.specs.declared.mending.Kind.{Kind}
 use Rattle.message_cures.specs.declared.mending.Outcome.{Outcome}
 use Rattle.message_cures.specs.declared.mending.Outcome.TheVariants as outcomes
-use Rattle.message_report.specs.Words.{IsOneLine}
+use Rattle.message_report.specs.Words.{IsLineOf, IsOneLine}
 use Rattle.message_report.specs.declared.format.Format.{Format}
 use Rattle.message_report.specs.declared.format.Format.TheVariants.{Ansi, Changed, Json, Lines, Mended, Text}
 use Rattle.message_report.specs.declared.format.Telling.{Telling}
@@ -16,6 +16,7 @@ use Rattle.message_report.specs.declared.picture.Picture.TheVariants.{Blocks, Ma
 use Rattle.message_report.specs.Blocks.{coloured_text}
 use Rattle.message_report.specs.Records.{TellsRecord, TooLongRecord}
 use Rattle.message_report.specs.Names.{name_of}
+use Rattle.message_report.specs.Notes.{AreWarned, caret_text, from_text, is_still, legend_text}
 use Rattle.message_report.specs.Pictures.{page_text}
 
 -- PLACES
@@ -93,29 +94,37 @@ HasPages picture pages zero text = text ≡ []
 HasPages picture pages (suc page) text = (front words : List ℕ) × HasPages picture pages page front × IsOneLine words
     × (text ≡ front ++ head_text page pages ++ words ++ 10 ∷ picture page)
 
--- a text tells of an accepted message: the number of its pages, a line, all pages, and some words (own)
-abbrev pub ShowsPages : (ℕ → List ℕ) → ℕ → ℕ → List ℕ → Type 0
-ShowsPages picture line pages text = (front shown words : List ℕ) × HasPages picture pages pages shown × IsOneLine front
-    × (text ≡ line_head line ++ accepted_text pages ++ front ++ 10 ∷ shown ++ words)
+-- a text tells of an accepted message: the number of its pages, a line of its octets, all pages, what their pictures mean and don't show,
+-- warnings, and an empty line (own)
+abbrev pub ShowsPages : Picture → SignData → List ℕ → ℕ → ℕ → ℕ → List ℕ → Type 0
+ShowsPages picture sign octets phase line pages text = (front shown told : List ℕ) × (flashes : Bool) × IsLineOf octets front
+    × HasPages (picture_text picture sign octets phase) pages pages shown × AreWarned told
+    × (text ≡ line_head line ++ accepted_text pages ++ front ++ 10 ∷ shown
+    ++ legend_text picture sign.classic (is_still sign octets pages) flashes phase ++ told ++ 10 ∷ [])
 
--- or it says nothing of it, or only the number of its pages and some words (own)
-abbrev pub PassesOver : ℕ → ℕ → List ℕ → Type 0
-PassesOver line pages text = (text ≡ []) ⊎ ((words : List ℕ) × (text ≡ line_head line ++ accepted_text pages ++ words))
+-- or it says nothing of it, or only the number of its pages, a line of its octets, warnings, and an empty line (own)
+abbrev pub PassesOver : List ℕ → ℕ → ℕ → List ℕ → Type 0
+PassesOver octets line pages text = (text ≡ []) ⊎ ((front told : List ℕ) × IsLineOf octets front × AreWarned told
+    × (text ≡ line_head line ++ accepted_text pages ++ front ++ 10 ∷ told ++ 10 ∷ []))
 
--- an accepted message is shown, or passed over if only refused ones are asked for (own)
-abbrev pub TellsAccepted : Bool → (ℕ → List ℕ) → ℕ → ℕ → List ℕ → Type 0
-TellsAccepted true picture line pages text = PassesOver line pages text
-TellsAccepted false picture line pages text = ShowsPages picture line pages text
+-- an accepted message is shown at a phase, or passed over if only refused ones are asked for (own)
+abbrev pub TellsAccepted : Bool → Picture → SignData → List ℕ → ℕ → ℕ → ℕ → List ℕ → Type 0
+TellsAccepted true picture sign octets phase line pages text = PassesOver octets line pages text
+TellsAccepted false picture sign octets phase line pages text = ShowsPages picture sign octets phase line pages text
 
--- a text tells of a refused message: its error with its place, some words, what is proposed in its place, and an empty line (own)
-abbrev pub TellsRefused : ℕ → ℕ → ℕ → Outcome → List ℕ → Type 0
-TellsRefused line code at outcome text = (words : List ℕ)
-    × (text ≡ line_head line ++ refused_text code at ++ words ++ proposal_line (codes "try: ") outcome ++ 10 ∷ [])
+-- a text tells of a refused message: its error with its place, a line of its octets from at most 60 before the place, a caret, a sentence,
+-- what is proposed in its place, and an empty line (own)
+abbrev pub TellsRefused : List ℕ → ℕ → ℕ → ℕ → Outcome → List ℕ → Type 0
+TellsRefused octets line code at outcome text = (shown reason : List ℕ) × (before : ℕ) × IsLineOf (drop (at - 60) octets) shown
+    × IsLineOf [] reason
+    × (text ≡ line_head line ++ refused_text code at ++ from_text (at - 60) ++ shown ++ 10 ∷ caret_text before ++ reason
+    ++ 10 ∷ proposal_line (codes "try: ") outcome ++ 10 ∷ [])
 
 -- a text tells a verdict on a string in words and pictures (own)
-abbrev pub TellsWords : Bool → (ℕ → List ℕ) → ℕ → Verdict → Outcome → List ℕ → Type 0
-TellsWords refused_only picture line (Accepted pages) outcome text = TellsAccepted refused_only picture line pages text
-TellsWords refused_only picture line (Refused code at) outcome text = TellsRefused line code at outcome text
+abbrev pub TellsWords : Telling → Picture → SignData → List ℕ → ℕ → Verdict → Outcome → List ℕ → Type 0
+TellsWords telling picture sign octets line (Accepted pages) outcome text =
+    TellsAccepted telling.refused_only picture sign octets telling.phase line pages text
+TellsWords telling picture sign octets line (Refused code at) outcome text = TellsRefused octets line code at outcome text
 
 -- LINES FOR EDITORS
 
@@ -140,10 +149,8 @@ TellsLines name line (Refused code at) outcome text = (words : List ℕ) × IsOn
 
 -- a text tells a verdict, and what is proposed, in a format (own)
 abbrev pub Tells : Telling → Format → SignData → List ℕ → List ℕ → ℕ → Verdict → Outcome → List ℕ → Type 0
-Tells telling Text sign name octets line v outcome text =
-    TellsWords telling.refused_only (picture_text Marks sign octets telling.phase) line v outcome text
-Tells telling Ansi sign name octets line v outcome text =
-    TellsWords telling.refused_only (picture_text Blocks sign octets telling.phase) line v outcome text
+Tells telling Text sign name octets line v outcome text = TellsWords telling Marks sign octets line v outcome text
+Tells telling Ansi sign name octets line v outcome text = TellsWords telling Blocks sign octets line v outcome text
 Tells telling Lines sign name octets line v outcome text = TellsLines name line v outcome text
 Tells telling Json sign name octets line v outcome text = TellsRecord telling sign octets line v outcome text
 Tells telling Mended sign name octets line v outcome text = text ≡ mended_text octets outcome ++ 10 ∷ []

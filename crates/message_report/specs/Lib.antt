@@ -1,6 +1,7 @@
 pub mod Blocks
 pub mod Explanation
 pub mod Names
+pub mod Notes
 pub mod Pictures
 pub mod Pieces
 pub mod Records

@@ -1,11 +1,13 @@
 -- What is told of a message as a record in JSON.
-use Rattle.std.specs.Prelude.{◌≡◌, ◌⊎◌, ℕ, zero, suc, ◌+◌, Bool, true, List, [], ◌∷◌, ◌++◌, codes, decimal, map, string_bytes, if◌then◌else◌}
+use Rattle.std.specs.Prelude.{◌≡◌, ◌⊎◌, ℕ, ◌+◌, Bool, true, List, [], ◌∷◌, ◌++◌, codes, decimal, map, string_bytes, if◌then◌else◌}
 use Rattle.std.specs.Str.{is_utf8}
 use Rattle.hex.specs.Hex.{encode_lower}
 use Rattle.serde_json.specs.Data.{Data, array, member, no_members, null, number, object, string, unsigned}
 use Rattle.serde_json.specs.View.{items_of}
 use Rattle.serde_json.specs.Written.{compact_text}
 use Rattle.sign_font.specs.Sign.{SignData}
+use Rattle.multi_meaning.specs.Meaning.{meanings}
+use Rattle.multi_meaning.specs.Times.{Times, page_times}
 use Rattle.multi_meaning.specs.Verdict.{Verdict, Accepted, Refused}
 use Rattle.message_cures.specs.Cures.{AreFurther}
 use Rattle.message_cures.specs.Edits.{IsEdited}
@@ -117,11 +119,20 @@ warning_record at words =
 abbrev pub picture_data : Bool → List ℕ → Data
 picture_data asked text = if asked then string text else null
 
--- the records of the first pages of a string at a phase, with some times (own)
-abbrev pub ArePages : Telling → SignData → List ℕ → ℕ → List Data → Type 0
-ArePages telling sign octets zero records = records ≡ []
-ArePages telling sign octets (suc page) records = (front : List Data) × (on off : ℕ) × ArePages telling sign octets page front
-    × (records ≡ front ++ page_record page on off (picture_data telling.pictures (page_text sign octets page telling.phase)) ∷ [])
+-- the record of a page of a string at a phase, by its number and its times (own)
+abbrev pub page_data : Telling → SignData → List ℕ → ℕ → Times → Data
+page_data telling sign octets page times =
+    page_record page times.on times.off (picture_data telling.pictures (page_text sign octets page telling.phase))
+
+-- the records of pages that follow one another, by the number of the first one and the times of each (own)
+abbrev pub pages_from : Telling → SignData → List ℕ → ℕ → List Times → List Data
+pages_from telling sign octets page [] = []
+pages_from telling sign octets page (times ∷ later) =
+    page_data telling sign octets page times ∷ pages_from telling sign octets (page + 1) later
+
+-- the records of all pages of a string, each with its own times (NTCIP 1203 v03, MULTI tag 'pt')
+abbrev pub all_pages : Telling → SignData → List ℕ → List Data
+all_pages telling sign octets = pages_from telling sign octets 0 (page_times sign (meanings octets))
 
 -- the record of a refused message as it is written, with its message, octets, name, words and proposals in JSON (own)
 unfoldable pub refused_json : ℕ → List ℕ → List ℕ → List ℕ → ℕ → ℕ → List ℕ → List ℕ → List ℕ
@@ -153,15 +164,15 @@ abbrev pub warning_records : List Warning → List Data
 warning_records warnings = map (λ (w : Warning). warning_record w.at (string_bytes w.words)) warnings
 
 -- a text is the record of an accepted message, with all its pages and some warnings (own)
-abbrev pub TellsPages : Telling → SignData → List ℕ → ℕ → ℕ → List ℕ → Type 0
-TellsPages telling sign octets line pages text = (warnings : List Warning) × (records : List Data)
-    × ArePages telling sign octets pages records
-    × IsRecord (accepted_record line octets (array (items_of records)) (array (items_of (warning_records warnings)))) text
+abbrev pub TellsPages : Telling → SignData → List ℕ → ℕ → List ℕ → Type 0
+TellsPages telling sign octets line text = (warnings : List Warning)
+    × IsRecord (accepted_record line octets (array (items_of (all_pages telling sign octets)))
+    (array (items_of (warning_records warnings)))) text
 
 -- a text tells a verdict as a record, with what is proposed, or nothing of an accepted message if only refused ones are asked for (own)
 abbrev pub TellsRecord : Telling → SignData → List ℕ → ℕ → Verdict → Outcome → List ℕ → Type 0
 TellsRecord telling sign octets line (Accepted pages) outcome text =
-    ((telling.refused_only ≡ true) × (text ≡ [])) ⊎ TellsPages telling sign octets line pages text
+    ((telling.refused_only ≡ true) × (text ≡ [])) ⊎ TellsPages telling sign octets line text
 TellsRecord telling sign octets line (Refused code at) outcome text = (fixes : List Data) × (reason : List ℕ)
     × AreFixes sign octets outcome fixes × IsRecord (refused_record line octets code at reason (array (items_of fixes))) text
 

@@ -3,22 +3,21 @@ ghost use Rattle.std.specs.Prelude.{◌≡◌, ◌++◌, ◌∷◌, ◌<◌, ◌
 ghost use Rattle.multi_meaning.specs.Verdict.{Accepted, Refused};
 ghost use Rattle.multi_layout.specs.Pages.{page_count};
 ghost use Rattle.message_cures.specs.Taking.{takes};
-ghost use Rattle.message_report.specs.Explanation.{Explains, Tells, TellsTooLong, change_head, change_text, error_text, kind_of, line_head, mended_text, place_text, proposal_line, refused_text};
-ghost use Rattle.message_cures.specs.Cures.{Mends};
+ghost use Rattle.message_report.specs.Explanation.{Explains, Tells, TellsTooLong, change_head, change_text, error_text, kind_of, mended_text, place_text, proposal_line};
 ghost use Rattle.message_cures.specs.declared.mending.Outcome.TheVariants as outcomes;
 ghost use Rattle.message_report.specs.Words.{GrowsBy, IsOneLine};
 
 use crate::accepted::AcceptedMessage;
 use crate::canvas::Canvas;
 use crate::explanation::Piece::{Number, Octets};
-use crate::explanation::{Explanation, push_all, push_octet, push_octets};
+use crate::explanation::{Explanation, push_all, push_octets};
 use crate::format::{Format, Telling, Told};
 use crate::lines::{push_error_line, push_warning_lines};
 use crate::pages::push_told;
 use crate::picture::Picture;
 use crate::record::{push_accepted_record, push_refused_record, push_too_long_record};
-use crate::text::push_words;
-use crate::verdict::{push_line_head, push_place, push_refused, push_too_long};
+use crate::refusal::{push_as_it_is, push_proposal, push_refusal_words};
+use crate::verdict::{push_line_head, push_place, push_too_long};
 use crate::wording::Wording;
 use message_cures::{Kind, Outcome, mend};
 use message_words::{Refusal, warnings_on};
@@ -117,15 +116,6 @@ fn push_unjudged(
     }
 }
 
-/// Appends a message as a line.
-#[inline(always)]
-fn push_as_it_is(text: &mut Explanation, message: &[u8]) -> Result<(), AllocError>
-    ensures { OnOk result (text.new ≡ text.old ++ (message.now ++ 10 ∷ [])) }
-{
-    push_octets(text, message)?;
-    push_octet(text, b'\n')
-}
-
 /// Appends what is proposed in place of a message, or else itself, as a line.
 fn push_mended(text: &mut Explanation, message: &[u8], outcome: &Outcome) -> Result<(), AllocError>
     ensures { OnOk result (text.new ≡ text.old ++ (mended_text message.now outcome.now ++ 10 ∷ [])) }
@@ -133,19 +123,6 @@ fn push_mended(text: &mut Explanation, message: &[u8], outcome: &Outcome) -> Res
     match outcome {
         Outcome::Mended { text: other, .. } => push_as_it_is(text, other),
         Outcome::Taken | Outcome::Unknown => push_as_it_is(text, message),
-    }
-}
-
-/// Appends what is proposed in place of a message, after a word, if something is.
-fn push_proposal(text: &mut Explanation, word: &[u8], outcome: &Outcome) -> Result<(), AllocError>
-    ensures { OnOk result (text.new ≡ text.old ++ proposal_line word.now outcome.now) }
-{
-    match outcome {
-        Outcome::Mended { text: other, .. } => {
-            push_octets(text, word)?;
-            push_as_it_is(text, other)
-        }
-        Outcome::Taken | Outcome::Unknown => Ok(()),
     }
 }
 
@@ -216,25 +193,6 @@ fn push_accepted(
         Format::Mended => push_as_it_is(text, message.message),
         Format::Changed => Ok(()),
     }
-}
-
-/// Appends a refusal in words, and what is proposed in place of the message.
-fn push_refusal_words(
-    text: &mut Explanation,
-    line: u32,
-    refusal: &Refusal<'_>,
-    outcome: &Outcome,
-) -> Result<(), AllocError>
-    ensures { OnOk result ((words : List ℕ)
-        × (text.new ≡ text.old ++ (line_head line ++ refused_text refusal.now.code refusal.now.at ++ words
-        ++ proposal_line (codes "try: ") outcome.now ++ 10 ∷ []))) }
-{
-    push_line_head(text, line)?;
-    push_refused(text, refusal.code, refusal.at)?;
-    let words = refusal.to_string(refusal.alloc)?;
-    push_words(text, &words)?;
-    push_proposal(text, b"try: ", outcome)?;
-    push_octet(text, b'\n')
 }
 
 /// Appends a refusal to the lines of editors, with a note of what is proposed in place of the message.

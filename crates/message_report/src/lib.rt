@@ -18,6 +18,7 @@ mod marks;
 mod pages;
 mod picture;
 mod record;
+mod refusal;
 mod text;
 mod verdict;
 mod wording;

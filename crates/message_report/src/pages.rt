@@ -1,8 +1,9 @@
 //! Accepted messages in words and pictures.
-ghost use Rattle.std.specs.Prelude.{◌≡◌, ◌++◌, ◌<◌, ◌^◌, false, length, IfOk, OnOk};
+ghost use Rattle.std.specs.Prelude.{◌≡◌, ◌∷◌, ◌++◌, ◌<◌, ◌^◌, [], List, ℕ, false, length, IfOk, OnOk};
 ghost use Rattle.multi_layout.specs.Pages.{IsSized, page_count};
 ghost use Rattle.message_report.specs.Explanation.{HasPages, PassesOver, ShowsPages, TellsAccepted, picture_text};
-ghost use Rattle.message_report.specs.Words.{Grows, GrowsBy};
+ghost use Rattle.message_report.specs.Notes.{AreWarned, is_still, legend_text};
+ghost use Rattle.message_report.specs.Words.{GrowsBy};
 ghost use Rattle.message_report.specs.declared.picture.Picture.TheVariants.{Marks};
 
 use crate::accepted::AcceptedMessage;
@@ -10,7 +11,7 @@ use crate::canvas::Canvas;
 use crate::explanation::Explanation;
 use crate::marks::push_lit;
 use crate::picture::{Picture, push_picture};
-use crate::text::{push_legend, push_message, push_times, push_warnings};
+use crate::text::{push_legend, push_message, push_times, push_warnings, times_of};
 use crate::verdict::{push_accepted, push_head, push_line_head};
 use multi_layout::Checked;
 use std::alloc::AllocError;
@@ -48,10 +49,11 @@ fn push_lit_pages(
     let mut canvas = canvas_of(message)?;
     let Canvas { plane, lines } = &mut *canvas;
     let pages = checked.pages();
+    let times = times_of(message, pages)?;
     let mut next = checked.first_page();
     for page in 0..pages {
         push_head(text, page, pages)?;
-        push_times(text, message, page, pages)?;
+        push_times(text, &times, page)?;
         checked.draw_next(&mut next, message.telling.phase, 1, lines, plane);
         push_lit(text, plane)?;
     }
@@ -81,9 +83,10 @@ fn push_drawn_pages(
         ..
     } = *message;
     let pages = checked.pages();
+    let times = times_of(message, pages)?;
     for page in 0..pages {
         push_head(text, page, pages)?;
-        push_times(text, message, page, pages)?;
+        push_times(text, &times, page)?;
         push_picture(text, alloc, sign, checked, picture, page, telling.phase)?;
     }
     Ok(())
@@ -110,17 +113,29 @@ fn push_pages(
     }
 }
 
-/// Appends what stands after the pages: what their marks mean, the warnings, and an empty line.
+/// Whether a message of several pages shows the first one all the time.
+#[inline(always)]
+fn is_still(checked: &Checked<'_>) -> bool
+    requires short { length checked.now.source.octets < 2 ^ 32 }
+    ensures { result ≡ is_still checked.now.sign checked.now.source.octets (page_count checked.now) }
+{
+    let pages = checked.pages();
+    let cycle = checked.cycle();
+    pages > 1 && cycle == 0
+}
+
+/// Appends what stands after the pages: what their marks mean, what pictures don't show, the warnings, and an empty line.
 #[inline(always)]
 fn push_notes(
     text: &mut Explanation,
     message: &AcceptedMessage<'_>,
-    checked: &Checked<'_>,
+    is_still: bool,
     picture: Picture,
 ) -> Result<(), AllocError>
-    ensures { OnOk result (Grows text.old text.new) }
+    ensures { OnOk result ((told : List ℕ) × AreWarned told × (text.new ≡ text.old
+        ++ (legend_text picture message.now.sign.now.classic is_still message.now.found.now.flashes message.now.telling.phase
+        ++ told ++ 10 ∷ []))) }
 {
-    let is_still = checked.pages() > 1 && checked.cycle() == 0;
     push_legend(text, message, is_still, picture)?;
     push_warnings(text, message)
 }
@@ -135,16 +150,18 @@ fn push_shown(
 ) -> Result<(), AllocError>
     requires sign { checked.old.sign ≡ message.now.sign.now }
     requires short { length checked.old.source.octets < 2 ^ 32 }
+    requires octets { checked.old.source.octets ≡ message.now.message.now }
     ensures { OnOk result (GrowsBy
-        (ShowsPages (picture_text picture message.now.sign.now checked.old.source.octets message.now.telling.phase)
-        message.now.line (page_count checked.old))
+        (ShowsPages picture message.now.sign.now checked.old.source.octets message.now.telling.phase message.now.line
+        (page_count checked.old))
         text.old text.new) }
 {
+    let is_still = is_still(checked);
     push_line_head(text, message.line)?;
     push_accepted(text, checked.pages())?;
     push_message(text, message.alloc, message.message)?;
     push_pages(text, message, checked, picture)?;
-    push_notes(text, message, checked, picture)?;
+    push_notes(text, message, is_still, picture)?;
     Ok(())
 }
 
@@ -155,7 +172,7 @@ fn push_warned(
     message: &AcceptedMessage<'_>,
     pages: u8,
 ) -> Result<(), AllocError>
-    ensures { OnOk result (GrowsBy (PassesOver message.now.line pages) text.old text.new) }
+    ensures { OnOk result (GrowsBy (PassesOver message.now.message.now message.now.line pages) text.old text.new) }
 {
     if message.found.warnings.is_empty() {
         return Ok(());
@@ -163,7 +180,8 @@ fn push_warned(
     push_line_head(text, message.line)?;
     push_accepted(text, pages)?;
     push_message(text, message.alloc, message.message)?;
-    push_warnings(text, message)
+    push_warnings(text, message)?;
+    Ok(())
 }
 
 /// Appends the explanation of an accepted message in words and pictures.
@@ -176,9 +194,9 @@ pub(crate) fn push_told(
 ) -> Result<(), AllocError>
     requires sign { checked.old.sign ≡ message.now.sign.now }
     requires short { length checked.old.source.octets < 2 ^ 32 }
+    requires octets { checked.old.source.octets ≡ message.now.message.now }
     ensures { OnOk result (GrowsBy
-        (TellsAccepted message.now.telling.refused_only
-        (picture_text picture message.now.sign.now checked.old.source.octets message.now.telling.phase)
+        (TellsAccepted message.now.telling.refused_only picture message.now.sign.now checked.old.source.octets message.now.telling.phase
         message.now.line (page_count checked.old))
         text.old text.new) }
 {

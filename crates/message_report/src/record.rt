@@ -8,7 +8,7 @@ ghost use Rattle.multi_layout.specs.Pages.{page_count};
 ghost use Rattle.message_cures.specs.declared.mending.Outcome.TheVariants.{Taken};
 ghost use Rattle.message_report.specs.Names.{name_of};
 ghost use Rattle.message_report.specs.Pictures.{page_text};
-ghost use Rattle.message_report.specs.Records.{AreFixes, ArePages, TellsPages, TellsRecord, TooLongRecord, accepted_json, octets_data, page_record, picture_data, refused_json, refused_record, text_data, warning_record, warning_records};
+ghost use Rattle.message_report.specs.Records.{AreFixes, TellsPages, TellsRecord, TooLongRecord, accepted_json, all_pages, octets_data, page_record, picture_data, refused_json, refused_record, text_data, warning_record, warning_records};
 ghost use Rattle.message_report.specs.Words.{GrowsBy};
 
 use crate::accepted::AcceptedMessage;
@@ -19,7 +19,7 @@ use crate::format::Telling;
 use crate::picture::{Picture, push_picture};
 use crate::verdict::name_of;
 use message_cures::Outcome;
-use message_words::Warning;
+use message_words::{Times, Warning, page_times};
 use multi_layout::Checked;
 use serde_json::{Value, json};
 use sign_font::Sign;
@@ -209,9 +209,10 @@ fn picture_value(
 
 /// The record of a page.
 #[tactic(auto, unfolding(crate::specs::Records::page_record))]
-fn page_value(alloc: Global, page: u8, on: u8, off: u8, picture: Value) -> Result<Value, AllocError>
-    ensures { IfOk result (λ v. view v ≡ page_record page on off (view picture)) }
+fn page_value(alloc: Global, page: u8, times: Times, picture: Value) -> Result<Value, AllocError>
+    ensures { IfOk result (λ v. view v ≡ page_record page times.on times.off (view picture)) }
 {
+    let Times { on, off } = times;
     json!(in alloc; {"number": u32::from(page) + 1, "off": off, "on": on, "picture": picture})
 }
 
@@ -222,9 +223,9 @@ fn page_values(
 ) -> Result<Value, AllocError>
     requires sign { checked.old.sign ≡ message.now.sign.now }
     requires short { length checked.old.source.octets < 2 ^ 32 }
-    ensures { IfOk result (λ v. (records : List Data)
-        × ArePages message.now.telling message.now.sign.now checked.old.source.octets (page_count checked.old) records
-        × (view v ≡ array (items_of records))) }
+    requires octets { checked.old.source.octets ≡ message.now.message.now }
+    ensures { IfOk result (λ v.
+        view v ≡ array (items_of (all_pages message.now.telling message.now.sign.now checked.old.source.octets))) }
 {
     let AcceptedMessage {
         alloc,
@@ -232,12 +233,13 @@ fn page_values(
         sign,
         ..
     } = *message;
+    let all = page_times(alloc, sign, message.message)?;
     let mut list = Vec::new(alloc);
     let pages = checked.pages();
     for page in 0..pages {
-        let times = message.found.times.of(page);
+        let times = all[usize::from(page)];
         let picture = picture_value(alloc, telling, sign, checked, page)?;
-        let value = page_value(alloc, page, times.on, times.off, picture)?;
+        let value = page_value(alloc, page, times, picture)?;
         list.push(value)?;
     }
     Ok(Value::Array(list))
@@ -280,9 +282,9 @@ fn pages_json(
 ) -> Result<Vec<u8>, AllocError>
     requires sign { checked.old.sign ≡ message.now.sign.now }
     requires short { length checked.old.source.octets < 2 ^ 32 }
-    ensures { IfOk result (λ json. (records : List Data)
-        × ArePages message.now.telling message.now.sign.now checked.old.source.octets (page_count checked.old) records
-        × (json.items ≡ compact_text (array (items_of records)))) }
+    requires octets { checked.old.source.octets ≡ message.now.message.now }
+    ensures { IfOk result (λ json.
+        json.items ≡ compact_text (array (items_of (all_pages message.now.telling message.now.sign.now checked.old.source.octets)))) }
 {
     let pages = page_values(message, checked)?;
     let json = pages.to_vec(message.alloc)?;
@@ -299,7 +301,7 @@ fn push_pages_record(
     requires short { length checked.old.source.octets < 2 ^ 32 }
     requires octets { checked.old.source.octets ≡ message.now.message.now }
     ensures { OnOk result (GrowsBy
-        (TellsPages message.now.telling message.now.sign.now checked.old.source.octets message.now.line (page_count checked.old))
+        (TellsPages message.now.telling message.now.sign.now checked.old.source.octets message.now.line)
         text.old text.new) }
 {
     let alloc = message.alloc;

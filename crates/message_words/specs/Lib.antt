@@ -1,1 +1,2 @@
+pub mod PageTimes
 pub mod Places

@@ -1,11 +1,9 @@
 //! A message as a line, with a caret under a place.
-ghost use Rattle.std.specs.Prelude.{◌≡◌, ◌≢◌, ◌≤◌, All, IfSome, length, nat_lt, take};
+ghost use Rattle.std.specs.Prelude.{◌≡◌, ◌≢◌, ◌-◌, ◌≤◌, All, IfOk, IfSome, length, nat_lt, take};
 
-use crate::sentence::Value::Number;
-use crate::sentence::write_sentence;
 use crate::utf8::{encoded_at, is_shown};
 use crate::words::MORE;
-use std::alloc::AllocError;
+use std::alloc::{AllocError, Global};
 use std::fmt;
 use std::fmt::{Formatter, Write};
 
@@ -70,47 +68,38 @@ pub(crate) fn write_message<W: Write>(f: &mut Formatter<W>, message: &[u8]) -> f
     f.write_str(if message.len() > at { MORE } else { "" })
 }
 
-/// Writes the characters of a message from an offset as a line. It gives how many stand before a place.
-fn write_line(
-    text: &mut String,
-    message: &[u8],
-    first: usize,
-    at: usize,
-) -> Result<usize, AllocError> {
+/// What is shown of a message around a place (own).
+#[derive(Drop)]
+pub struct Excerpt {
+    /// The octet with which it begins, counted from 0.
+    pub first: usize,
+    /// Its characters.
+    pub words: String,
+    /// How many of them stand before the place.
+    pub before: usize,
+}
+
+/// The characters of a message around a place.
+pub(crate) fn excerpt_of(alloc: Global, message: &[u8], at: usize) -> Result<Excerpt, AllocError>
+    ensures { IfOk result (λ excerpt. excerpt.first ≡ at - 60) }
+{
+    let first = at.saturating_sub(BEFORE);
+    let mut words = String::new(alloc);
     let mut next = first;
     let mut before: usize = 0;
     for _ in 0..MOST {
         if next < message.len() {
             let (character, behind) = shown_at(message, next);
-            text.push(character)?;
+            words.push(character)?;
             if behind <= at {
                 before = before.saturating_add(1);
             }
             next = behind;
         }
     }
-    text.push('\n')?;
-    Ok(before)
-}
-
-/// Writes a caret after so many characters.
-fn write_caret(text: &mut String, before: usize) -> Result<(), AllocError> {
-    for _ in 0..before {
-        text.push(' ')?;
-    }
-    text.push_str("^\n")
-}
-
-/// Writes the characters of a message around a place, and under them a caret at the place.
-pub(crate) fn write_excerpt(
-    text: &mut String,
-    message: &[u8],
-    at: usize,
-) -> Result<(), AllocError> {
-    let first = at.saturating_sub(BEFORE);
-    if first > 0 {
-        write_sentence(text, "from octet {}:\n", &[Number(first as u64)])?;
-    }
-    let before = write_line(text, message, first, at)?;
-    write_caret(text, before)
+    Ok(Excerpt {
+        first,
+        words,
+        before,
+    })
 }

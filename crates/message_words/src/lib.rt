@@ -23,10 +23,11 @@ mod warnings;
 mod words;
 
 pub use characters::{CharacterRun, FontCharacters};
+pub use excerpt::Excerpt;
 pub use forms::{form_of, left_out, letters_at_front, nearest};
 pub use names::{meant, plain_of};
 pub use room::{LARGE_COLUMNS, LARGE_ROWS};
-pub use times::{PageTimes, Times};
+pub use times::{Times, page_times};
 pub use utf8::{Encoded, encoded_at};
 pub use warnings::{Findings, Warning, warnings_on};
 pub use words::{COLOUR_MARKS, FLASHING, MORE, MessageLine, NO_TIMES, PIXEL_MARKS, Refusal};

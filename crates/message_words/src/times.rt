@@ -1,9 +1,21 @@
 //! The times of the pages of a message.
+ghost use Rattle.std.specs.Prelude.{◌≡◌, ◌∷◌, [], ◌++◌, ◌≤◌, drop, length, IfNone, IfOk, IfSome, OnOk, if◌then◌else◌};
+ghost use Rattle.std.specs.Option.{unwrap_or};
+ghost use Rattle.multi_token.specs.Spelling.{HasNoItem};
+ghost use Rattle.multi_token.specs.Tokens.{IsTokenOf, item_of};
+ghost use Rattle.multi_meaning.specs.Address.{Standing};
+ghost use Rattle.multi_meaning.specs.Meaning.{Meaning, meaning, said_by};
+ghost use Rattle.multi_meaning.specs.Times.{times_at};
+ghost use Rattle.multi_meaning.specs.internal.Present.{standing_behind};
+ghost use Rattle.message_change.specs.internal.Walk.{IsSaid, is_page_said};
+ghost use Rattle.message_words.specs.PageTimes.{AreTimes, default_times, times_data};
 
+use multi_tag::{Tag, read_tag};
+use multi_token::{Kind, Source, Token, next_token};
 use sign_font::Sign;
 use std::alloc::{AllocError, Global};
 
-/// The times of a page, in tenths of a second (own).
+/// The times of a page, in tenths of a second (NTCIP 1203 v03, MULTI tag 'pt').
 #[derive(Clone, Copy)]
 pub struct Times {
     /// How long it is shown.
@@ -13,64 +25,102 @@ pub struct Times {
 }
 
 impl Times {
-    /// The times of the pages of a message in which no tag sets them.
-    pub(crate) fn usual(sign: &Sign) -> Times {
+    /// Those in force where no tag sets them.
+    pub(crate) fn usual(sign: &Sign) -> Times
+        ensures { times_data result ≡ default_times sign.now }
+    {
         Times::of_tag(sign, None, None)
     }
 
-    /// The times after a tag that sets them.
-    pub(crate) fn of_tag(sign: &Sign, on: Option<u8>, off: Option<u8>) -> Times {
+    /// Those after a tag that sets them.
+    pub(crate) fn of_tag(sign: &Sign, on: Option<u8>, off: Option<u8>) -> Times
+        ensures { times_data result ≡ record {
+          on = unwrap_or on sign.now.defaults.page_on;
+          off = unwrap_or off sign.now.defaults.page_off;
+        } }
+    {
         let defaults = sign.defaults();
         Times {
             on: on.unwrap_or(defaults.page_on),
             off: off.unwrap_or(defaults.page_off),
         }
     }
+
+    /// Those in force after a tag.
+    fn behind(self, sign: &Sign, tag: Tag) -> Times
+        ensures { (at : Standing) → times_data self ≡ times_at at
+            → times_data result ≡ times_at (standing_behind sign.now at (said_by tag)) }
+    {
+        match tag {
+            Tag::PageTime { on, off } => Times::of_tag(sign, on, off),
+            _ => self,
+        }
+    }
+
+    /// Those in force after an item that says this.
+    fn after(self, sign: &Sign, said: Option<Tag>) -> Times
+        ensures { (at : Standing) (item : Meaning) → IsSaid item said → times_data self ≡ times_at at
+            → times_data result ≡ times_at (standing_behind sign.now at item) }
+    {
+        match said {
+            Some(tag) => self.behind(sign, tag),
+            None => self,
+        }
+    }
 }
 
-/// The times of the pages of a message that a sign accepts (NTCIP 1203 v03, MULTI tag 'pt').
-#[derive(Drop)]
-pub struct PageTimes {
-    /// Those of the pages before the first tag that sets them.
-    usual: Times,
-    /// The page with the first such tag, counted from 0, and the times after it.
-    first: Option<(u8, Times)>,
-    /// The same of the further ones, of which there are few.
-    further: Vec<(u8, Times)>,
+/// The token at an offset of a message, if one is spelled there.
+fn token_at(source: &mut Source<'_>, at: usize) -> Option<Token>
+    requires { at ≤ length source.old.octets }
+    ensures token { IfSome result (λ token. (token.at ≡ at) × IsTokenOf source.old.octets token) }
+    ensures none { IfNone result (HasNoItem (drop at source.old.octets)) }
+    ensures kept { source.new.octets ≡ source.old.octets }
+{
+    match next_token(source, at) {
+        Ok(token) => token,
+        Err(_) => None,
+    }
 }
 
-impl PageTimes {
-    /// Those of a message in which no tag sets them.
-    pub(crate) fn new(alloc: Global, sign: &Sign) -> PageTimes {
-        PageTimes {
-            usual: Times::usual(sign),
-            first: None,
-            further: Vec::new(alloc),
-        }
+/// What a token says, if its tag isn't at fault. A character says what the tag 'hc' with its number does.
+fn said_by(source: &mut Source<'_>, token: &Token) -> Option<Tag>
+    requires { IsTokenOf source.old.octets token.now }
+    ensures said { IsSaid (meaning (item_of source.old.octets token.now)) result }
+    ensures kept { source.new.octets ≡ source.old.octets }
+{
+    match token.kind {
+        Kind::Char(octet) => Some(Tag::HexChar(u16::from(octet))),
+        Kind::Tag => match read_tag(source, token) {
+            Ok(tag) => Some(tag),
+            Err(_) => None,
+        },
     }
+}
 
-    /// Sets those of a page, and of the pages after it.
-    pub(crate) fn set(&mut self, page: u8, times: Times) -> Result<(), AllocError> {
-        if self.first.is_some() {
-            return Ok(self.further.push((page, times))?);
-        }
-        self.first = Some((page, times));
-        Ok(())
+/// Ends a page that has these times, if an item that says this begins another one. The error says that memory was refused.
+fn end_page(ended: &mut Vec<Times>, times: Times, said: Option<Tag>) -> Result<(), AllocError>
+    ensures { OnOk result (ended.new.items ≡ (if is_page_said said then ended.old.items ++ times ∷ [] else ended.old.items)) }
+{
+    if let Some(Tag::NewPage) = said {
+        ended.push(times)?;
     }
+    Ok(())
+}
 
-    /// Those of a page, counted from 0.
-    pub fn of(&self, page: u8) -> Times {
-        let mut times = self.usual;
-        if let Some((first, set)) = self.first {
-            if first <= page {
-                times = set;
-            }
-        }
-        for (later, set) in &self.further {
-            if *later <= page {
-                times = *set;
-            }
-        }
-        times
+/// The times of the pages of a message, in the order of the pages (NTCIP 1203 v03, MULTI tag 'pt'). The error says that memory was refused.
+pub fn page_times(alloc: Global, sign: &Sign, message: &[u8]) -> Result<Vec<Times>, AllocError>
+    ensures { IfOk result (λ times. AreTimes sign.now message.now times.items) }
+{
+    let mut source = Source::new(message);
+    let mut ended = Vec::new(alloc);
+    let mut times = Times::usual(sign);
+    let mut at = 0;
+    while let Some(token) = token_at(&mut source, at) {
+        let said = said_by(&mut source, &token);
+        end_page(&mut ended, times, said)?;
+        times = times.after(sign, said);
+        at += token.len;
     }
+    ended.push(times)?;
+    Ok(ended)
 }

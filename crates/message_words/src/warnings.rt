@@ -8,7 +8,7 @@ use crate::plain::is_seen_in;
 use crate::sentence::Value::{Hex, Number};
 use crate::sentence::{Value, sentence_of};
 use crate::sight::Sight;
-use crate::times::{PageTimes, Times};
+use crate::times::Times;
 use multi_layout::Checked;
 use multi_tag::{FontPick, Tag};
 use multi_token::Source;
@@ -31,8 +31,6 @@ pub struct Findings {
     pub warnings: Vec<Warning>,
     /// Whether a character has a flash with an off time (NTCIP 1203 v03, MULTI tag 'fl').
     pub flashes: bool,
-    /// The times of its pages.
-    pub times: PageTimes,
 }
 
 /// The least time for which a page is shown without a warning, in tenths of a second (own).
@@ -91,7 +89,6 @@ impl<'a> Reading<'a> {
             found: Findings {
                 warnings: Vec::new(alloc),
                 flashes: false,
-                times: PageTimes::new(alloc, sign),
             },
             page: 0,
             begin: 0,
@@ -255,10 +252,9 @@ impl<'a> Reading<'a> {
 
     /// Passes a tag with page times, which stands at an offset.
     #[inline(always)]
-    fn pass_times(&mut self, times: Times, at: usize) -> Result<(), AllocError> {
+    fn pass_times(&mut self, times: Times, at: usize) {
         self.times_at = at;
         self.times = times;
-        self.found.times.set(self.page, times)
     }
 
     /// Passes a tag that ends no line and needs no warning.
@@ -304,7 +300,7 @@ impl<'a> Reading<'a> {
                 return self.end_line();
             }
             Tag::PageTime { on, off } => {
-                return self.pass_times(Times::of_tag(self.sign, on, off), self.offset(rest));
+                self.pass_times(Times::of_tag(self.sign, on, off), self.offset(rest));
             }
             Tag::Font(Some(pick)) => return self.pass_font(pick, self.offset(rest)),
             Tag::Fore(Some(colour)) => {

@@ -1,8 +1,8 @@
-//! The words on a message, each written by `Display`.
-ghost use Rattle.std.specs.Prelude.{◌≡◌, ◌≢◌, All, IfSome, length, nat_lt, take};
+//! The words on a message.
+ghost use Rattle.std.specs.Prelude.{◌≡◌, ◌≢◌, ◌-◌, All, IfOk, IfSome, length, nat_lt, take};
 
 use crate::characters::FontCharacters;
-use crate::excerpt::{plain_line, write_excerpt, write_message};
+use crate::excerpt::{Excerpt, excerpt_of, plain_line, write_message};
 use sign_font::Sign;
 use std::alloc::{AllocError, Global};
 use std::fmt;
@@ -33,8 +33,7 @@ impl Display for MessageLine<'_> {
     }
 }
 
-/// Why a message is refused (own): lines with the message, a caret under the octet where it is refused, and the reason with its numbers.
-/// Written by `Display`, which takes memory.
+/// Why a message is refused (own): what is shown of the message around the octet where it is refused, and the reason with its numbers.
 #[derive(Clone, Copy)]
 pub struct Refusal<'a> {
     /// Where memory comes from.
@@ -55,12 +54,11 @@ pub struct Refusal<'a> {
 }
 
 impl Refusal<'_> {
-    /// The words.
-    fn words(&self) -> Result<String, AllocError> {
-        let mut words = String::new(self.alloc);
-        write_excerpt(&mut words, self.message, self.at)?;
-        self.write_reason(&mut words)?;
-        Ok(words)
+    /// What is shown of the message: its characters from at most 60 octets before the place. The error says that memory was refused.
+    pub fn excerpt(&self) -> Result<Excerpt, AllocError>
+        ensures { IfOk result (λ excerpt. excerpt.first ≡ self.now.at - 60) }
+    {
+        excerpt_of(self.alloc, self.message, self.at)
     }
 
     /// The sentence that says why, without the message. The error says that memory was refused.
@@ -68,15 +66,6 @@ impl Refusal<'_> {
         let mut words = String::new(self.alloc);
         self.write_reason(&mut words)?;
         Ok(words)
-    }
-}
-
-impl Display for Refusal<'_> {
-    fn fmt<W: Write>(&self, f: &mut Formatter<W>) -> fmt::Result {
-        let Ok(words) = self.words() else {
-            return Err(fmt::Error);
-        };
-        writeln!(f, "{words}")
     }
 }
 

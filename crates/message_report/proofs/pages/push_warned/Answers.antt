@@ -1,0 +1,13 @@
+use Rattle.std.proofs.Common.{[], ◌∷◌, ◌++◌, refl, inr, sym, ap, ◌∙◌, append_assoc}
+use Rattle.message_report.specs.Explanation.{accepted_text, line_head}
+use Rattle.message_report.proofs.ExplanationLemmas
+use Rattle.message_report.proofs.pages.push_warned.Goals as goal
+
+pub returns : goal.returns
+returns c =
+    let text = c.args.text.now in
+    let head = line_head c.args.message.now.line in
+    let (front, of, between) = c.in_ok-push_message.ensures in
+    let (told, are, last) = c.in_ok-push_warnings.ensures in
+    let all = ExplanationLemmas.three_more text c.push_line_head.new.text c.push_accepted.new.text c.push_message.new.text c.push_warnings.new.text head (accepted_text c.args.pages) front (told ++ 10 ∷ []) c.in_ok-push_line_head.ensures c.in_ok-push_accepted.ensures between last in
+    (_, all ∙ ap (λ l. text ++ l) (sym (append_assoc (head ++ accepted_text c.args.pages ++ front) (10 ∷ told) (10 ∷ []))), inr (front, told, of, are, refl))
