@@ -1,6 +1,6 @@
 //! The command line that the tool takes, made of its tables.
 
-use crate::table::{COMMANDS, CommandRow, OptionRow, SHELLS, Takes};
+use crate::table::{CODES, COMMANDS, CommandRow, OptionRow, SHELLS, Takes};
 use clap::builder::ValueParser;
 use clap::{Arg, ArgAction, Command};
 use std::alloc::{AllocError, Global};
@@ -52,6 +52,12 @@ fn arg_of<'a>(alloc: Global, row: &OptionRow) -> Result<Arg<'a>, AllocError> {
             .value_name("FILE")
             .num_args(0..)
             .action(ArgAction::Append),
+        Takes::Codes => named(arg, row.name)
+            .value_name("CODES")
+            .value_delimiter(',')
+            .hide_possible_values(true)
+            .action(ArgAction::Append)
+            .value_parser(ValueParser::Names(&CODES)),
         Takes::Shell => arg
             .value_name("SHELL")
             .required(true)

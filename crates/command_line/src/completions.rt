@@ -1,7 +1,7 @@
 //! Completions of command lines for shells, made of the tables of commands and options.
 
 use crate::build::letter_of;
-use crate::table::{COMMANDS, CommandRow, OptionRow, SHELLS, Takes};
+use crate::table::{CODES, COMMANDS, CommandRow, OptionRow, SHELLS, Takes};
 use std::alloc::{AllocError, Global};
 
 /// Shells that complete words (own).
@@ -98,6 +98,7 @@ fn options_of(alloc: Global, row: &CommandRow) -> Result<Vec<OptionRow>, AllocEr
 fn words_of(option: &OptionRow) -> &'static [&'static str] {
     match option.takes {
         Takes::Word(_, words) => words,
+        Takes::Codes => &CODES,
         Takes::Shell => &SHELLS,
         _ => &[],
     }
@@ -111,6 +112,7 @@ fn value_of(option: &OptionRow) -> Option<&'static str> {
         Takes::Word(what, _) => Some(what),
         Takes::Text(what) => Some(what),
         Takes::Messages => Some("TEXT"),
+        Takes::Codes => Some("CODES"),
         Takes::Place | Takes::Places => Some("FILE"),
         Takes::Shell => Some("SHELL"),
     }
@@ -211,7 +213,7 @@ fn push_zsh_option(
     name: &str,
 ) -> Result<(), AllocError> {
     script.push_str(" \\\n            '")?;
-    if matches!(option.takes, Takes::Messages) {
+    if matches!(option.takes, Takes::Messages | Takes::Codes) {
         script.push('*')?;
     }
     push_all(script, &[dashes, name, "["])?;

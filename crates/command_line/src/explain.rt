@@ -2,6 +2,7 @@
 
 use crate::messages::{ManyMessages, many_messages_of};
 use crate::source::{SignSource, Surroundings, number_of};
+use crate::table::{CODES, WARNINGS};
 use clap::ArgMatches;
 use std::alloc::{AllocError, Global};
 
@@ -16,6 +17,8 @@ pub enum ReportFormat {
     Lines,
     /// The same as annotations of a workflow of GitHub.
     Annotations,
+    /// The same as a log in SARIF.
+    Sarif,
     /// A record in JSON for each message.
     Json,
     /// The messages alone, mended.
@@ -41,6 +44,9 @@ pub struct ExplainRequest<'a> {
     pub has_pictures: bool,
     /// Whether warnings count as refusals.
     pub is_strict: bool,
+    /// Which warnings are asked for, and which are passed over, by the numbers of their codes, the first of which is 1.
+    pub selected: [bool; WARNINGS],
+    pub ignored: [bool; WARNINGS],
     /// Whether nothing is said but what went wrong.
     pub is_quiet: bool,
 }
@@ -50,12 +56,27 @@ fn format_of(explain: &ArgMatches<'_>) -> ReportFormat {
     match explain.get_str("format") {
         Some("lines") => ReportFormat::Lines,
         Some("github") => ReportFormat::Annotations,
+        Some("sarif") => ReportFormat::Sarif,
         Some("json") => ReportFormat::Json,
         _ if explain.get_flag("fix") => ReportFormat::Mended,
         _ if explain.get_flag("diff") => ReportFormat::Changed,
         _ if explain.get_flag("ansi") => ReportFormat::Ansi,
         _ => ReportFormat::Text,
     }
+}
+
+/// Which codes an option names, by their numbers.
+fn codes_of(explain: &ArgMatches<'_>, option: &str) -> [bool; WARNINGS] {
+    let mut named = [false; WARNINGS];
+    let Some(codes) = explain.get_strs(option) else {
+        return named;
+    };
+    for (place, known) in CODES.iter().enumerate() {
+        if let Some(is_named) = named.get_mut(place) {
+            *is_named = codes.contains(known);
+        }
+    }
+    named
 }
 
 /// Why `signctl explain` can't be answered, if it can't.
@@ -95,6 +116,8 @@ pub(crate) fn explain_asked<'a>(
         refused_only: explain.get_flag("refused"),
         has_pictures: explain.get_flag("pages"),
         is_strict: explain.get_flag("strict"),
+        selected: codes_of(explain, "select"),
+        ignored: codes_of(explain, "ignore"),
         is_quiet: explain.get_flag("quiet"),
     })
 }

@@ -17,9 +17,20 @@ pub(crate) enum Takes {
     Place,
     /// The names of files, which stand alone.
     Places,
+    /// Codes of warnings, with commas between them. It can be given more than once.
+    Codes,
     /// The name of a shell, which stands alone and must be there.
     Shell,
 }
+
+/// How many kinds of warnings there are.
+pub const WARNINGS: usize = 19;
+
+/// The codes of warnings, by their numbers (own). They are those of `message_words`.
+pub(crate) const CODES: [&str; WARNINGS] = [
+    "W01", "W02", "W03", "W04", "W05", "W06", "W07", "W08", "W09", "W10", "W11", "W12", "W13",
+    "W14", "W15", "W16", "W17", "W18", "W19",
+];
 
 /// The shells that complete command lines.
 pub(crate) const SHELLS: [&str; 3] = ["bash", "fish", "zsh"];
@@ -89,7 +100,7 @@ const SHOW: [OptionRow; 2] = [
 ];
 
 /// How messages are explained.
-const EXPLAIN: [OptionRow; 9] = [
+const EXPLAIN: [OptionRow; 11] = [
     OptionRow {
         name: "phase",
         takes: Takes::Number(0, 4294967295),
@@ -100,8 +111,8 @@ const EXPLAIN: [OptionRow; 9] = [
     },
     OptionRow {
         name: "format",
-        takes: Takes::Word("WHAT", &["text", "lines", "json", "github"]),
-        help: "Writes words and pictures, or lines as editors or a workflow of GitHub read them, or a record in JSON for each message",
+        takes: Takes::Word("WHAT", &["text", "lines", "json", "github", "sarif"]),
+        help: "Writes words and pictures, or lines as editors or a workflow of GitHub read them, or a record in JSON for each message, or a log in SARIF",
         default: Some("text"),
         conflicts: &[],
         needs: &[],
@@ -136,6 +147,22 @@ const EXPLAIN: [OptionRow; 9] = [
         help: "Counts a warning as a refusal, for the exit status",
         default: None,
         conflicts: &[],
+        needs: &[],
+    },
+    OptionRow {
+        name: "ignore",
+        takes: Takes::Codes,
+        help: "Passes over warnings with these codes, as in W05,W13",
+        default: None,
+        conflicts: &["fix", "diff"],
+        needs: &[],
+    },
+    OptionRow {
+        name: "select",
+        takes: Takes::Codes,
+        help: "Tells warnings with these codes too, as in W14, which isn't told otherwise",
+        default: None,
+        conflicts: &["fix", "diff"],
         needs: &[],
     },
     OptionRow {

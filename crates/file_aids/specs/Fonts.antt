@@ -1,23 +1,21 @@
 -- What is written of a font.
 use Rattle.std.specs.Prelude.{◌≡◌, ◌≢◌, ◌⊎◌, ℕ, ◌≤◌, List, [], ◌++◌, length, Option, None, Result, Ok, Err}
 use Rattle.std.specs.Io.KnownBytes.{Appends, Consumes, IsAtEnd}
-use Rattle.font_bdf.specs.declared.fault.BdfFault.{BdfFault}
 use Rattle.font_bdf.specs.declared.fault.BdfProblem.{BdfProblem}
 use Rattle.font_bdf.specs.declared.fault.BdfProblem.TheVariants as problems
 use Rattle.font_bdf.specs.declared.fault.Untaken.{Untaken}
 use Rattle.font_bdf.specs.declared.setting.FontSetting.{FontSetting}
-use Rattle.font_bdf.specs.Font.{font_of_bdf}
 use Rattle.font_bdf.specs.Listed.{font_listed}
-use Rattle.font_bdf.specs.Tables.{IsFontTable, IsListedTable}
+use Rattle.font_bdf.specs.Tables.{IsFontTable, IsListedTable, IsRefused}
 use Rattle.tool_streams.specs.declared.fault.ToolFault.TheVariants.{Write}
 use Rattle.file_aids.specs.declared.font.FontFault.{FontFault}
 use Rattle.file_aids.specs.declared.font.FontFault.TheVariants as faults
 use Rattle.tool_streams.specs.Lines.{input_limit}
 use Rattle.tool_streams.specs.Streams.{IsReadFault}
 
--- octets are no font in BDF that a sign can show, unless memory was refused or no sign takes the font (own)
+-- octets are no font in BDF that a sign can show, or their number is 0, unless memory was refused or the table isn't read back (own)
 abbrev pub IsNoFont : FontSetting → List ℕ → BdfProblem → Type 0
-IsNoFont setting octets problem = problem ≢ problems.Memory → problem ≢ problems.NotTaken → font_of_bdf setting octets ≡ None
+IsNoFont setting octets problem = problem ≢ problems.Memory → problem ≢ problems.Unread → IsRefused setting octets problem
 
 -- octets are no font table of NTCIP 1203, unless memory was refused or no sign takes one of its characters (own)
 abbrev pub IsNoListing : List ℕ → BdfProblem → Type 0

@@ -29,7 +29,7 @@ pub fn run_sign<R: Read, W: Write>(
     reader: &mut R,
     writer: &mut W,
 ) -> Result<SignFound, ToolFault>
-    ensures told { TellsSign (R.remaining reader.old) (R.remaining reader.new) (W.contents writer.old) (W.contents writer.new) result }
+    ensures told { TellsSign view.entry (R.remaining reader.old) (R.remaining reader.new) (W.contents writer.old) (W.contents writer.new) result }
 {
     let octets = match read_whole(alloc, reader) {
         Ok(octets) => octets,
@@ -41,7 +41,7 @@ pub fn run_sign<R: Read, W: Write>(
     match write_whole(writer, report.text.as_bytes()) {
         Ok(()) => Ok(SignFound {
             is_sound: report.is_taken && report.refusals.is_empty(),
-            is_clean: report.warnings == 0,
+            is_clean: report.found.warnings.is_empty(),
         }),
         Err(fault) => Err(fault),
     }

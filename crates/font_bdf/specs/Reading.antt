@@ -4,7 +4,7 @@ use Rattle.std.specs.Option.{option_map}
 use Rattle.sign_font.specs.Sign.{CellData}
 use Rattle.font_bdf.specs.declared.fault.BdfFault.{BdfFault}
 use Rattle.font_bdf.specs.declared.fault.BdfProblem.{BdfProblem}
-use Rattle.font_bdf.specs.declared.fault.BdfProblem.TheVariants.{Memory, NotTaken}
+use Rattle.font_bdf.specs.declared.fault.BdfProblem.TheVariants.{Memory, Unread}
 use Rattle.font_bdf.specs.declared.rows.FontBox.{FontBox}
 use Rattle.font_bdf.specs.declared.setting.FontSetting.{FontSetting}
 use Rattle.font_bdf.specs.Character.{cells_of}
@@ -20,9 +20,9 @@ abbrev pub Gives : {X Y : Type 0} → (X → Y) → Result X BdfFault → Option
 Gives view (Ok x) written = written ≡ Some (view x)
 Gives view (Err fault) written = Refuses fault.problem written
 
--- memory was refused, or signs don't take the font: its octets may be a font (own)
+-- memory was refused, or a table isn't read back: its octets may be a font (own)
 abbrev pub IsLater : BdfProblem → Type 0
-IsLater problem = problem ≢ Memory → problem ≢ NotTaken → ⊥
+IsLater problem = problem ≢ Memory → problem ≢ Unread → ⊥
 
 -- cells of which no two have one number, at most 255 (own)
 abbrev pub IsApart : List CellData → Type 0

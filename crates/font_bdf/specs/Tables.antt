@@ -1,9 +1,11 @@
 -- What is written of a font: a table that makes a sign file whole.
-use Rattle.std.specs.Prelude.{ℕ, Bool, true, false, ◌&&◌, ◌==◌, nat_le, List, [], ◌∷◌, ◌++◌, ◌≡◌, Option, None, Some, is_none, codes, length}
+use Rattle.std.specs.Prelude.{ℕ, Bool, true, false, ◌&&◌, ◌==◌, nat_le, List, [], ◌∷◌, ◌++◌, ◌≡◌, ◌⊎◌, Option, None, Some, IsSome, is_none, codes, length}
 use Rattle.std.specs.Option.{option_map}
 use Rattle.sign_font.specs.Limits.{first_fault}
 use Rattle.sign_font.specs.Sign.{FontData, SignData}
 use Rattle.sign_file.specs.SignFile.{FileData, file_of_octets}
+use Rattle.font_bdf.specs.declared.fault.BdfProblem.{BdfProblem}
+use Rattle.font_bdf.specs.declared.fault.BdfProblem.TheVariants.{NotTaken}
 use Rattle.font_bdf.specs.declared.setting.FontSetting.{FontSetting}
 use Rattle.font_bdf.specs.Font.{font_of_bdf}
 use Rattle.font_bdf.specs.Listed.{font_listed}
@@ -62,6 +64,11 @@ pub record IsTableOf (setting : FontSetting) (font : FontData) (text : List ℕ)
 -- a text is the table of the font that octets are in BDF, by a setting (own)
 abbrev pub IsFontTable : FontSetting → List ℕ → List ℕ → Type 0
 IsFontTable setting octets text = (font : FontData) × (font_of_bdf setting octets ≡ Some font) × IsTableOf setting font text
+
+-- octets are no font in BDF, by a setting; or they are one, and this is the problem that no sign takes it, since its number is 0 (own)
+abbrev pub IsRefused : FontSetting → List ℕ → BdfProblem → Type 0
+IsRefused setting octets problem =
+    (font_of_bdf setting octets ≡ None) ⊎ ((problem ≡ NotTaken) × (setting.number ≡ 0) × IsSome (font_of_bdf setting octets))
 
 -- whether there is a sign file whose sign has no fault where its default font has this number (own)
 unfoldable pub is_sound : ℕ → Option FileData → Bool

@@ -103,6 +103,8 @@ pub enum BdfProblem {
     NoEndOfFont,
     /// No sign takes the font: its number is 0.
     NotTaken,
+    /// The table that was written isn't read back as this font.
+    Unread,
     /// In a table of NTCIP 1203: `fontNumber` is missing, or isn't 1 to 255.
     NoFontNumber,
     /// `fontHeight` is missing, or isn't 1 to 64.
@@ -212,6 +214,7 @@ impl BdfProblem {
             BdfProblem::NoCharacter => "none of these characters is taken; --characters chooses",
             BdfProblem::NoEndOfFont => "ENDFONT is missing",
             BdfProblem::NotTaken => "no sign takes a font of this number",
+            BdfProblem::Unread => "the table isn't read back as this font; please report this",
             BdfProblem::Memory => "out of memory",
             listed => listed.sentence_of_table(),
         }

@@ -3,9 +3,8 @@
 ghost use Rattle.std.specs.Prelude.{◌≡◌, ◌≢◌, ◌++◌, ◌∷◌, [], IfErr, IfOk, IsTrue, None, OnOk, is_none, map, true};
 ghost use Rattle.sign_font.specs.Limits.{first_fault};
 ghost use Rattle.sign_font.specs.Sign.{font_of, sign_of};
-ghost use Rattle.font_bdf.specs.Font.{font_of_bdf};
 ghost use Rattle.font_bdf.specs.Reading.{IsLater};
-ghost use Rattle.font_bdf.specs.Tables.{IsFontTable, IsTable, IsTableOf, front, is_one_font, is_spaced, is_told, with_font};
+ghost use Rattle.font_bdf.specs.Tables.{IsFontTable, IsRefused, IsTable, IsTableOf, front, is_one_font, is_spaced, is_told, with_font};
 
 use crate::fault::{BdfFault, BdfProblem};
 use crate::read::read_font;
@@ -218,7 +217,7 @@ fn take_sign(alloc: Global, sign: SignParts, number: u8) -> Result<(), BdfProble
     match Sign::new(alloc, SignParts { defaults, ..sign }) {
         Ok(_) => Ok(()),
         Err(SignFault::Memory) => Err(BdfProblem::Memory),
-        Err(_) => Err(BdfProblem::NotTaken),
+        Err(_) => Err(BdfProblem::Unread),
     }
 }
 
@@ -239,17 +238,17 @@ fn take_table(
     match read_sign_file(alloc, &octets) {
         Ok(file) => {
             if !is_one_font(&file.sign.fonts, setting) || !is_only_font(&file.sign.fonts, font) {
-                return Err(BdfProblem::NotTaken);
+                return Err(BdfProblem::Unread);
             }
             if !file.permanents.is_empty() {
-                return Err(BdfProblem::NotTaken);
+                return Err(BdfProblem::Unread);
             }
             match take_sign(alloc, file.sign, setting.number) {
                 Ok(()) => Ok(()),
                 Err(problem) => Err(problem),
             }
         }
-        Err(FileFault::Bad) => Err(BdfProblem::NotTaken),
+        Err(FileFault::Bad) => Err(BdfProblem::Unread),
         Err(FileFault::Memory) => Err(BdfProblem::Memory),
     }
 }
@@ -299,21 +298,29 @@ pub(crate) fn table_of_font(alloc: Global, font: &FontPart) -> Result<Vec<u8>, B
 /// What is written was read back after the other keys of a sign file: it has this one font and no permanent message, and a sign
 /// takes it.
 ///
-/// The error has a line that is wrong, and what is wrong there. It is `NotTaken` only for the number 0. If it is neither
-/// `NotTaken` nor `Memory`, the octets are no font in BDF that is taken with this setting.
+/// The error has a line that is wrong, and what is wrong there. It is `NotTaken` if the font is read
+/// and its number is 0, and `Unread` if the table isn't read back as this font, which no test has seen. If it is none of these and not
+/// `Memory`, the octets are no font in BDF that is taken with this setting.
 pub fn font_tables(
     alloc: Global,
     octets: &[u8],
     setting: &FontSetting<'_>,
 ) -> Result<Vec<u8>, BdfFault>
     ensures table { IfOk result (λ text. IsFontTable setting.now octets.now text.items) }
-    ensures refused { IfErr result
-        (λ fault. fault.problem ≢ BdfProblem.Memory → fault.problem ≢ BdfProblem.NotTaken → font_of_bdf setting.now octets.now ≡ None) }
+    ensures numbered { OnOk result (setting.now.number ≢ 0) }
+    ensures refused { IfErr result (λ fault. fault.problem ≢ BdfProblem.Memory → fault.problem ≢ BdfProblem.Unread
+        → IsRefused setting.now octets.now fault.problem) }
 {
     let font = match read_font(alloc, octets, setting) {
         Ok(font) => font,
         Err(fault) => return Err(fault),
     };
+    if setting.number == 0 {
+        return Err(BdfFault {
+            line: 0,
+            problem: BdfProblem::NotTaken,
+        });
+    }
     match table_of(alloc, octets, &font, setting) {
         Ok(table) => Ok(table),
         Err(problem) => Err(BdfFault { line: 0, problem }),

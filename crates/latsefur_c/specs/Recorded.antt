@@ -1,7 +1,6 @@
 -- What a sign says to a text in a record, and what it shows in a film, as a host gets them.
-use Rattle.std.specs.Prelude.{◌≡◌, ◌⊎◌, ◌<◌, ℕ, Bool, false, not, ◌==◌, if◌then◌else◌, List, [], Option, Some, None, length}
+use Rattle.std.specs.Prelude.{◌≡◌, ◌⊎◌, ◌<◌, ℕ, Bool, true, false, not, ◌==◌, if◌then◌else◌, List, [], ◌∷◌, Option, Some, None, length}
 use Rattle.sign_font.specs.Sign.{SignData}
-use Rattle.message_cures.specs.declared.mending.Kind.{Kind}
 use Rattle.message_picture.specs.Drawn.{IsDrawn}
 use Rattle.message_picture.specs.Drawn as drawn
 use Rattle.message_picture.specs.declared.draw.DrawFault.{DrawFault}
@@ -10,6 +9,7 @@ use Rattle.message_picture.specs.declared.view.View.TheVariants as view
 use Rattle.message_report.specs.Explanation as report
 use Rattle.message_report.specs.declared.format.Format.TheVariants.{Json}
 use Rattle.message_report.specs.declared.format.Telling.{Telling}
+use Rattle.message_report.specs.declared.format.Told.{Told}
 use Rattle.latsefur_c.specs.Drawn.{IsAccepted, IsNotAccepted}
 use Rattle.latsefur_c.specs.Outcome.{HasNoSign, sign_of_file}
 use Rattle.latsefur_c.specs.Told.{in_front}
@@ -20,14 +20,21 @@ CountsFront octets was now count outcome =
     (count ≡ length octets)
     × (((outcome ≡ 5) × (length was < length octets) × (now ≡ was)) ⊎ ((outcome ≡ 0) × (now ≡ in_front octets was)))
 
--- a record in JSON, with the pictures of pages as they begin or without (own)
-abbrev pub record_telling : Bool → Telling
-record_telling pictures = record { format = Json; phase = 0; refused_only = false; pictures = pictures }
+-- the warnings that are usually told, by the numbers of their codes: all but the fourteenth (own)
+abbrev pub usual_warnings : List Bool
+usual_warnings =
+    true ∷ true ∷ true ∷ true ∷ true ∷ true ∷ true ∷ true ∷ true ∷ true ∷ true ∷ true ∷ true ∷ false ∷ true ∷ true ∷ true ∷ true ∷ true ∷ []
 
--- octets are the record of a text on the sign of a sign file, as that of the first line of a file, with what is proposed (own)
+-- a record in JSON, with the pictures of pages as they begin or without, and with those warnings (own)
+abbrev pub record_telling : Bool → Telling
+record_telling pictures =
+    record { format = Json; phase = 0; refused_only = false; pictures = pictures; warnings = usual_warnings }
+
+-- octets are the record of a text on the sign of a sign file, as that of the first line of a file, with what is proposed, and with the
+-- warnings on it where the message table takes texts of so many octets (own)
 abbrev pub IsExplained : List ℕ → List ℕ → Bool → List ℕ → Type 0
-IsExplained file text pictures record_octets = (sign : SignData) × (kept : Option Kind) × (sign_of_file file ≡ Some sign)
-    × report.Explains (record_telling pictures) sign [] 1 text kept record_octets
+IsExplained file text pictures record_octets = (sign : SignData) × (most : ℕ) × (told : Told) × (sign_of_file file ≡ Some sign)
+    × report.Explains (record_telling pictures) sign most [] 1 text told record_octets
 
 -- the record is told; or there is no such sign, and nothing is told (own)
 abbrev pub Explains : List ℕ → List ℕ → ℕ → List ℕ → List ℕ → ℕ → ℕ → ℕ → Type 0

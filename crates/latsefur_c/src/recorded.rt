@@ -9,7 +9,7 @@ use crate::outcome::{BAD_VALUE, LARGE_FILM, LONG_FILM, NO_MEMORY};
 use crate::seen::accepted;
 use crate::sign::{sign_and_room, sign_of};
 use message_picture::{DrawFault, View, draw_message};
-use message_report::{Explainer, Explanation, Format, Telling};
+use message_report::{Explainer, Explanation, Format, Telling, USUAL_WARNINGS};
 use std::alloc::Global;
 
 /// Writes octets at the front of a buffer, if it has room for them, and tells how many there are.
@@ -39,6 +39,7 @@ fn record_of(
         phase: 0,
         refused_only: false,
         pictures,
+        warnings: USUAL_WARNINGS,
     };
     let explainer = Explainer::new(sign, room);
     let mut record = Explanation::new(alloc);

@@ -2,32 +2,17 @@
 use Rattle.std.proofs.Common.{◌≡◌, ◌≢◌, ℕ, zero, suc, ◌+◌, ◌*◌, ◌/◌, ◌%◌, ◌<◌, ◌≤◌, List, [], ◌∷◌, ◌++◌, drop, length, map, Option, Some, None, IfSome, refl, sym, ap, ◌∙◌, inl, inr, ◌⊎◌, subst, arith, append_assoc, append-nil}
 use Rattle.std.proofs.Math.Nat.{add-mul, add-mul-mod_self_right, mul_assoc, mul-mod_left, mul-mod_right, zero-mul}
 use Rattle.std.proofs.lemmas.Bool.{cases_eq}
-use Rattle.std.proofs.lemmas.List.{map-append}
-use Rattle.std.proofs.lemmas.List.Concat.{flat_map-append}
-use Rattle.std.proofs.lemmas.List.Elements.{All-nil, All-push}
 use Rattle.std.proofs.lemmas.Nat.{div-add-mod'}
-use Rattle.std.specs.Prelude.{◌↔◌, IfOk, Result, Err}
-use Rattle.std.specs.List.{All, AllByRecursion}
+use Rattle.std.specs.List.{AllByRecursion}
 use Rattle.std.specs.Option.{option_map_or}
 use Rattle.multi_token.specs.Reading.{reading}
-use Rattle.multi_token.specs.Spelling.{HasNoItem, IsItem, IsReading, Item, spell, spelling}
-use Rattle.multi_token.specs.Tokens.{IsTokenOf, body_of, item_of}
-use Rattle.multi_token.specs.declared.token.Token.{Token}
-use Rattle.multi_token.specs.declared.token.Kind.TheVariants as kinds
 use Rattle.multi_token.proofs.ReadingLemmas.{each_string_has_a_reading}
-use Rattle.multi_token.proofs.SpellingLemmas.{one_reading, reading_begins}
-use Rattle.multi_tag.specs.Body.{HasName, Spells}
-use Rattle.multi_tag.specs.Read.{SpellsNoTag}
-use Rattle.multi_tag.specs.declared.tag.Tag.{Tag}
-use Rattle.multi_tag.specs.declared.tag.TagFault.{TagFault}
-use Rattle.multi_tag.specs.declared.tag.TagFault.TheVariants.{Unsupported, Value}
-use Rattle.multi_tag.proofs.TagOfLemmas.{tag_of-read}
+use Rattle.multi_token.proofs.SpellingLemmas.{one_reading}
 use Rattle.sign_font.specs.declared.parts.Defaults.{Defaults}
 use Rattle.sign_font.specs.Sign.{SignData}
 use Rattle.multi_meaning.specs.Attributes.{given_flash}
 use Rattle.multi_meaning.specs.declared.attributes.FlashTimes.{FlashTimes}
-use Rattle.multi_meaning.specs.Meaning.{Meaning, meaning, meaning_of_tag, meanings}
-use Rattle.multi_meaning.proofs.ItemAtLemmas.{meaning-tag}
+use Rattle.multi_meaning.specs.Meaning.{Meaning, meaning, meanings}
 use Rattle.message_film.specs.Period.{Allows, Divides, EndsFlashes, IsCommonTime, IsFlashPeriod, IsPeriod, PlaysFor, flash_time, times_of}
 use Rattle.multi_meaning.specs.Times.{cycle}
 use Rattle.multi_meaning.specs.Verdict.{Accepted, IsCycle, IsVerdict, broken, of_first, offences, pages_of, verdict_on}
@@ -109,18 +94,16 @@ all_snoc P (x ∷ xs) y all one = (all.0, all_snoc P xs y all.1 one)
 
 -- the items before an offset, and the least time in which each of their flashes is over a whole number of times
 pub record Passed (sign : SignData) (octets : List ℕ) (at period : ℕ) : Type 0 where
-  pub items : List Item
-  pub each : All IsItem items
-  pub spelled : octets ≡ spell items ++ drop at octets
+  pub items : List Meaning
+  pub whole : meanings octets ≡ items ++ meanings (drop at octets)
   pub some : 1 ≤ period
-  pub ends : AllByRecursion (Allows sign.defaults period) (map meaning items)
-  pub multiple : (other : ℕ) → AllByRecursion (Allows sign.defaults other) (map meaning items) → (times : ℕ) × (other ≡ times * period)
+  pub ends : AllByRecursion (Allows sign.defaults period) items
+  pub multiple : (other : ℕ) → AllByRecursion (Allows sign.defaults other) items → (times : ℕ) × (other ≡ times * period)
 
 pub begins : (sign : SignData) (octets : List ℕ) → Passed sign octets 0 1
 begins sign octets = record {
   items = [];
-  each = All-nil IsItem;
-  spelled = refl;
+  whole = refl;
   some = omega arith;
   ends = tt;
   multiple = λ other all. (other, omega arith);
@@ -144,34 +127,24 @@ positive : (k t : ℕ) → 1 ≤ k → 1 ≤ t → 1 ≤ k * t
 positive zero t some one = absurd (omega (arith, some))
 positive (suc k) t some one = omega (arith, one)
 
-spell_push : (items : List Item) (item : Item) → spell (items ++ item ∷ []) ≡ spell items ++ spelling item
-spell_push items item = flat_map-append spelling items (item ∷ []) ∙ ap (λ l. spell items ++ l) (append-nil (spelling item))
-
 -- one more item
-pub passed_more : (sign : SignData) (octets : List ℕ) (at period flash common : ℕ) (t : Token) → t.at ≡ at → IsTokenOf octets t → flash ≡ flash_time sign.defaults (meaning (item_of octets t))
-    → IsCommonTime period flash common → Passed sign octets at period → Passed sign octets (at + t.len) common
-passed_more sign octets at period flash common t here stands is common_is p =
-    let item = item_of octets t in
+pub passed_more : (sign : SignData) (octets : List ℕ) (at next period flash common : ℕ) (item : Meaning) → meanings (drop at octets) ≡ item ∷ meanings (drop next octets) → flash ≡ flash_time sign.defaults item
+    → IsCommonTime period flash common → Passed sign octets at period → Passed sign octets next common
+passed_more sign octets at next period flash common item read is common_is p =
     let (times, many, by, fit) = common_fits period flash common p.some common_is in
-    let spelled : octets ≡ spell p.items ++ (spelling item ++ drop (t.at + t.len) octets) = p.spelled ∙ ap (λ l. spell p.items ++ l) (ap (λ n. drop n octets) (sym here) ∙ stands.begins.1) in
-    let regrouped : spell (p.items ++ item ∷ []) ++ drop (t.at + t.len) octets ≡ octets =
-    ap (λ l. l ++ drop (t.at + t.len) octets) (spell_push p.items item) ∙ append_assoc (spell p.items) (spelling item) (drop (t.at + t.len) octets) ∙ sym spelled in
-    let means = map-append meaning p.items (item ∷ []) in
-    let front : AllByRecursion (Allows sign.defaults common) (map meaning p.items) = all_map (Allows sign.defaults period) (Allows sign.defaults common)
+    let front : AllByRecursion (Allows sign.defaults common) p.items = all_map (Allows sign.defaults period) (Allows sign.defaults common)
     (λ other allow. allows sign.defaults common other (subst (λ n. Fits n (flash_time sign.defaults other)) (sym by) (fits_more times period (flash_time sign.defaults other) (fits sign.defaults period other allow))))
-    (map meaning p.items) p.ends in
-    let last : Allows sign.defaults common (meaning item) = allows sign.defaults common (meaning item) (subst (Fits common) is fit) in
+    p.items p.ends in
+    let last : Allows sign.defaults common item = allows sign.defaults common item (subst (Fits common) is fit) in
     record {
       items = p.items ++ item ∷ [];
-      each = All-push IsItem p.items item p.each stands.begins.0;
-      spelled = sym regrouped ∙ ap (λ n. spell (p.items ++ item ∷ []) ++ drop (n + t.len) octets) here;
+      whole = p.whole ∙ ap (λ l. p.items ++ l) read ∙ sym (append_assoc p.items (item ∷ []) (meanings (drop next octets)));
       some = subst (λ n. 1 ≤ n) (sym by) (positive times period many p.some);
-      ends = subst (AllByRecursion (Allows sign.defaults common)) (sym means) (all_snoc (Allows sign.defaults common) (map meaning p.items) (meaning item) front last);
+      ends = all_snoc (Allows sign.defaults common) p.items item front last;
       multiple = λ other all.
-          let parts : AllByRecursion (Allows sign.defaults other) (map meaning p.items ++ meaning item ∷ []) = subst (AllByRecursion (Allows sign.defaults other)) means all in
-          let (m, before) = p.multiple other (all_front (Allows sign.defaults other) (map meaning p.items) (meaning item ∷ []) parts) in
+          let (m, before) = p.multiple other (all_front (Allows sign.defaults other) p.items (item ∷ []) all) in
           common_multiple period flash common other m common_is before
-          (subst (Fits other) (sym is) (fits sign.defaults other (meaning item) (all_last (Allows sign.defaults other) (map meaning p.items) (meaning item) parts)));
+          (subst (Fits other) (sym is) (fits sign.defaults other item (all_last (Allows sign.defaults other) p.items item all)));
     }
 
 -- a multiple that isn't 0
@@ -182,10 +155,7 @@ at_least (suc times) period other some is = omega (arith, is)
 -- the items are the first of the text, so its flashes are over no earlier
 pub not_earlier : (sign : SignData) (octets : List ℕ) (at period : ℕ) → Passed sign octets at period → (other : ℕ) → EndsFlashes sign octets other → period ≤ other
 not_earlier sign octets at period p other (some, all) =
-    let whole = each_string_has_a_reading octets in
-    let (more, is, _) = reading_begins p.items (reading octets).items (drop at octets) (reading octets).rest p.each whole.each whole.ends (sym p.spelled ∙ whole.spelled) in
-    let means = ap (map meaning) is ∙ map-append meaning p.items more in
-    let front = all_front (Allows sign.defaults other) (map meaning p.items) (map meaning more) (subst (AllByRecursion (Allows sign.defaults other)) means all) in
+    let front = all_front (Allows sign.defaults other) p.items (meanings (drop at octets)) (subst (AllByRecursion (Allows sign.defaults other)) p.whole all) in
     let (times, by) = p.multiple other front in
     at_least times period other some by
 
@@ -198,14 +168,13 @@ too_long sign octets at period p long = record {
 }
 
 -- at the end of the items
-pub at_end : (sign : SignData) (octets : List ℕ) (at period : ℕ) → Passed sign octets at period → HasNoItem (drop at octets) → IsFlashPeriod sign octets period
+pub at_end : (sign : SignData) (octets : List ℕ) (at period : ℕ) → Passed sign octets at period → meanings (drop at octets) ≡ [] → IsFlashPeriod sign octets period
 at_end sign octets at period p none =
-    let read : IsReading octets p.items (drop at octets) = record { each = p.each; spelled = p.spelled; ends = none } in
-    let same = one_reading octets p.items (reading octets).items (drop at octets) (reading octets).rest read (each_string_has_a_reading octets) in
+    let all : meanings octets ≡ p.items = p.whole ∙ ap (λ l. p.items ++ l) none ∙ append-nil p.items in
     record {
       some = p.some;
       least = not_earlier sign octets at period p;
-      ends = λ _. (p.some, subst (AllByRecursion (Allows sign.defaults period)) (ap (map meaning) same.0) p.ends);
+      ends = λ _. (p.some, subst (AllByRecursion (Allows sign.defaults period)) (sym all) p.ends);
     }
 
 -- the least multiple, found
@@ -215,17 +184,6 @@ found tenths flash times flashes many least whole = inr (flashes, (times, many, 
 
 pub found_last : (tenths flash : ℕ) → 1 ≤ flash → ((fewer : ℕ) → 1 ≤ fewer → fewer < flash → fewer * tenths % flash ≢ 0) → IsCommonTime tenths flash (flash * tenths)
 found_last tenths flash flashes least = found tenths flash flash flashes flashes least (mul-mod_right flash tenths)
-
--- what a tag gives that was read so
-pub time_of_read : (defaults : Defaults) (octets : List ℕ) (token : Token) (read : Result Tag TagFault) → token.kind ≡ kinds.Tag → IfOk read (Spells (body_of octets token))
-    → ((read ≡ Err Unsupported) ↔ (¬ (HasName (body_of octets token)))) → ((read ≡ Err Value) ↔ (HasName (body_of octets token) × SpellsNoTag (body_of octets token)))
-    → flash_time defaults (meaning_of_tag read) ≡ flash_time defaults (meaning (item_of octets token))
-time_of_read defaults octets token read kind spelled unsupported value =
-    ap (flash_time defaults) (sym (meaning-tag octets token read kind (tag_of-read (body_of octets token) read spelled unsupported value)))
-
-pub no_time : (defaults : Defaults) (fault : TagFault) → flash_time defaults (meaning_of_tag (Err fault)) ≡ 0
-no_time defaults Unsupported = refl
-no_time defaults Value = refl
 
 -- HOW LONG A TEXT PLAYS
 

@@ -1,27 +1,13 @@
 //! After how long a string plays anew.
-ghost use Rattle.std.specs.Prelude.{◌≡◌, ◌<◌, ◌≤◌, drop, length, IfNone, IfSome};
-ghost use Rattle.multi_meaning.specs.Meaning.{meaning, said_by};
-ghost use Rattle.multi_token.specs.Spelling.{HasNoItem};
-ghost use Rattle.multi_token.specs.Tokens.{IsTokenOf, item_of};
+ghost use Rattle.std.specs.Prelude.{◌≡◌, ◌<◌, ◌≤◌};
+ghost use Rattle.multi_meaning.specs.Meaning.{Meaning, said_by};
+ghost use Rattle.multi_layout.specs.Items.{IsSaid};
 ghost use Rattle.message_film.specs.Period.{IsCommonTime, IsFlashPeriod, IsPeriod, PlaysFor, flash_time};
 
-use multi_layout::Checked;
-use multi_tag::{Tag, read_tag};
-use multi_token::{Kind, Source, Token, next_token};
+use multi_layout::{Checked, StringItem, item_at};
+use multi_tag::Tag;
+use multi_token::Source;
 use sign_font::Sign;
-
-/// The token at an offset of a string, if one is spelled there.
-fn token_at(source: &mut Source<'_>, at: usize) -> Option<Token>
-    requires { at ≤ length source.old.octets }
-    ensures token { IfSome result (λ token. (token.at ≡ at) × IsTokenOf source.old.octets token) }
-    ensures none { IfNone result (HasNoItem (drop at source.old.octets)) }
-    ensures kept { source.new.octets ≡ source.old.octets }
-{
-    match next_token(source, at) {
-        Ok(token) => token,
-        Err(_) => None,
-    }
-}
 
 /// The time of the flash that a tag gives, on and off together, in tenths of a second; 0 if it gives none.
 fn tag_time(sign: &Sign, tag: Tag) -> u16
@@ -39,19 +25,14 @@ fn tag_time(sign: &Sign, tag: Tag) -> u16
     }
 }
 
-/// The same of what a token stands for.
-fn token_time(sign: &Sign, source: &mut Source<'_>, token: &Token) -> u16
-    requires { IsTokenOf source.old.octets token.now }
-    ensures time { result ≡ flash_time sign.now.defaults (meaning (item_of source.old.octets token.now)) }
+/// The same of an item.
+fn item_time(sign: &Sign, item: &StringItem) -> u16
+    ensures time { (means : Meaning) → IsSaid means item.now.tag → result ≡ flash_time sign.now.defaults means }
     ensures range { result ≤ 510 }
-    ensures kept { source.new.octets ≡ source.old.octets }
 {
-    let Kind::Tag = token.kind else {
-        return 0;
-    };
-    match read_tag(source, token) {
-        Ok(tag) => tag_time(sign, tag),
-        Err(_) => 0,
+    match item.tag {
+        Some(tag) => tag_time(sign, tag),
+        None => 0,
     }
 }
 
@@ -82,14 +63,14 @@ fn flash_period(sign: &Sign, octets: &[u8]) -> u32
     let mut source = Source::new(octets);
     let mut at = 0;
     let mut period = 1u32;
-    while let Some(token) = token_at(&mut source, at) {
-        let flash = token_time(sign, &mut source, &token);
+    while let Some(item) = item_at(&mut source, at) {
+        let flash = item_time(sign, &item);
         let common = common_time(period, flash);
         if common >= u64::from(u32::MAX) {
             return u32::MAX;
         }
         period = common as u32;
-        at += token.len;
+        at += item.len;
     }
     period
 }

@@ -1,21 +1,23 @@
 -- The parts of an explanation, one after the other.
-use Rattle.std.proofs.Common.{◌≡◌, ℕ, suc, ◌+◌, ◌%◌, ◌<◌, ◌^◌, ◌≤◌, ◌≢◌, Bool, false, ◌||◌, ◌==◌, List, [], ◌∷◌, ◌++◌, length, refl, sym, ap, ◌∙◌, arith, subst, append_assoc, append-nil, decimal, Option, None}
+use Rattle.std.proofs.Common.{◌≡◌, ℕ, suc, ◌+◌, ◌%◌, ◌<◌, ◌^◌, ◌≤◌, ◌≢◌, Bool, false, ◌||◌, ◌==◌, List, [], ◌∷◌, ◌++◌, length, refl, sym, ap, ◌∙◌, arith, subst, append_assoc, append-nil, decimal, min, None, get_or, take}
+use Rattle.std.proofs.lemmas.List.{take_more}
 use Rattle.std.proofs.lemmas.List.Elements.{All-append, All-cons, All-nil, All-push}
 use Rattle.std.proofs.lemmas.Bool.{eqb-false, le-ltb, lt-ltb, or_parts}
 use Rattle.std.proofs.lemmas.Fmt.{decimal_by_steps}
-use Rattle.std.proofs.lemmas.Grind.{flat_map-append}
-use Rattle.std.specs.List.{flat_map}
 use Rattle.sign_font.specs.Sign.{SignData}
 use Rattle.multi_meaning.specs.Meaning.{meanings}
 use Rattle.multi_meaning.specs.Verdict.{Accepted, IsVerdict, Verdict, pages_of, verdict}
 use Rattle.multi_meaning.proofs.VerdictLemmas.{accepted_is, one_verdict}
 use Rattle.octet_text.proofs.TextLemmas.{grown}
 use Rattle.message_cures.specs.Cures.{Mends}
-use Rattle.message_cures.specs.declared.mending.Kind.{Kind}
 use Rattle.message_cures.specs.declared.mending.Outcome.{Outcome}
-use Rattle.message_report.specs.Words.{GrowsByLine, GrowsInLine, IsOneLine}
+use Rattle.message_report.specs.Notes.{AreWarned}
+use Rattle.message_report.specs.Words.{GrowsByLine, GrowsInLine, IsLineOf, IsOneLine}
 use Rattle.message_report.specs.declared.format.Telling.{Telling}
-use Rattle.message_report.specs.Explanation.{Explains, HasPages, IsWarnings, Tells, TellsTooLong, head_text, kind_of, warning_text}
+use Rattle.message_report.specs.declared.format.Told.{Told}
+use Rattle.message_words.specs.Codes.{code_text}
+use Rattle.message_words.specs.declared.warnings.Warning.{Warning}
+use Rattle.message_report.specs.Explanation.{Explains, HasPages, IsWarned, IsWarnings, PassesOver, Tells, TellsTooLong, accepted_text, head_text, kind_of, line_head, warning_text}
 
 -- an accepted string has the pages that its items begin
 pub pages_are : (sign : SignData) (octets : List ℕ) (pages : ℕ) → IsVerdict sign octets (Accepted pages) → length octets < 2 ^ 32 → pages ≡ pages_of (meanings octets)
@@ -41,6 +43,16 @@ pub three_more : (start now one two three shown head words page : List ℕ) → 
 three_more start now one two three shown head words page so_far first second third =
     grown start (one ++ words) three (shown ++ head ++ words) (10 ∷ page) _ (grown start one (one ++ words) (shown ++ head) words _ (grown start now one shown head _ so_far first refl) refl refl) (behind_line one two three words page second third) refl
 
+-- an accepted message on which there are warnings isn't passed over
+pub passes_over : (octets : List ℕ) (line pages : ℕ) (warnings : List Warning) (front told : List ℕ) → (length warnings ≡ 0 → ⊥) → IsLineOf octets front → AreWarned warnings told
+    → PassesOver octets line pages warnings (line_head line ++ accepted_text pages ++ front ++ 10 ∷ told ++ 10 ∷ [])
+passes_over octets line pages [] front told some of are = absurd (some refl)
+passes_over octets line pages (warning ∷ warnings) front told some of are = (front, told, of, are, refl)
+
+pub passes_nothing : (octets : List ℕ) (line pages : ℕ) (warnings : List Warning) → length warnings ≡ 0 → PassesOver octets line pages warnings []
+passes_nothing octets line pages [] none = refl
+passes_nothing octets line pages (warning ∷ warnings) none = absurd (omega (arith, none))
+
 -- one more page comes after those before it
 pub pages_more : (picture : ℕ → List ℕ) (pages page : ℕ) (shown words : List ℕ) → HasPages picture pages page shown → IsOneLine words
     → HasPages picture pages (page + 1) (shown ++ head_text page pages ++ words ++ 10 ∷ picture page)
@@ -50,26 +62,35 @@ pages_more picture pages page shown words has line =
     subst (λ n. HasPages picture pages n (shown ++ head_text page pages ++ words ++ 10 ∷ picture page)) next more
 
 -- a message of at most 4,096 octets is explained by the one verdict on it
-pub explained : (telling : Telling) (sign : SignData) (name octets message : List ℕ) (line : ℕ) (v : Verdict) (outcome : Outcome) (kept : Option Kind) (text : List ℕ) → length message ≤ 4096 → octets ≡ message → IsVerdict sign octets v
-    → Mends sign message outcome → kept ≡ kind_of outcome → Tells telling telling.format sign name octets line v outcome text → Explains telling sign name line message kept text
-explained telling sign name octets message line v outcome kept text short same is mends keeps tells =
+pub explained : (telling : Telling) (sign : SignData) (most : ℕ) (name octets message : List ℕ) (line : ℕ) (v : Verdict) (outcome : Outcome) (warnings : List Warning) (kept : Told) (text : List ℕ) → length message ≤ 4096 → octets ≡ message
+    → IsVerdict sign octets v → Mends sign message outcome → kept.proposal ≡ kind_of outcome → IsWarned telling.warnings sign most message v warnings → kept.warnings ≡ length warnings
+    → Tells telling telling.format sign name octets line v outcome warnings text → Explains telling sign most name line message kept text
+explained telling sign most name octets message line v outcome warnings kept text short same is mends keeps warned count tells =
     let on_line : IsVerdict sign message v = subst (λ l. IsVerdict sign l v) same is in
     let one : v ≡ verdict sign message = (one_verdict sign message v).0 on_line in
-    let tells_line : Tells telling telling.format sign name message line v outcome text = subst (λ l. Tells telling telling.format sign name l line v outcome text) same tells in
-    rw (le-ltb _ _ short) (outcome, mends, keeps, subst (λ w. Tells telling telling.format sign name message line w outcome text) one tells_line)
+    let tells_line : Tells telling telling.format sign name message line v outcome warnings text = subst (λ l. Tells telling telling.format sign name l line v outcome warnings text) same tells in
+    rw (le-ltb _ _ short) (outcome, warnings, mends, keeps, subst (λ w. IsWarned telling.warnings sign most message w warnings) one warned, count, subst (λ w. Tells telling telling.format sign name message line w outcome warnings text) one tells_line)
 
 -- a message with more octets isn't judged
-pub unjudged : (telling : Telling) (sign : SignData) (name message : List ℕ) (line : ℕ) (kept : Option Kind) (text : List ℕ) → 4096 < length message → kept ≡ None
-    → TellsTooLong telling.format name message line text → Explains telling sign name line message kept text
-unjudged telling sign name message line kept text long none tells = rw (lt-ltb _ _ long) (none, tells)
+pub unjudged : (telling : Telling) (sign : SignData) (most : ℕ) (name message : List ℕ) (line : ℕ) (kept : Told) (text : List ℕ) → 4096 < length message → kept.proposal ≡ None → kept.warnings ≡ 0
+    → TellsTooLong telling.format name message line text → Explains telling sign most name line message kept text
+unjudged telling sign most name message line kept text long none zero tells = rw (lt-ltb _ _ long) (none, zero, tells)
 
 -- one more warning
-pub warnings_more : (name : List ℕ) (line at : ℕ) (told words : List ℕ) → IsWarnings name line told → IsOneLine words → IsWarnings name line (told ++ warning_text name line at words)
-warnings_more name line at told words (warnings, all, is) one =
-    let text : ℕ × List ℕ → List ℕ = λ warning. warning_text name line warning.0 warning.1 in
-    let last : flat_map text ((at, words) ∷ []) ≡ warning_text name line at words = append-nil (warning_text name line at words) in
-    let both = flat_map-append text warnings ((at, words) ∷ []) ∙ ap (λ l. flat_map text warnings ++ l) last in
-    (warnings ++ (at, words) ∷ [], All-push (λ warning. IsOneLine warning.1) warnings (at, words) all one, ap (λ l. l ++ warning_text name line at words) is ∙ sym both)
+more_lines : (name : List ℕ) (line : ℕ) (warnings : List Warning) (next : Warning) (told words : List ℕ) → IsWarnings name line warnings told → IsOneLine words
+    → IsWarnings name line (warnings ++ next ∷ []) (told ++ warning_text name line (min next.at 4096) (code_text next.code) words)
+more_lines name line [] next told words none one =
+    let last = warning_text name line (min next.at 4096) (code_text next.code) words in
+    (words, [], one, refl, ap (λ l. l ++ last) none ∙ sym (append-nil last))
+more_lines name line (warning ∷ warnings) next told words (first, rest, is, are, all) one =
+    let last = warning_text name line (min next.at 4096) (code_text next.code) words in
+    (first, rest ++ last, is, more_lines name line warnings next rest words are one, ap (λ l. l ++ last) all ∙ append_assoc (warning_text name line (min warning.at 4096) (code_text warning.code) first) rest last)
+
+pub warnings_more : (name : List ℕ) (line : ℕ) (warnings : List Warning) (i : ℕ) (next : Warning) (told words : List ℕ) → i < length warnings → next ≡ get_or warnings i next → IsWarnings name line (take i warnings) told → IsOneLine words
+    → IsWarnings name line (take (i + 1) warnings) (told ++ warning_text name line (min next.at 4096) (code_text next.code) words)
+warnings_more name line warnings i next told words below is are one =
+    let grows : take (i + 1) warnings ≡ take i warnings ++ next ∷ [] = take_more warnings i next below ∙ ap (λ w. take i warnings ++ w ∷ []) (sym is) in
+    subst (λ ws. IsWarnings name line ws (told ++ warning_text name line (min next.at 4096) (code_text next.code) words)) (sym grows) (more_lines name line (take i warnings) next told words are one)
 
 -- words have no line feed if none is found in them
 abbrev pub has_feed : List ℕ → Bool

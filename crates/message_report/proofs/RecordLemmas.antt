@@ -25,6 +25,7 @@ use Rattle.message_cures.specs.declared.difference.Edit.{Edit}
 use Rattle.message_cures.specs.declared.mending.Outcome.{Outcome}
 use Rattle.message_cures.specs.declared.mending.Outcome.TheVariants as outcomes
 use Rattle.message_cures.specs.declared.proposal.Proposal.{Proposal}
+use Rattle.message_words.specs.Codes.{code_text}
 use Rattle.message_words.specs.declared.warnings.Warning.{Warning}
 use Rattle.message_report.specs.Records.{AreFixes, AreFixesOf, accepted_json, accepted_record, edit_record, fix_record, octets_data, page_data, page_record, pages_from, picture_data, refused_json, refused_record, text_data, too_long_record, warning_record, warning_records}
 
@@ -114,13 +115,13 @@ fixes_whole sign octets outcomes.Taken records none = rw none refl
 fixes_whole sign octets outcomes.Unknown records none = rw none refl
 
 -- nor those of warnings
-warning_whole : (at : ℕ) (words : List ℕ) → has_float (warning_record at words) ≡ false
+warning_whole : (code : List ℕ) (at : ℕ) (words : List ℕ) → has_float (warning_record code at words) ≡ false
 unfolding warning_record
-warning_whole at words = refl
+warning_whole code at words = refl
 
 pub warnings_whole : (warnings : List Warning) → items_have_float (items_of (warning_records warnings)) ≡ false
 warnings_whole [] = refl
-warnings_whole (w ∷ warnings) = or_from (has_float (warning_record w.at (string_bytes w.words))) _ (warning_whole w.at (string_bytes w.words)) (warnings_whole warnings)
+warnings_whole (w ∷ warnings) = or_from (has_float (warning_record (code_text w.code) w.at (string_bytes w.words))) _ (warning_whole (code_text w.code) w.at (string_bytes w.words)) (warnings_whole warnings)
 
 -- one more proposal
 pub more_fixes : (octets : List ℕ) (proposals : List Proposal) (next : Proposal) (edits : List Edit) (records : List Data) → AreFixesOf octets proposals records → IsEdited octets edits next.text.items

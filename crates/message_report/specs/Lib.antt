@@ -1,4 +1,5 @@
 pub mod Blocks
+pub mod Explained
 pub mod Explanation
 pub mod Names
 pub mod Notes

@@ -1,10 +1,11 @@
 -- What is told beside the verdict and the pictures, line by line: each line has a head of its own, or begins as a verdict does only if the
 -- message does.
-use Rattle.std.specs.Prelude.{◌≡◌, ℕ, ◌&&◌, ◌==◌, Bool, true, false, nat_lt, List, [], ◌++◌, All, codes, decimal, replicate, if◌then◌else◌}
-use Rattle.std.specs.List.{flat_map}
+use Rattle.std.specs.Prelude.{◌≡◌, ℕ, ◌&&◌, ◌==◌, Bool, true, false, nat_lt, List, [], ◌∷◌, ◌++◌, codes, decimal, replicate, if◌then◌else◌}
 use Rattle.sign_font.specs.Sign.{SignData}
 use Rattle.multi_meaning.specs.Meaning.{meanings}
 use Rattle.multi_meaning.specs.Times.{cycle, page_times}
+use Rattle.message_words.specs.Codes.{code_text}
+use Rattle.message_words.specs.declared.warnings.Warning.{Warning}
 use Rattle.message_report.specs.Words.{IsOneLine}
 use Rattle.message_report.specs.declared.picture.Picture.{Picture}
 use Rattle.message_report.specs.declared.picture.Picture.TheVariants.{Blocks, Marks}
@@ -37,14 +38,15 @@ flashing_text flashes phase = if flashes then flash_text phase else []
 abbrev pub legend_text : Picture → Bool → Bool → Bool → ℕ → List ℕ
 legend_text picture classic still flashes phase = marks_text picture classic ++ still_text still ++ flashing_text flashes phase
 
--- the line of a warning: the octet where it stands, counted from 0, and words (own)
-unfoldable pub warned_text : ℕ → List ℕ → List ℕ
-warned_text at words = codes "warning at octet " ++ decimal at ++ codes ": " ++ words ++ codes "\n"
+-- the line of a warning: the octet where it stands, counted from 0, words, and its code (own)
+unfoldable pub warned_text : ℕ → List ℕ → List ℕ → List ℕ
+warned_text at code words = codes "warning at octet " ++ decimal at ++ codes ": " ++ words ++ codes " (" ++ code ++ codes ")\n"
 
--- a text is such lines of warnings, and nothing else (own)
-abbrev pub AreWarned : List ℕ → Type 0
-AreWarned text = (warnings : List (ℕ × List ℕ)) × All (λ warning. IsOneLine warning.1) warnings
-    × (text ≡ flat_map (λ warning. warned_text warning.0 warning.1) warnings)
+-- a text is the lines of these warnings, in their order (own)
+abbrev pub AreWarned : List Warning → List ℕ → Type 0
+AreWarned [] text = text ≡ []
+AreWarned (warning ∷ warnings) text = (words rest : List ℕ) × IsOneLine words × AreWarned warnings rest
+    × (text ≡ warned_text warning.at (code_text warning.code) words ++ rest)
 
 -- the octet with which what is shown of a refused message begins, as a line, unless it is the first one (own)
 unfoldable pub from_text : ℕ → List ℕ

@@ -1,5 +1,5 @@
 -- What is told of a message as a record in JSON.
-use Rattle.std.specs.Prelude.{◌≡◌, ◌⊎◌, ℕ, ◌+◌, Bool, true, List, [], ◌∷◌, ◌++◌, codes, decimal, map, string_bytes, if◌then◌else◌}
+use Rattle.std.specs.Prelude.{◌≡◌, ℕ, ◌+◌, Bool, true, false, List, [], ◌∷◌, ◌++◌, codes, decimal, map, string_bytes, if◌then◌else◌}
 use Rattle.std.specs.Str.{is_utf8}
 use Rattle.hex.specs.Hex.{encode_lower}
 use Rattle.serde_json.specs.Data.{Data, array, member, no_members, null, number, object, string, unsigned}
@@ -17,6 +17,7 @@ use Rattle.message_cures.specs.declared.mending.Kind.TheVariants.{Capitals, Othe
 use Rattle.message_cures.specs.declared.mending.Outcome.{Outcome}
 use Rattle.message_cures.specs.declared.mending.Outcome.TheVariants as outcomes
 use Rattle.message_cures.specs.declared.proposal.Proposal.{Proposal}
+use Rattle.message_words.specs.Codes.{code_text}
 use Rattle.message_words.specs.declared.warnings.Warning.{Warning}
 use Rattle.message_report.specs.declared.format.Telling.{Telling}
 use Rattle.message_report.specs.Names.{name_of}
@@ -109,11 +110,12 @@ page_record page on off picture =
     (member (codes "on") (count on)
     (member (codes "picture") picture no_members))))
 
--- the record of a warning: its octet, counted from 0, and words (own)
-unfoldable pub warning_record : ℕ → List ℕ → Data
-warning_record at words =
-    object (member (codes "octet") (count at)
-    (member (codes "text") (string words) no_members))
+-- the record of a warning: its code, its octet, counted from 0, and words (own)
+unfoldable pub warning_record : List ℕ → ℕ → List ℕ → Data
+warning_record code at words =
+    object (member (codes "code") (string code)
+    (member (codes "octet") (count at)
+    (member (codes "text") (string words) no_members)))
 
 -- a picture, if it is asked for (own)
 abbrev pub picture_data : Bool → List ℕ → Data
@@ -161,19 +163,26 @@ IsRecord value text = text ≡ compact_text value ++ 10 ∷ []
 
 -- the records of some warnings (own)
 abbrev pub warning_records : List Warning → List Data
-warning_records warnings = map (λ (w : Warning). warning_record w.at (string_bytes w.words)) warnings
+warning_records warnings = map (λ (w : Warning). warning_record (code_text w.code) w.at (string_bytes w.words)) warnings
 
--- a text is the record of an accepted message, with all its pages and some warnings (own)
-abbrev pub TellsPages : Telling → SignData → List ℕ → ℕ → List ℕ → Type 0
-TellsPages telling sign octets line text = (warnings : List Warning)
-    × IsRecord (accepted_record line octets (array (items_of (all_pages telling sign octets)))
-    (array (items_of (warning_records warnings)))) text
+-- a text is the record of an accepted message, with all its pages and these warnings (own)
+abbrev pub TellsPages : Telling → SignData → List ℕ → ℕ → List Warning → List ℕ → Type 0
+TellsPages telling sign octets line warnings text =
+    IsRecord (accepted_record line octets (array (items_of (all_pages telling sign octets))) (array (items_of (warning_records warnings)))) text
 
--- a text tells a verdict as a record, with what is proposed, or nothing of an accepted message if only refused ones are asked for (own)
-abbrev pub TellsRecord : Telling → SignData → List ℕ → ℕ → Verdict → Outcome → List ℕ → Type 0
-TellsRecord telling sign octets line (Accepted pages) outcome text =
-    ((telling.refused_only ≡ true) × (text ≡ [])) ⊎ TellsPages telling sign octets line text
-TellsRecord telling sign octets line (Refused code at) outcome text = (fixes : List Data) × (reason : List ℕ)
+-- nothing is said of an accepted message if only refused ones are asked for and there is no warning on it (own)
+abbrev pub is_passed_over : Bool → List Warning → Bool
+is_passed_over true [] = true
+is_passed_over _ _ = false
+
+-- a text tells a verdict as a record, with what is proposed or with the warnings, or nothing of an accepted message (own)
+abbrev pub TellsRecord : Telling → SignData → List ℕ → ℕ → Verdict → Outcome → List Warning → List ℕ → Type 0
+TellsRecord telling sign octets line (Accepted pages) outcome warnings text = of (is_passed_over telling.refused_only warnings)
+  where
+    of : Bool → Type 0
+    of true = text ≡ []
+    of false = TellsPages telling sign octets line warnings text
+TellsRecord telling sign octets line (Refused code at) outcome warnings text = (fixes : List Data) × (reason : List ℕ)
     × AreFixes sign octets outcome fixes × IsRecord (refused_record line octets code at reason (array (items_of fixes))) text
 
 -- a text is the record of a message with too many octets (own)

@@ -1,5 +1,5 @@
 //! The explanation of a message.
-ghost use Rattle.std.specs.Prelude.{◌≡◌, ◌++◌, ◌∷◌, ◌<◌, ◌^◌, [], List, ℕ, codes, false, length, OnOk, IfOk};
+ghost use Rattle.std.specs.Prelude.{◌≡◌, ◌++◌, ◌∷◌, ◌<◌, ◌^◌, [], List, ℕ, codes, false, true, length, OnOk, IfOk};
 ghost use Rattle.multi_meaning.specs.Verdict.{Accepted, Refused};
 ghost use Rattle.multi_layout.specs.Pages.{page_count};
 ghost use Rattle.message_cures.specs.Taking.{takes};
@@ -20,7 +20,7 @@ use crate::refusal::{push_as_it_is, push_proposal, push_refusal_words};
 use crate::verdict::{push_line_head, push_place, push_too_long};
 use crate::wording::Wording;
 use message_cures::{Kind, Outcome, mend};
-use message_words::{Refusal, warnings_on};
+use message_words::{Findings, Refusal, Warning, warnings_on};
 use multi_layout::{Checked, Fault, check};
 use multi_token::Source;
 use sign_font::Sign;
@@ -34,12 +34,27 @@ const MAX_MESSAGE: usize = 4_096;
 /// The answer of a message that isn't taken.
 fn not_taken(proposal: Option<Kind>) -> Told
     ensures refused { result.is_taken ≡ false }
+    ensures warnings { result.warnings ≡ 0 }
     ensures proposal { result.proposal ≡ proposal }
 {
     Told {
         is_taken: false,
         warnings: 0,
         proposal,
+    }
+}
+
+/// The answer of a message that is taken.
+fn taken(found: &Findings) -> Told
+    ensures taken { result.is_taken ≡ true }
+    ensures warnings { result.warnings ≡ length found.now.warnings.items }
+    ensures proposal { result.proposal ≡ None }
+{
+    let warnings: &[Warning] = &found.warnings;
+    Told {
+        is_taken: true,
+        warnings: warnings.len(),
+        proposal: None,
     }
 }
 
@@ -66,17 +81,17 @@ pub struct Explainer {
 }
 
 impl Model for Explainer {
-    ghost use Rattle.sign_font.specs.Sign.{SignData};
+    ghost use Rattle.message_report.specs.Explained.{ExplainerData};
 
-    ghost Value = { SignData };
+    ghost Value = { ExplainerData };
 
-    ghost view = { λ e. e.sign };
+    ghost view = { λ e. record { sign = e.sign; most = e.max_string } };
 }
 
 impl Explainer {
     /// An explainer for a sign whose message table takes texts of at most this many octets.
     pub fn new(sign: Sign, max_string: u16) -> Explainer
-        ensures { result ≡ sign }
+        ensures { result ≡ record { sign = sign; most = max_string } }
     {
         Explainer {
             sign,
@@ -182,7 +197,7 @@ fn push_accepted(
     requires octets { checked.old.source.octets ≡ message.now.message.now }
     ensures { OnOk result (GrowsBy
         (Tells message.now.telling message.now.telling.format message.now.sign.now name.now checked.old.source.octets
-        message.now.line (Accepted (page_count checked.old)) outcomes.Taken)
+        message.now.line (Accepted (page_count checked.old)) outcomes.Taken message.now.found.now.warnings.items)
         text.old text.new) }
 {
     match message.telling.format {
@@ -206,14 +221,15 @@ fn push_refusal_lines(
     requires small { refusal.now.at < 2 ^ 63 }
     ensures { OnOk result ((words : List ℕ) × IsOneLine words
         × (text.new ≡ text.old ++ (place_text name.now line refusal.now.at ++ codes "error: " ++ error_text refusal.now.code
-        ++ codes ": " ++ words ++ 10 ∷ proposal_line (place_text name.now line refusal.now.at ++ codes "note: try ") outcome.now))) }
+        ++ codes ": " ++ words ++ 10 ∷ proposal_line (place_text name.now line refusal.now.at ++ codes "note: ") (codes "try ")
+        outcome.now))) }
 {
     let reason = refusal.reason()?;
     push_error_line(text, name, line, refusal.code, refusal.at, &reason)?;
     let mut note = Explanation::new(refusal.alloc);
     push_place(&mut note, name, line, refusal.at)?;
-    push_octets(&mut note, b"note: try ")?;
-    push_proposal(text, note.octets(), outcome)
+    push_octets(&mut note, b"note: ")?;
+    push_proposal(text, note.octets(), b"try ", outcome)
 }
 
 /// Appends the explanation of a refused message.
@@ -228,7 +244,7 @@ fn push_refusal(
     requires small { refusal.now.at < 2 ^ 63 }
     ensures { OnOk result (GrowsBy
         (Tells telling telling.format refusal.now.sign.now name.now refusal.now.message.now line
-        (Refused refusal.now.code refusal.now.at) outcome.now)
+        (Refused refusal.now.code refusal.now.at) outcome.now [])
         text.old text.new) }
 {
     match telling.format {
@@ -275,7 +291,7 @@ impl Explainer {
     ) -> Result<(), AllocError>
         requires small { fault.now.at < 2 ^ 63 }
         ensures { OnOk result (GrowsBy
-            (Tells telling telling.format self.now name.now message.now line (Refused fault.now.code fault.now.at) outcome.now)
+            (Tells telling telling.format self.now.sign name.now message.now line (Refused fault.now.code fault.now.at) outcome.now [])
             text.old text.new) }
     {
         let wording = self.wording(alloc)?;
@@ -307,8 +323,8 @@ impl Explainer {
         text: &mut Explanation,
     ) -> Result<Told, AllocError>
         ensures told { IfOk result (λ told.
-            GrowsBy (Explains telling self.now name.now line message.now told.proposal) text.old text.new) }
-        ensures taken { IfOk result (λ told. told.is_taken ≡ takes self.now message.now) }
+            GrowsBy (Explains telling self.now.sign self.now.most name.now line message.now told) text.old text.new) }
+        ensures taken { IfOk result (λ told. told.is_taken ≡ takes self.now.sign message.now) }
     {
         if message.len() > MAX_MESSAGE {
             push_unjudged(text, alloc, telling.format, name, line, message)?;
@@ -317,7 +333,8 @@ impl Explainer {
         let sign = &self.sign;
         match check(sign, Source::new(message)) {
             Ok(mut checked) => {
-                let found = warnings_on(alloc, sign, message, &checked, self.max_string)?;
+                let told = telling.warnings;
+                let found = warnings_on(alloc, sign, message, &checked, self.max_string, told)?;
                 let accepted = AcceptedMessage {
                     alloc,
                     telling,
@@ -328,11 +345,7 @@ impl Explainer {
                     canvas: &self.canvas,
                 };
                 push_accepted(text, name, &accepted, &mut checked)?;
-                Ok(Told {
-                    is_taken: true,
-                    warnings: found.warnings.len().min(MAX_MESSAGE) as u32,
-                    proposal: None,
-                })
+                Ok(taken(&found))
             }
             Err(fault) => {
                 let outcome = mend(alloc, sign, message)?.outcome;

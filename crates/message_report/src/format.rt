@@ -1,6 +1,7 @@
 //! How messages are told of.
 
 use message_cures::Kind;
+use message_words::CODES;
 
 /// What an explanation is written as (own).
 #[derive(Clone, Copy)]
@@ -31,6 +32,8 @@ pub struct Telling {
     pub refused_only: bool,
     /// Whether the record of a page has its picture.
     pub pictures: bool,
+    /// Which warnings are told, by the numbers of their codes, the first of which is 1.
+    pub warnings: [bool; CODES],
 }
 
 /// What was told of a message (own).
@@ -38,8 +41,8 @@ pub struct Telling {
 pub struct Told {
     /// Whether the sign takes it.
     pub is_taken: bool,
-    /// How many warnings there are on it.
-    pub warnings: u32,
+    /// How many warnings are told of it.
+    pub warnings: usize,
     /// What is kept by what is proposed in its place, if something is.
     pub proposal: Option<Kind>,
 }

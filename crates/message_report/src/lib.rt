@@ -26,3 +26,4 @@ mod wording;
 pub use explain::Explainer;
 pub use explanation::Explanation;
 pub use format::{Format, Telling, Told};
+pub use message_words::{CODES, USUAL_WARNINGS};

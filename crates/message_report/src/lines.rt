@@ -1,10 +1,11 @@
 //! Messages in lines, as editors read them.
-ghost use Rattle.std.specs.Prelude.{◌≡◌, ◌++◌, ◌∷◌, ◌<◌, ◌^◌, [], List, ℕ, codes, OnOk};
+ghost use Rattle.std.specs.Prelude.{◌≡◌, ◌++◌, ◌∷◌, ◌<◌, ◌^◌, [], List, ℕ, codes, min, OnOk};
+ghost use Rattle.message_words.specs.Codes.{code_text};
 ghost use Rattle.message_report.specs.Explanation.{IsWarnings, error_text, place_text, warning_text};
 ghost use Rattle.message_report.specs.Words.{GrowsBy, IsOneLine};
 
 use crate::explanation::{Explanation, push_octets};
-use crate::text::push_line;
+use crate::text::{push_coded, push_line};
 use crate::verdict::{push_error, push_place};
 use message_words::Warning;
 use std::alloc::AllocError;
@@ -41,12 +42,12 @@ fn push_warning_line(
     line: u32,
     warning: &Warning,
 ) -> Result<(), AllocError>
-    ensures { OnOk result ((at : ℕ) × (words : List ℕ) × IsOneLine words
-        × (text.new ≡ text.old ++ warning_text name.now line at words)) }
+    ensures { OnOk result ((words : List ℕ) × IsOneLine words
+        × (text.new ≡ text.old ++ warning_text name.now line (min warning.now.at 4096) (code_text warning.now.code) words)) }
 {
     push_place(text, name, line, warning.at.min(LAST))?;
     push_octets(text, b"warning: ")?;
-    push_line(text, warning.words.as_bytes())?;
+    push_coded(text, warning)?;
     Ok(())
 }
 
@@ -58,7 +59,7 @@ pub(crate) fn push_warning_lines(
     line: u32,
     warnings: &[Warning],
 ) -> Result<(), AllocError>
-    ensures { OnOk result (GrowsBy (IsWarnings name.now line) text.old text.new) }
+    ensures { OnOk result (GrowsBy (IsWarnings name.now line warnings.now) text.old text.new) }
 {
     for warning in warnings {
         push_warning_line(text, name, line, warning)?;

@@ -13,6 +13,7 @@ use crate::marks::push_lit;
 use crate::picture::{Picture, push_picture};
 use crate::text::{push_legend, push_message, push_times, push_warnings, times_of};
 use crate::verdict::{push_accepted, push_head, push_line_head};
+use message_words::Warning;
 use multi_layout::Checked;
 use std::alloc::AllocError;
 
@@ -132,7 +133,7 @@ fn push_notes(
     is_still: bool,
     picture: Picture,
 ) -> Result<(), AllocError>
-    ensures { OnOk result ((told : List ℕ) × AreWarned told × (text.new ≡ text.old
+    ensures { OnOk result ((told : List ℕ) × AreWarned message.now.found.now.warnings.items told × (text.new ≡ text.old
         ++ (legend_text picture message.now.sign.now.classic is_still message.now.found.now.flashes message.now.telling.phase
         ++ told ++ 10 ∷ []))) }
 {
@@ -153,7 +154,7 @@ fn push_shown(
     requires octets { checked.old.source.octets ≡ message.now.message.now }
     ensures { OnOk result (GrowsBy
         (ShowsPages picture message.now.sign.now checked.old.source.octets message.now.telling.phase message.now.line
-        (page_count checked.old))
+        (page_count checked.old) message.now.found.now.warnings.items)
         text.old text.new) }
 {
     let is_still = is_still(checked);
@@ -172,9 +173,11 @@ fn push_warned(
     message: &AcceptedMessage<'_>,
     pages: u8,
 ) -> Result<(), AllocError>
-    ensures { OnOk result (GrowsBy (PassesOver message.now.message.now message.now.line pages) text.old text.new) }
+    ensures { OnOk result (GrowsBy (PassesOver message.now.message.now message.now.line pages message.now.found.now.warnings.items)
+        text.old text.new) }
 {
-    if message.found.warnings.is_empty() {
+    let warnings: &[Warning] = &message.found.warnings;
+    if warnings.is_empty() {
         return Ok(());
     }
     push_line_head(text, message.line)?;
@@ -197,7 +200,7 @@ pub(crate) fn push_told(
     requires octets { checked.old.source.octets ≡ message.now.message.now }
     ensures { OnOk result (GrowsBy
         (TellsAccepted message.now.telling.refused_only picture message.now.sign.now checked.old.source.octets message.now.telling.phase
-        message.now.line (page_count checked.old))
+        message.now.line (page_count checked.old) message.now.found.now.warnings.items)
         text.old text.new) }
 {
     if message.telling.refused_only {

@@ -6,6 +6,7 @@ ghost use Rattle.serde_json.specs.Written.{compact_text};
 ghost use Rattle.multi_meaning.specs.Verdict.{Accepted};
 ghost use Rattle.multi_layout.specs.Pages.{page_count};
 ghost use Rattle.message_cures.specs.declared.mending.Outcome.TheVariants.{Taken};
+ghost use Rattle.message_words.specs.Codes.{code_text};
 ghost use Rattle.message_report.specs.Names.{name_of};
 ghost use Rattle.message_report.specs.Pictures.{page_text};
 ghost use Rattle.message_report.specs.Records.{AreFixes, TellsPages, TellsRecord, TooLongRecord, accepted_json, all_pages, octets_data, page_record, picture_data, refused_json, refused_record, text_data, warning_record, warning_records};
@@ -53,9 +54,10 @@ fn octets_json(alloc: Global, message: &[u8]) -> Result<Vec<u8>, AllocError>
 /// The record of a warning.
 #[tactic(auto, unfolding(crate::specs::Records::warning_record))]
 fn warning_value(alloc: Global, warning: &Warning) -> Result<Value, AllocError>
-    ensures { IfOk result (λ v. view v ≡ warning_record warning.now.at (string_bytes warning.now.words)) }
+    ensures { IfOk result (λ v. view v ≡ warning_record (code_text warning.now.code) warning.now.at (string_bytes warning.now.words)) }
 {
-    json!(in alloc; {"octet": warning.at, "text": &warning.words})
+    let code = warning.code.text();
+    json!(in alloc; {"code": code, "octet": warning.at, "text": &warning.words})
 }
 
 /// The records of all warnings.
@@ -301,7 +303,8 @@ fn push_pages_record(
     requires short { length checked.old.source.octets < 2 ^ 32 }
     requires octets { checked.old.source.octets ≡ message.now.message.now }
     ensures { OnOk result (GrowsBy
-        (TellsPages message.now.telling message.now.sign.now checked.old.source.octets message.now.line)
+        (TellsPages message.now.telling message.now.sign.now checked.old.source.octets message.now.line
+        message.now.found.now.warnings.items)
         text.old text.new) }
 {
     let alloc = message.alloc;
@@ -326,7 +329,7 @@ pub(crate) fn push_accepted_record(
     requires octets { checked.old.source.octets ≡ message.now.message.now }
     ensures { OnOk result (GrowsBy
         (TellsRecord message.now.telling message.now.sign.now checked.old.source.octets message.now.line
-        (Accepted (page_count checked.old)) Taken)
+        (Accepted (page_count checked.old)) Taken message.now.found.now.warnings.items)
         text.old text.new) }
 {
     if message.telling.refused_only && message.found.warnings.is_empty() {

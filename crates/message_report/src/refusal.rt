@@ -1,6 +1,6 @@
 //! Refused messages in words.
 ghost use Rattle.std.specs.Prelude.{◌≡◌, ◌++◌, ◌∷◌, ◌-◌, [], List, ℕ, drop, OnOk};
-ghost use Rattle.message_report.specs.Explanation.{TellsRefused, proposal_line};
+ghost use Rattle.message_report.specs.Explanation.{TellsRefused, no_proposal_text, proposal_line};
 ghost use Rattle.message_report.specs.Notes.{caret_text, from_text};
 ghost use Rattle.message_report.specs.Words.{GrowsBy, GrowsByLineOf, IsLineOf};
 
@@ -21,20 +21,37 @@ pub(crate) fn push_as_it_is(text: &mut Explanation, message: &[u8]) -> Result<()
     push_octet(text, b'\n')
 }
 
-/// Appends what is proposed in place of a message, after a word, if something is.
+/// Appends that nothing is proposed, as a line.
+#[tactic(auto, unfolding(crate::specs::Explanation::no_proposal_text))]
+fn push_no_proposal(text: &mut Explanation) -> Result<(), AllocError>
+    ensures { OnOk result (text.new ≡ text.old ++ no_proposal_text) }
+{
+    push_octets(
+        text,
+        b"no proposal: the sign takes none of the texts that were tried\n",
+    )
+}
+
+/// Appends what is proposed in place of a message, after a place and a word, or that nothing is.
 pub(crate) fn push_proposal(
     text: &mut Explanation,
+    place: &[u8],
     word: &[u8],
     outcome: &Outcome,
 ) -> Result<(), AllocError>
-    ensures { OnOk result (text.new ≡ text.old ++ proposal_line word.now outcome.now) }
+    ensures { OnOk result (text.new ≡ text.old ++ proposal_line place.now word.now outcome.now) }
 {
     match outcome {
         Outcome::Mended { text: other, .. } => {
+            push_octets(text, place)?;
             push_octets(text, word)?;
             push_as_it_is(text, other)
         }
-        Outcome::Taken | Outcome::Unknown => Ok(()),
+        Outcome::Taken => Ok(()),
+        Outcome::Unknown => {
+            push_octets(text, place)?;
+            push_no_proposal(text)
+        }
     }
 }
 
@@ -109,7 +126,7 @@ pub(crate) fn push_refusal_words(
     push_refused(text, refusal.code, refusal.at)?;
     push_excerpt(text, refusal)?;
     push_reason(text, refusal)?;
-    push_proposal(text, b"try: ", outcome)?;
+    push_proposal(text, b"", b"try: ", outcome)?;
     push_octet(text, b'\n')?;
     Ok(())
 }

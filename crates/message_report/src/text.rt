@@ -1,6 +1,7 @@
 //! Words for people that are appended.
 ghost use Rattle.std.specs.Prelude.{◌≡◌, ◌≢◌, ◌∷◌, ◌++◌, [], List, ℕ, codes, OnOk, if◌then◌else◌};
 ghost use Rattle.message_report.specs.Notes.{AreWarned, flash_text, flashing_text, legend_text, marks_text, still_text, warned_text};
+ghost use Rattle.message_words.specs.Codes.{code_text};
 ghost use Rattle.message_report.specs.Words.{GrowsBy, GrowsByLine, GrowsByLineOf, GrowsInLine, IsLineOf, IsOneLine, is_head};
 
 use crate::accepted::AcceptedMessage;
@@ -8,7 +9,8 @@ use crate::explanation::Piece::{Number, Octets};
 use crate::explanation::{Explanation, push_all, push_number, push_octet, push_octets};
 use crate::picture::Picture;
 use message_words::{
-    COLOUR_MARKS, FLASHING, MORE, MessageLine, NO_TIMES, PIXEL_MARKS, Times, Warning, page_times,
+    COLOUR_MARKS, FLASHING, MORE, MessageLine, NO_TIMES, PIXEL_MARKS, Times, Warning, WarningCode,
+    page_times,
 };
 use sign_font::Sign;
 use std::alloc::{AllocError, Global};
@@ -262,27 +264,41 @@ pub(crate) fn push_legend(
     push_flashing(text, message.found.flashes, message.telling.phase)
 }
 
-/// Appends a warning as a line.
-#[tactic(auto, unfolding(crate::specs::Notes::warned_text))]
-fn push_warning(text: &mut Explanation, warning: &Warning) -> Result<(), AllocError>
-    ensures { OnOk result ((words : List ℕ) × IsOneLine words × (text.new ≡ text.old ++ warned_text warning.now.at words)) }
+/// Appends a code.
+fn push_code(text: &mut Explanation, code: WarningCode) -> Result<(), AllocError>
+    ensures { OnOk result (text.new ≡ text.old ++ code_text code) }
 {
-    push_all(
-        text,
-        &[
-            Octets(b"warning at octet "),
-            Number(warning.at as u64),
-            Octets(b": "),
-        ],
-    )?;
-    push_line(text, warning.words.as_bytes())?;
+    push_octets(text, code.text().as_bytes())
+}
+
+/// Appends the words of a warning, and its code, to the end of a line.
+pub(crate) fn push_coded(text: &mut Explanation, warning: &Warning) -> Result<(), AllocError>
+    ensures { OnOk result ((words : List ℕ) × IsOneLine words
+        × (text.new ≡ text.old ++ (words ++ codes " (" ++ code_text warning.now.code ++ codes ")\n"))) }
+{
+    push_in_line(text, warning.words.as_bytes())?;
+    push_octets(text, b" (")?;
+    push_code(text, warning.code)?;
+    push_octets(text, b")\n")?;
+    Ok(())
+}
+
+/// Appends a warning as a line.
+fn push_warning(text: &mut Explanation, warning: &Warning) -> Result<(), AllocError>
+    ensures { OnOk result ((words : List ℕ) × IsOneLine words
+        × (text.new ≡ text.old ++ warned_text warning.now.at (code_text warning.now.code) words)) }
+{
+    push_octets(text, b"warning at octet ")?;
+    push_number(text, warning.at as u64)?;
+    push_octets(text, b": ")?;
+    push_coded(text, warning)?;
     Ok(())
 }
 
 /// Appends all warnings. Most messages have none.
 #[inline(never)]
 fn push_each_warning(text: &mut Explanation, warnings: &[Warning]) -> Result<(), AllocError>
-    ensures { OnOk result (GrowsBy AreWarned text.old text.new) }
+    ensures { OnOk result (GrowsBy (AreWarned warnings.now) text.old text.new) }
 {
     for warning in warnings {
         push_warning(text, warning)?;
@@ -296,12 +312,9 @@ pub(crate) fn push_warnings(
     text: &mut Explanation,
     message: &AcceptedMessage<'_>,
 ) -> Result<(), AllocError>
-    ensures { OnOk result ((told : List ℕ) × AreWarned told × (text.new ≡ text.old ++ (told ++ 10 ∷ []))) }
+    ensures { OnOk result ((told : List ℕ) × AreWarned message.now.found.now.warnings.items told
+        × (text.new ≡ text.old ++ (told ++ 10 ∷ []))) }
 {
-    if message.found.warnings.is_empty() {
-        push_octet(text, b'\n')?;
-        return Ok(());
-    }
     push_each_warning(text, &message.found.warnings)?;
     push_octet(text, b'\n')?;
     Ok(())

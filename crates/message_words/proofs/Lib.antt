@@ -1,1 +1,3 @@
 mod PageTimesLemmas
+mod SaidLemmas
+mod WarnedLemmas

@@ -1,2 +1,4 @@
+pub mod Codes
 pub mod PageTimes
-pub mod Places
+pub mod Said
+pub mod Warned

@@ -6,14 +6,20 @@
 #![tactic(auto)]
 
 mod characters;
+mod code;
 mod colours;
+mod decided;
 mod excerpt;
+mod flashes;
 mod forms;
+mod items;
 mod names;
+mod pages;
 mod piece;
 mod plain;
 mod reason;
 mod room;
+mod said;
 mod sentence;
 mod sight;
 mod standing;
@@ -23,6 +29,7 @@ mod warnings;
 mod words;
 
 pub use characters::{CharacterRun, FontCharacters};
+pub use code::{CODES, USUAL_WARNINGS, WarningCode};
 pub use excerpt::Excerpt;
 pub use forms::{form_of, left_out, letters_at_front, nearest};
 pub use names::{meant, plain_of};

@@ -175,6 +175,26 @@ pub(crate) struct Sight<'a> {
     plain: Plain,
 }
 
+/// A message with one tag before a run and another after it.
+fn tagged(
+    alloc: Global,
+    message: &[u8],
+    run: Run,
+    before: &str,
+    behind: &str,
+) -> Result<Vec<u8>, AllocError> {
+    joined(
+        alloc,
+        &[
+            between(message, 0, run.from),
+            before.as_bytes(),
+            between(message, run.from, run.end),
+            behind.as_bytes(),
+            between(message, run.end, message.len()),
+        ],
+    )
+}
+
 impl<'a> Sight<'a> {
     /// A message that a sign accepts.
     pub(crate) fn of(
@@ -255,23 +275,8 @@ impl<'a> Sight<'a> {
         PageColours::new(self.alloc, self.sign, &mut checked, page, moment)?.octets(self.alloc)
     }
 
-    /// The message with one tag before a run and another after it.
-    fn with_tags(&self, run: Run, before: &str, behind: &str) -> Result<Vec<u8>, AllocError> {
-        let message = self.message;
-        joined(
-            self.alloc,
-            &[
-                between(message, 0, run.from),
-                before.as_bytes(),
-                between(message, run.from, run.end),
-                behind.as_bytes(),
-                between(message, run.end, message.len()),
-            ],
-        )
-    }
-
-    /// The message in which a run is never lit, so that nothing of it covers what is below it.
-    fn without(&self, run: Run) -> Result<Vec<u8>, AllocError> {
+    /// A message in which a run is never lit, so that nothing of it covers what is below it.
+    fn without(&self, message: &[u8], run: Run) -> Result<Vec<u8>, AllocError> {
         let (tag, first, second) = match run.look.flash {
             Some(flash) if flash.off_first => ("[flo{}t{}]", flash.off, flash.on),
             Some(flash) => ("[flt{}o{}]", flash.on, flash.off),
@@ -279,14 +284,14 @@ impl<'a> Sight<'a> {
         };
         let times = [Number(first.into()), Number(second.into())];
         let behind = sentence_of(self.alloc, tag, &times)?;
-        self.with_tags(run, "[flt0o1]", &behind)
+        tagged(self.alloc, message, run, "[flt0o1]", &behind)
     }
 
-    /// The message in which a run has the colour of a tag.
-    fn coloured(&self, run: Run, tag: &str) -> Result<Vec<u8>, AllocError> {
+    /// A message in which a run has the colour of a tag.
+    fn coloured(&self, message: &[u8], run: Run, tag: &str) -> Result<Vec<u8>, AllocError> {
         let fore = Number(run.look.fore.into());
         let behind = sentence_of(self.alloc, "[cf{}]", &[fore])?;
-        self.with_tags(run, tag, &behind)
+        tagged(self.alloc, message, run, tag, &behind)
     }
 
     /// The moments of a page at which something of it begins to be lit.
@@ -328,14 +333,52 @@ impl<'a> Sight<'a> {
         if self.plain.shows_text() {
             return Ok(true);
         }
-        let without = self.without(run)?;
+        let without = self.without(self.message, run)?;
         Ok(!self.are_alike(self.message, &without, run.look.page)?)
     }
 
     /// Whether what stands after a run covers all of it.
     pub(crate) fn is_covered(&self, run: Run) -> Result<bool, AllocError> {
-        let (dark, lit) = (self.coloured(run, "[cf0]")?, self.coloured(run, "[cf1]")?);
+        let dark = self.coloured(self.message, run, "[cf0]")?;
+        let lit = self.coloured(self.message, run, "[cf1]")?;
         self.are_alike(&dark, &lit, run.look.page)
+    }
+
+    /// How many pixels of a run are seen in a message when it begins to be lit.
+    fn pixels_seen(&self, message: &[u8], run: Run) -> Result<usize, AllocError> {
+        let dark = self.coloured(message, run, "[cf0]")?;
+        let lit = self.coloured(message, run, "[cf1]")?;
+        let (page, moment) = (run.look.page, run.first_lit());
+        let first = self.colours(&dark, page, moment)?;
+        let second = self.colours(&lit, page, moment)?;
+        let mut count: usize = 0;
+        for (pixel, colour) in first.iter().enumerate() {
+            if second.get(pixel).is_some_and(|other| *other != *colour) {
+                count = count.saturating_add(1);
+            }
+        }
+        Ok(count)
+    }
+
+    /// The message in which the text of a page that stands after a run is never lit.
+    fn without_later(&self, run: Run) -> Result<Vec<u8>, AllocError> {
+        let mut message = self.message.to_vec(self.alloc)?;
+        for other in self.runs.iter().rev() {
+            if other.from > run.from && other.look.page == run.look.page {
+                message = self.without(&message, *other)?;
+            }
+        }
+        Ok(message)
+    }
+
+    /// Whether text that stands after a run covers a part of it.
+    pub(crate) fn is_partly_covered(&self, run: Run) -> Result<bool, AllocError> {
+        if self.plain.shows_text() {
+            return Ok(false);
+        }
+        let without = self.without_later(run)?;
+        let alone = self.pixels_seen(&without, run)?;
+        Ok(self.pixels_seen(self.message, run)? < alone)
     }
 
     /// The pages among so many first ones, counted from 0, on which nothing is lit.

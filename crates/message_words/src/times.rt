@@ -7,7 +7,7 @@ ghost use Rattle.multi_meaning.specs.Address.{Standing};
 ghost use Rattle.multi_meaning.specs.Meaning.{Meaning, meaning, said_by};
 ghost use Rattle.multi_meaning.specs.Times.{times_at};
 ghost use Rattle.multi_meaning.specs.internal.Present.{standing_behind};
-ghost use Rattle.message_change.specs.internal.Walk.{IsSaid, is_page_said};
+ghost use Rattle.multi_layout.specs.Items.{IsSaid, is_page_said};
 ghost use Rattle.message_words.specs.PageTimes.{AreTimes, default_times, times_data};
 
 use multi_tag::{Tag, read_tag};
@@ -70,7 +70,7 @@ impl Times {
 }
 
 /// The token at an offset of a message, if one is spelled there.
-fn token_at(source: &mut Source<'_>, at: usize) -> Option<Token>
+pub(crate) fn token_at(source: &mut Source<'_>, at: usize) -> Option<Token>
     requires { at ≤ length source.old.octets }
     ensures token { IfSome result (λ token. (token.at ≡ at) × IsTokenOf source.old.octets token) }
     ensures none { IfNone result (HasNoItem (drop at source.old.octets)) }
@@ -83,7 +83,7 @@ fn token_at(source: &mut Source<'_>, at: usize) -> Option<Token>
 }
 
 /// What a token says, if its tag isn't at fault. A character says what the tag 'hc' with its number does.
-fn said_by(source: &mut Source<'_>, token: &Token) -> Option<Tag>
+pub(crate) fn said_by(source: &mut Source<'_>, token: &Token) -> Option<Tag>
     requires { IsTokenOf source.old.octets token.now }
     ensures said { IsSaid (meaning (item_of source.old.octets token.now)) result }
     ensures kept { source.new.octets ≡ source.old.octets }

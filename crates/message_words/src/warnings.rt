@@ -1,17 +1,17 @@
-//! What the writer of an accepted message can't have meant.
-ghost use Rattle.std.specs.Prelude.{◌≡◌, ◌∷◌, [], ◌++◌, ◌<◌, ◌≤◌, ℕ, IfOk, OnOk, length};
-ghost use Rattle.std.specs.List.{Contains};
-ghost use Rattle.message_words.specs.Places.{places};
+//! What the writer of an accepted message can hardly have meant, or what is hard to read.
+ghost use Rattle.std.specs.Prelude.{◌≡◌, ◌++◌, ◌<◌, ◌≤◌, List, All, IfOk, OnOk, length};
+ghost use Rattle.message_words.specs.Warned.{AreWarnings, IsSeen, is_seen};
+ghost use Rattle.message_words.specs.declared.warnings.Warning.{Warning};
 
+use crate::code::{CODES, WarningCode};
+use crate::decided::decided;
 use crate::piece::tag_of;
 use crate::plain::is_seen_in;
-use crate::sentence::Value::{Hex, Number};
+use crate::sentence::Value::Number;
 use crate::sentence::{Value, sentence_of};
-use crate::sight::Sight;
-use crate::times::Times;
+use crate::sight::{Run, Sight};
 use multi_layout::Checked;
-use multi_tag::{FontPick, Tag};
-use multi_token::Source;
+use multi_tag::Tag;
 use sign_font::Sign;
 use std::alloc::{AllocError, Global};
 
@@ -20,6 +20,8 @@ use std::alloc::{AllocError, Global};
 pub struct Warning {
     /// The octet where it stands, counted from 0.
     pub at: usize,
+    /// What it is on.
+    pub code: WarningCode,
     /// A sentence.
     pub words: String,
 }
@@ -33,14 +35,14 @@ pub struct Findings {
     pub flashes: bool,
 }
 
-/// The least time for which a page is shown without a warning, in tenths of a second (own).
-const LEAST: u8 = 5;
-
 /// The number of the space.
 const SPACE: u16 = 32;
 
 /// The number of left justification (NTCIP 1203 v03, MULTI tag 'jl').
 const LEFT: u8 = 2;
+
+/// The number of right justification (NTCIP 1203 v03, MULTI tag 'jl').
+const RIGHT: u8 = 4;
 
 /// What has been read of a message.
 #[derive(Drop)]
@@ -48,25 +50,21 @@ struct Reading<'a> {
     alloc: Global,
     sign: &'a Sign,
     message: &'a [u8],
-    /// The sum of the times of its pages, and how many it has.
-    cycle: u32,
+    /// The codes that are told.
+    told: [bool; CODES],
+    /// How many pages it has.
     pages: u8,
     found: Findings,
     /// The page, counted from 0, and the octet where it begins.
     page: u8,
     begin: usize,
-    /// The octet of the last tag that set page times, and the times in force.
-    times_at: usize,
-    times: Times,
     line_just: u8,
     /// The octet of the space that is the last character of the line so far, if it is one, after another character.
     space: Option<usize>,
+    /// The octet of the space with which the line begins, if it begins with one.
+    lead: Option<usize>,
     /// Whether the line has a character that is no space.
     is_begun: bool,
-    /// Whether a font was asked for without its version.
-    is_asked: bool,
-    /// Whether a monochrome sign was asked for a colour.
-    is_coloured: bool,
     /// Whether no tag so far can hide text, and each page before this one has a character that is no space.
     is_plain: bool,
     /// Whether this page has one.
@@ -78,13 +76,19 @@ struct Reading<'a> {
 impl<'a> Reading<'a> {
     /// A message before its first item.
     #[inline(always)]
-    fn new(alloc: Global, sign: &'a Sign, message: &'a [u8], cycle: u32, pages: u8) -> Reading<'a> {
+    fn new(
+        alloc: Global,
+        sign: &'a Sign,
+        message: &'a [u8],
+        told: [bool; CODES],
+        pages: u8,
+    ) -> Reading<'a> {
         let defaults = sign.defaults();
         Reading {
             alloc,
             sign,
             message,
-            cycle,
+            told,
             pages,
             found: Findings {
                 warnings: Vec::new(alloc),
@@ -92,65 +96,67 @@ impl<'a> Reading<'a> {
             },
             page: 0,
             begin: 0,
-            times_at: 0,
-            times: Times::usual(sign),
             line_just: defaults.line,
             space: None,
+            lead: None,
             is_begun: false,
-            is_asked: false,
-            is_coloured: false,
             is_plain: is_seen_in(sign, defaults.fore),
             has_text: false,
             is_flashing: false,
         }
     }
 
-    /// Adds a warning.
-    fn warn(&mut self, at: usize, words: String) -> Result<(), AllocError>
-        ensures { OnOk result (places self.new.found.warnings.items ≡ places self.old.found.warnings.items ++ at ∷ []) }
-    {
-        Ok(self.found.warnings.push(Warning { at, words })?)
-    }
-
-    /// Adds a warning in a sentence with these values.
-    fn say(&mut self, at: usize, sentence: &str, values: &[Value<'_>]) -> Result<(), AllocError>
-        ensures { OnOk result (places self.new.found.warnings.items ≡ places self.old.found.warnings.items ++ at ∷ []) }
-    {
+    /// Adds a warning in a sentence with these values, if its code is told.
+    fn say(
+        &mut self,
+        at: usize,
+        code: WarningCode,
+        sentence: &str,
+        values: &[Value<'_>],
+    ) -> Result<(), AllocError> {
+        if !code.is_told(self.told) {
+            return Ok(());
+        }
         let words = sentence_of(self.alloc, sentence, values)?;
-        self.warn(at, words)
+        Ok(self.found.warnings.push(Warning { at, code, words })?)
     }
 
     /// Ends a line.
     #[inline(always)]
     fn end_line(&mut self) -> Result<(), AllocError> {
+        if self.space.is_some() || self.lead.is_some() {
+            self.look_at_spaces()?;
+        }
+        self.space = None;
+        self.lead = None;
+        self.is_begun = false;
+        Ok(())
+    }
+
+    /// Warns of spaces at the ends of a line that move what stands between them.
+    #[inline(never)]
+    fn look_at_spaces(&mut self) -> Result<(), AllocError> {
+        if let Some(at) = self.lead {
+            if self.is_begun && self.line_just != RIGHT {
+                self.say(
+                    at,
+                    WarningCode::SpaceAtBegin,
+                    "a space at the beginning of the line takes room and moves the line",
+                    &[],
+                )?;
+            }
+        }
         if let Some(at) = self.space {
             if self.line_just > LEFT {
                 self.say(
                     at,
+                    WarningCode::SpaceAtEnd,
                     "a space at the end of the line takes room and moves the line",
                     &[],
                 )?;
             }
         }
-        self.space = None;
-        self.is_begun = false;
         Ok(())
-    }
-
-    /// Ends a page of a message of more than one.
-    #[inline(never)]
-    fn end_page(&mut self) -> Result<(), AllocError> {
-        let Times { on, .. } = self.times;
-        if on >= LEAST || self.cycle == 0 {
-            return Ok(());
-        }
-        let sentence = if on == 0 {
-            "page {} is never shown"
-        } else {
-            "page {} is shown for 0.{} seconds only"
-        };
-        let values = [self.page_number(), Number(on.into())];
-        self.say(self.times_at, sentence, &values)
     }
 
     /// The number of the page, counted from 1.
@@ -167,8 +173,17 @@ impl<'a> Reading<'a> {
             self.has_text = true;
             self.is_begun = true;
             self.space = None;
-        } else if self.is_begun && self.space.is_none() {
+        } else if !self.is_begun {
+            self.begin_with_space(at);
+        } else if self.space.is_none() {
             self.space = Some(at);
+        }
+    }
+
+    /// Passes a space before the first other character of a line.
+    fn begin_with_space(&mut self, at: usize) {
+        if self.lead.is_none() {
+            self.lead = Some(at);
         }
     }
 
@@ -177,6 +192,9 @@ impl<'a> Reading<'a> {
     fn pass_text(&mut self, text: &[u8], rest: &[u8]) {
         if self.is_flashing {
             self.found.flashes = true;
+        }
+        if !self.is_begun && text.first() == Some(&b' ') {
+            self.begin_with_space(self.offset(rest));
         }
         let last = text.iter().rposition(|octet| *octet != b' ');
         let end = match last {
@@ -191,45 +209,6 @@ impl<'a> Reading<'a> {
         if end < text.len() && self.is_begun && self.space.is_none() {
             self.space = Some(self.offset(rest).saturating_add(end));
         }
-    }
-
-    /// Passes a font that is asked for.
-    #[inline(never)]
-    fn pass_font(&mut self, pick: FontPick, at: usize) -> Result<(), AllocError> {
-        let mut source = Source::new(b"");
-        let (Some(font), None, false) = (
-            self.sign.font(&mut source, pick.number),
-            pick.version,
-            self.is_asked,
-        ) else {
-            return Ok(());
-        };
-        if font.version == 0 {
-            // its maker gave it no version
-            return Ok(());
-        }
-        self.is_asked = true;
-        let number = Number(pick.number.into());
-        let version = Hex(font.version.into());
-        self.say(
-            at,
-            "any version of font {} is taken; [fo{},{}] asks for this one",
-            &[number, number, version],
-        )
-    }
-
-    /// Passes a colour of characters that is asked for.
-    #[inline(never)]
-    fn pass_colour(&mut self, colour: u8, at: usize) -> Result<(), AllocError> {
-        if colour == 0 || self.is_coloured || self.sign.classic() {
-            return Ok(());
-        }
-        self.is_coloured = true;
-        self.say(
-            at,
-            "this sign has no colours: after [cf{}] characters are lit, and after [cf0] dark",
-            &[Number(colour.into())],
-        )
     }
 
     /// The offset at which the last octets of the message begin.
@@ -248,13 +227,6 @@ impl<'a> Reading<'a> {
         self.begin = self.offset(behind);
         self.page = self.page.saturating_add(1);
         Ok(())
-    }
-
-    /// Passes a tag with page times, which stands at an offset.
-    #[inline(always)]
-    fn pass_times(&mut self, times: Times, at: usize) {
-        self.times_at = at;
-        self.times = times;
     }
 
     /// Passes a tag that ends no line and needs no warning.
@@ -299,14 +271,6 @@ impl<'a> Reading<'a> {
                 self.is_plain = false;
                 return self.end_line();
             }
-            Tag::PageTime { on, off } => {
-                self.pass_times(Times::of_tag(self.sign, on, off), self.offset(rest));
-            }
-            Tag::Font(Some(pick)) => return self.pass_font(pick, self.offset(rest)),
-            Tag::Fore(Some(colour)) => {
-                self.set(tag);
-                return self.pass_colour(colour, self.offset(rest));
-            }
             Tag::HexChar(number) => self.pass_character(number, self.offset(rest)),
             _ => self.set(tag),
         }
@@ -321,6 +285,7 @@ impl<'a> Reading<'a> {
         }
         self.say(
             self.begin,
+            WarningCode::DarkPage,
             "nothing is lit on page {}",
             &[self.page_number()],
         )
@@ -332,12 +297,7 @@ impl<'a> Reading<'a> {
         if !dark.is_empty() {
             self.look_at_page(dark)?;
         }
-        let Times { on, .. } = self.times;
-        if self.pages == 1 || on >= LEAST {
-            Ok(())
-        } else {
-            self.end_page()
-        }
+        Ok(())
     }
 
     /// Passes what begins with a bracket: a tag, or a doubled bracket. It gives what stands after it. On these pages nothing is lit.
@@ -383,20 +343,39 @@ impl<'a> Reading<'a> {
         self.look_back(dark)
     }
 
-    /// Warns of text that isn't seen.
+    /// Warns of text that isn't seen, or of which a part is covered.
+    fn look_at_run(&mut self, sight: &Sight<'a>, run: Run) -> Result<(), AllocError> {
+        let (code, words) = if sight.is_seen(run)? {
+            if !sight.is_partly_covered(run)? {
+                return Ok(());
+            }
+            (
+                WarningCode::OverText,
+                "a part of this text can't be seen: text behind it covers it",
+            )
+        } else if run.is_never_lit() {
+            (
+                WarningCode::UnlitText,
+                "this text is never lit: its flash has no on time",
+            )
+        } else if sight.is_covered(run)? {
+            (
+                WarningCode::CoveredText,
+                "this text can't be seen: what comes behind it covers it",
+            )
+        } else {
+            (
+                WarningCode::SameColour,
+                "this text can't be seen: it has the colour of what it covers",
+            )
+        };
+        self.say(run.from, code, words, &[])
+    }
+
+    /// Looks at all text that was gathered.
     fn look_at_text(&mut self, sight: &Sight<'a>) -> Result<(), AllocError> {
         for run in &sight.runs {
-            if sight.is_seen(*run)? {
-                continue;
-            }
-            let words = if run.is_never_lit() {
-                "this text is never lit: its flash has no on time"
-            } else if sight.is_covered(*run)? {
-                "this text can't be seen: what comes behind it covers it"
-            } else {
-                "this text can't be seen: it has the colour of what it covers"
-            };
-            self.say(run.from, words, &[])?;
+            self.look_at_run(sight, *run)?;
         }
         Ok(())
     }
@@ -407,11 +386,11 @@ impl<'a> Reading<'a> {
             alloc,
             sign,
             message,
-            cycle,
+            told,
             pages,
             ..
         } = *self;
-        *self = Reading::new(alloc, sign, message, cycle, pages);
+        *self = Reading::new(alloc, sign, message, told, pages);
         self.read(dark)
     }
 
@@ -426,68 +405,58 @@ impl<'a> Reading<'a> {
         self.look_at_text(&sight)
     }
 
-    /// Warns of a message of so many octets that the message table doesn't take it.
-    fn look_at_length(&mut self, octets: usize, max_string: u16) -> Result<(), AllocError>
-        ensures { OnOk result (max_string < octets → Contains (places self.new.found.warnings.items) max_string) }
-    {
-        let most = usize::from(max_string);
-        if octets > most {
-            let sizes = [Number(octets as u64), Number(max_string.into())];
-            self.say(
-                most,
-                "the message has {} octets, and the sign's message table takes texts of at most {}",
-                &sizes,
-            )?;
-        }
-        Ok(())
-    }
-
-    /// Warns of an off time that no page has.
-    fn look_at_off(&mut self) -> Result<(), AllocError>
-        ensures { OnOk result ((at : ℕ) → Contains (places self.old.found.warnings.items) at
-            → Contains (places self.new.found.warnings.items) at) }
-    {
-        let Times { off, .. } = self.times;
-        if self.pages != 1 || off == 0 || off == self.sign.defaults().page_off {
-            return Ok(());
-        }
-        self.say(
-            self.times_at,
-            "the off time does nothing: a message of one page is shown all the time",
-            &[],
-        )?;
-        Ok(())
-    }
-
-    /// Looks for all warnings on the message, which has so many octets.
-    fn look(&mut self, octets: usize, max_string: u16) -> Result<(), AllocError>
-        ensures { OnOk result (max_string < octets → Contains (places self.new.found.warnings.items) max_string) }
-    {
+    /// Looks at the message.
+    fn look(&mut self) -> Result<(), AllocError> {
         self.read(b"")?;
         if !self.is_plain || !self.has_text {
             self.look_closely()?;
         }
-        self.look_at_length(octets, max_string)?;
-        self.look_at_off()?;
         Ok(())
     }
 }
 
-/// The warnings on a message that a sign accepts (own): a text longer than the message table takes, an off time with one page, a page that
-/// is shown for less than half a second or on which nothing is lit, a space at the end of a line that moves it, a font with a version that
-/// isn't asked for, a colour of characters on a monochrome sign, and text that can't be seen. What the sign made of the message is handed
-/// in. The warning on a text that is too long for the message table stands at the first octet too many. The error says that memory was
-/// refused.
+/// Whether warnings with a code are told, and found by drawing pages or by how spaces stand.
+fn is_seen(code: WarningCode, told: [bool; CODES]) -> bool
+    ensures { result ≡ is_seen told code }
+{
+    !code.is_decided() && code.is_told(told)
+}
+
+/// Adds the warnings that were found by drawing pages and by how spaces stand.
+fn add_seen(
+    found: &mut Vec<Warning>,
+    seen: Vec<Warning>,
+    told: [bool; CODES],
+) -> Result<(), AllocError>
+    ensures { OnOk result ((more : List Warning) × All (IsSeen told) more × (found.new.items ≡ found.old.items ++ more)) }
+{
+    for warning in seen {
+        if is_seen(warning.code, told) {
+            found.push(warning)?;
+        }
+    }
+    Ok(())
+}
+
+/// The warnings on a message that a sign accepts (own), of those codes that are told; `docs/writing.md` has each code with its limit. What
+/// the sign made of the message is handed in. The error says that memory was refused.
 pub fn warnings_on(
     alloc: Global,
     sign: &Sign,
     message: &[u8],
     checked: &Checked<'_>,
     max_string: u16,
+    told: [bool; CODES],
 ) -> Result<Findings, AllocError>
-    ensures { IfOk result (λ found. max_string < length message.now → Contains (places found.warnings.items) max_string) }
+    ensures { IfOk result (λ found. AreWarnings told sign.now max_string message.now found.warnings.items) }
 {
-    let mut reading = Reading::new(alloc, sign, message, checked.cycle(), checked.pages());
-    reading.look(message.len(), max_string)?;
-    Ok(reading.found)
+    let mut warnings = decided(alloc, sign, message, max_string, told)?;
+    let mut reading = Reading::new(alloc, sign, message, told, checked.pages());
+    reading.look()?;
+    let Findings {
+        warnings: seen,
+        flashes,
+    } = reading.found;
+    add_seen(&mut warnings, seen, told)?;
+    Ok(Findings { warnings, flashes })
 }

@@ -94,7 +94,7 @@ pub use Rattle.multi_layout.specs.internal.AreaDrawing.{BeginsNoArea, HasCounted
 pub use Rattle.multi_layout.specs.internal.AreaReading.{IsNextRead, IsReadOf, next_steps, EndsGroup, ReadsOn, KnowsArea, KnowsOn}
 pub use Rattle.multi_layout.specs.internal.Cursors.{IsBetween, IsFirst, IsItemRead, IsRead, items_of, meant, LaidItem, spell_of, IsPlaced, laid_meanings, IsPieceFirst, pieces_of, PassesTag}
 pub use Rattle.multi_layout.specs.internal.PageDrawing.{IsFilledFew, IsPagePassed, IsPageStart, IsStartOf, IsReadTwice}
-pub use Rattle.multi_layout.specs.internal.Passing.{IsAtPage, IsOnTheWay, IsPageSkipped, IsPassing, unplaced, IsAtStart}
+pub use Rattle.multi_layout.specs.internal.Passing.{IsAtPage, IsPageSkipped, IsRestRead, IsTurnAt, IsPassing, unplaced, IsAtStart}
 pub use Rattle.multi_layout.specs.internal.RunDrawing.{DrawsNext, IsBeside, IsNextDrawn, IsRunDrawn, StandsAt, DrawsCharacter, NextStandsAt}
 pub use Rattle.multi_layout.specs.internal.Told.{IsTold, IsToldOf}
 pub use Rattle.multi_meaning.proofs.ItemAtLemmas.{does_tag, fault_there, item_few}

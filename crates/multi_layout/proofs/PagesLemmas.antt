@@ -17,12 +17,16 @@ pub record IsClockOf (sign : SignData) (items : List Meaning) (state : State) : 
   pub times : state.cycle ≡ cycle (ended_times sign items)
   pub attributes : state.attributes ≡ attributes_of (standing sign items)
 
-clock_of : {sign : SignData} {octets : List ℕ} {before behind : List Item} {cursor : Cursor} → IsPassing sign octets before behind cursor → IsClockOf sign (map meaning before) cursor.state
+pub clock_of : {sign : SignData} {octets : List ℕ} {before behind : List Item} {cursor : Cursor} → IsPassing sign octets before behind cursor → IsClockOf sign (map meaning before) cursor.state
 clock_of {sign} {before = before} p = grind (arith, same_unplaced sign (map meaning before))
 
 -- the items of the string, as they are meant
 all_meant : {sign : SignData} {octets : List ℕ} {before behind : List Item} {cursor : Cursor} → IsPassing sign octets before behind cursor → map meaning before ++ map meaning behind ≡ meanings octets
 all_meant {sign} {octets} {before} {behind} p = sym (map-append meaning before behind) ∙ same_meanings sign octets (before ++ behind) p.placed.accepted
+
+-- it is at least the first
+pub at_least : {sign : SignData} {octets : List ℕ} {cursor : Cursor} → IsAtPage sign octets cursor → 1 ≤ cursor.state.pages
+at_least p = omega (arith, (clock_of p.between).pages)
 
 -- where a page begins the cursor stands between pieces
 pub page_starts : {sign : SignData} {octets : List ℕ} {cursor : Cursor} → IsAtPage sign octets cursor → IsOrderly sign (laid_out sign (meanings octets)) → IsPageStart sign octets cursor

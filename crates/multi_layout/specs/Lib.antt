@@ -1,4 +1,7 @@
+pub mod Change
 pub mod CheckedData
+pub mod Finding
+pub mod Items
 pub mod Lending
 pub mod Limits
 pub mod NextPage

@@ -32,7 +32,7 @@ pub use Rattle.multi_layout.specs.internal.AreaDrawing.{IsPageDrawn, HasCounted,
 pub use Rattle.multi_layout.specs.internal.AreaReading.{EndsGroup, IsNextRead, IsReadOf, KnowsArea, KnowsOn, ReadsOn, next_steps}
 pub use Rattle.multi_layout.specs.internal.Cursors.{PassesTag, IsBetween, IsItemRead, IsRead, IsWithin, LaidItem}
 pub use Rattle.multi_layout.specs.internal.PageDrawing.{IsFilledFew, IsPagePassed, IsPageStart, IsReadTwice, IsStartOf}
-pub use Rattle.multi_layout.specs.internal.Passing.{IsAtStart, IsOnTheWay, IsPageSkipped}
+pub use Rattle.multi_layout.specs.internal.Passing.{IsAtPage, IsAtStart, IsPageSkipped, IsRestRead, IsTurnAt}
 pub use Rattle.multi_layout.specs.internal.RunDrawing.{DrawsNext, IsNextDrawn, DrawsCharacter}
 pub use Rattle.multi_layout.specs.Limits.{check_limit, reading_limit, drawing_limit}
 pub use Rattle.multi_layout.specs.NextPage.{IsNextPage, IsReadOn}

@@ -2,12 +2,15 @@
 //! each.
 
 ghost use Rattle.std.specs.Prelude.{◌≡◌, ℕ, ◌+◌, ◌<◌, length};
-ghost use Rattle.multi_layout.specs.Prelude.{RisesBetween, Lights, picture, shown, Accepted, IsVerdict, IsCycle, check_limit, reading_limit, IsNextPage, IsReadOn, IsSized, TakesFew, page_count, IsFilledFew, IsStartOf, IsAtStart, IsToldOf, CheckedData};
+ghost use Rattle.multi_layout.specs.Finding.{change_steps, finding_steps};
+ghost use Rattle.multi_layout.specs.Change.{change_at};
+ghost use Rattle.multi_layout.specs.Prelude.{RisesBetween, charged, meanings, Lights, picture, shown, Accepted, IsVerdict, IsCycle, check_limit, reading_limit, IsNextPage, IsReadOn, IsSized, TakesFew, page_count, IsFilledFew, IsStartOf, IsAtStart, IsToldOf, CheckedData};
 
 use crate::cursor::Cursor;
 use crate::draw::draw_page;
 use crate::paint::Layer;
 use crate::read::AreaLines;
+use crate::turn::find_turn;
 use multi_judge::Terms;
 use multi_meaning::Shown;
 use multi_token::Source;
@@ -68,16 +71,35 @@ impl<'a> Checked<'a> {
     /// What the string shows at a clock, in tenths of a second since it began to be shown.
     ///
     /// A string with one page or a cycle of 0 always shows page 0, with the clock as its phase. Otherwise the clock is taken
-    /// modulo the cycle: each page in turn is shown for its on time, and then nothing for its off time, over and over. This
-    /// takes at most 9n + 1 steps over a string of n octets, and none where it has one page.
+    /// modulo the cycle: each page in turn is shown for its on time, and then nothing for its off time, over and over. Where it is page
+    /// 0 always this takes no step; else the pages up to that one are passed, in at most 9n + 1 steps for n octets.
     pub fn locate(&mut self, clock: u64) -> Shown
         ensures shown { result ≡ shown self.old.sign self.old.source.octets clock }
         ensures kept { self.new.sign ≡ self.old.sign }
-        ensures steps { RisesBetween self.old.source self.new.source 0 (check_limit (length self.old.source.octets)) }
+        ensures steps { self.new.source ≡ charged self.old.source (finding_steps self.old.sign self.old.source.octets clock) }
+        ensures most { RisesBetween self.old.source self.new.source 0 (check_limit (length self.old.source.octets)) }
         ensures one { page_count self.old ≡ 1 → self.new.source ≡ self.old.source }
     {
         let mut start = Cursor::new(&self.terms);
         find_shown(&self.terms, &mut self.source, self.told, clock, &mut start)
+    }
+
+    /// For how many tenths of a second from a clock on what the string shows stays as it is: up to the end of the page's on time or of its
+    /// off time, or to the next change of one of its flashes, whichever comes first. `None` if it never changes.
+    ///
+    /// The pages up to the one at the clock are passed, in at most 9n + 1 steps for n octets. Nothing is drawn.
+    pub fn next_change(&mut self, clock: u64) -> Option<u64>
+        ensures change { result ≡ change_at self.old.sign (meanings self.old.source.octets) clock }
+        ensures kept { self.new.sign ≡ self.old.sign }
+        ensures steps { self.new.source ≡ charged self.old.source (change_steps self.old.sign self.old.source.octets clock) }
+        ensures most { RisesBetween self.old.source self.new.source 0 (check_limit (length self.old.source.octets)) }
+    {
+        let (sign, source, told) = (&self.terms, &mut self.source, self.told);
+        let mut start = Cursor::new(sign);
+        if told.pages == 1 || told.cycle == 0 {
+            return start.pass_page::<true>(sign, source, clock);
+        }
+        find_turn::<true>(sign, source, told, clock, &mut start).left()
     }
 
     /// The first page of the string, which [`Checked::draw_next`] draws. This takes no step.
@@ -133,6 +155,7 @@ pub(crate) fn find_shown(
     ensures shown { result ≡ shown sign.now source.old.octets clock }
     ensures begins { IsStartOf sign.now source.old.octets result start.new }
     ensures steps { RisesBetween source.old source.new 0 (check_limit (length source.old.octets)) }
+    ensures counted { source.new ≡ charged source.old (finding_steps sign.now source.old.octets clock) }
     ensures one { told.pages ≡ 1 → source.new ≡ source.old }
 {
     if told.pages == 1 || told.cycle == 0 {
@@ -141,21 +164,12 @@ pub(crate) fn find_shown(
             phase: clock,
         };
     }
-    let time = clock % u64::from(told.cycle);
-    loop {
-        let mut behind = *start;
-        behind.pass_page(sign, source);
-        let phase = time - u64::from(start.state.cycle);
-        let on = u64::from(behind.state.attributes.on);
-        let off = u64::from(behind.state.attributes.off);
-        if phase < on {
-            let page = start.state.pages - 1;
-            return Shown::Page { page, phase };
-        }
-        let over = phase - on;
-        if over < off {
-            return Shown::Off;
-        }
-        *start = behind;
+    let turn = find_turn::<false>(sign, source, told, clock, start);
+    if turn.phase >= u64::from(turn.on) {
+        return Shown::Off;
+    }
+    Shown::Page {
+        page: start.state.pages - 1,
+        phase: turn.phase,
     }
 }

@@ -1,9 +1,12 @@
 //! The way through an accepted string, from item to item.
 
-ghost use Rattle.std.specs.Prelude.{◌≡◌, None, Some, ℕ, ◌+◌, ◌-◌, ◌*◌, ◌<◌, ◌≤◌, ◌==◌, if◌then◌else◌, ◌^◌, List, slice_get};
-ghost use Rattle.multi_layout.specs.Prelude.{RisesBetween, IsSound, Meaning, unsized_offence, meant_by, IsReady, IsStateOf, PassesTag, IsAtStart, IsOnTheWay, IsPageSkipped, IsItemAt, IsWithin};
+ghost use Rattle.std.specs.Prelude.{◌≡◌, None, Some, true, ℕ, ◌+◌, ◌-◌, ◌*◌, ◌<◌, ◌≤◌, ◌==◌, if◌then◌else◌, ◌^◌, List, slice_get};
+ghost use Rattle.multi_layout.specs.Prelude.{RisesBetween, charged, IsSound, Meaning, meanings, looks, unsized_offence, meant_by, IsReady, IsStateOf, PassesTag, IsAtPage, IsAtStart, IsPageSkipped, IsItemAt, IsRestRead, IsWithin};
+ghost use Rattle.multi_layout.specs.Change.{flashes_left, page_flashes};
+ghost use Rattle.multi_layout.specs.Finding.{page_steps};
 
 use crate::bracket::{is_bracket, read_spelled};
+use crate::flash::sooner_with;
 use multi_judge::{KnownItem, NextItem, State, Terms, judge_tag};
 use multi_tag::Tag;
 use multi_token::Source;
@@ -28,24 +31,43 @@ impl Cursor {
     }
 
     /// Goes past the page that begins here, and lays nothing out: after the `np` that ends it, or to the end of the string.
-    pub(crate) fn pass_page(&mut self, sign: &Terms<'_>, source: &mut Source<'_>)
-        requires { IsOnTheWay sign.now source.old.octets self.old }
+    ///
+    /// Where flashes are asked for, it tells the tenths of a second from a phase of the page to the next change of one of its flashes, if
+    /// one changes.
+    pub(crate) fn pass_page<const FLASHES: bool>(
+        &mut self,
+        sign: &Terms<'_>,
+        source: &mut Source<'_>,
+        phase: u64,
+    ) -> Option<u64>
+        requires begins { IsAtPage sign.now source.old.octets self.old }
         ensures passed { IsPageSkipped sign.now source.old.octets self.old self.new }
         ensures on { self.old.at ≤ self.new.at }
         ensures steps { RisesBetween source.old source.new 0
             (9 * (self.new.at - self.old.at) + (if self.new.state.pages == self.old.state.pages then 1 else 0)) }
+        ensures counted { source.new ≡ charged source.old (page_steps source.old.octets (self.old.state.pages - 1)) }
+        ensures soonest { FLASHES ≡ true
+            → result ≡ flashes_left phase (page_flashes sign.now (meanings source.old.octets) (self.old.state.pages - 1)) }
     {
+        let mut soonest = None;
         while let Some(first) = source.read(self.at) {
             let next = read_item(source, self.at, first);
+            soonest = sooner_with::<FLASHES>(
+                soonest,
+                next.item,
+                phase,
+                self.state.attributes.flash,
+            );
             if next.item.has_place() {
                 self.at += next.len;
                 continue;
             }
             self.pass_tag(sign, source, next);
             if next.item.ends_page() {
-                return;
+                return soonest;
             }
         }
+        soonest
     }
 
     /// Goes past the next item, a tag that was read, and puts what it says into force. It isn't put into its callers' code, since
@@ -60,6 +82,7 @@ impl Cursor {
         ensures passed { PassesTag sign.now (meant_by next.item) self.old.state self.new.state }
         ensures at { self.new.at ≡ self.old.at + next.len }
         ensures steps { RisesBetween source.old source.new 0 1 }
+        ensures looks { source.new ≡ charged source.old (looks (meant_by next.item)) }
     {
         let KnownItem::Tag(tag) = next.item else {
             unreachable!();
@@ -87,6 +110,7 @@ pub(crate) fn read_item(source: &mut Source<'_>, at: usize, first: u8) -> NextIt
     ensures item { IsItemAt source.old.octets at result.len (meant_by result.item) }
     ensures some { 1 ≤ result.len }
     ensures steps { RisesBetween source.old source.new 0 (9 * result.len - 9) }
+    ensures rest { IsRestRead source.old at source.new }
 {
     if !is_bracket(first) {
         let item = KnownItem::Char(u16::from(first));

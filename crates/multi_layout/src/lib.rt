@@ -9,13 +9,19 @@ mod bracket;
 mod checked;
 mod cursor;
 mod draw;
+mod flash;
+mod item;
 mod judge;
+mod laws;
 mod pages;
 mod paint;
 mod read;
+mod turn;
 mod verdict;
 
 pub use checked::{Checked, NextPage};
+pub use item::{StringItem, item_at};
+pub use laws::{comes_later, does_change, stays};
 pub use multi_meaning::{
     Shown, SyntaxError, broken_bracket_stands, item_refusal_stands, keeps_breaks, one_verdict,
     refusal_stands, smaller_fits,

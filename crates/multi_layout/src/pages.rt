@@ -1,7 +1,8 @@
 //! The drawing of one page of an accepted string, or of all its pages in order into one plane.
 
 ghost use Rattle.std.specs.Prelude.{◌≡◌, ◌+◌, ◌-◌, ◌*◌, ◌<◌, ◌≤◌, true, false, nat_lt, length, IfSome, MatchOption};
-ghost use Rattle.multi_layout.specs.Prelude.{sem, RisesBetween, Lights, meanings, picture, pixel_at, shown, check_limit, drawing_limit, reading_limit, IsSized, ShowsAt, TakesFew, page_count, IsToldOf, IsDrawnFew, IsReadFew, IsUnderWay, PagesState, pages_state};
+ghost use Rattle.multi_layout.specs.Finding.{finding_steps};
+ghost use Rattle.multi_layout.specs.Prelude.{sem, RisesBetween, charged, Lights, meanings, picture, pixel_at, shown, check_limit, drawing_limit, reading_limit, IsSized, ShowsAt, TakesFew, page_count, IsToldOf, IsDrawnFew, IsReadFew, IsUnderWay, PagesState, pages_state};
 
 use crate::checked::{Checked, NextPage, Told, find_shown};
 use crate::cursor::Cursor;
@@ -73,7 +74,7 @@ impl<'a> Checked<'a> {
         let (sign, source) = (&self.terms, &mut self.source);
         let mut cursor = Cursor::new(sign);
         while cursor.state.pages <= page {
-            cursor.pass_page(sign, source);
+            cursor.pass_page::<false>(sign, source, 0);
         }
         let mut next = NextPage { cursor };
         self.draw_next(&mut next, phase, colour, &mut AreaLines::new(), plane);
@@ -83,7 +84,7 @@ impl<'a> Checked<'a> {
     /// Draws what the string shows at a clock, and tells it as [`Checked::locate`] does: the plane gets the pixels that have the colour
     /// then. In an off time all have colour 0. The room for the lines of an area is lent. The plane must have the sign's size.
     ///
-    /// This takes at most the steps of [`Checked::locate`] and [`Checked::draw`] together.
+    /// This takes the steps of [`Checked::locate`], and at most those that [`Checked::draw`] may take.
     pub fn draw_shown(
         &mut self,
         clock: u64,
@@ -98,6 +99,8 @@ impl<'a> Checked<'a> {
         ensures size { (plane.new.width ≡ plane.old.width) × (plane.new.height ≡ plane.old.height) }
         ensures steps { RisesBetween self.old.source self.new.source 0
             (check_limit (length self.old.source.octets) + reading_limit (length self.old.source.octets)) }
+        ensures found { RisesBetween (charged self.old.source (finding_steps self.old.sign self.old.source.octets clock))
+            self.new.source 0 (reading_limit (length self.old.source.octets)) }
         ensures plane_steps { TakesFew self.old.sign (length self.old.source.octets) plane.old plane.new }
     {
         let (sign, source) = (&self.terms, &mut self.source);
@@ -141,6 +144,8 @@ pub(crate) fn draw_told(
     ensures size { (plane.new.width ≡ plane.old.width) × (plane.new.height ≡ plane.old.height) }
     ensures steps { RisesBetween source.old source.new 0
         (check_limit (length source.old.octets) + reading_limit (length source.old.octets)) }
+    ensures found { RisesBetween (charged source.old (finding_steps sign.now source.old.octets clock)) source.new 0
+        (reading_limit (length source.old.octets)) }
     ensures plane_steps { TakesFew sign.now (length source.old.octets) plane.old plane.new }
 {
     let mut start = Cursor::new(sign);

@@ -1,6 +1,7 @@
 //! The verdict on a string, in one reading from the left with running sums.
 
 ghost use Rattle.std.specs.Prelude.{◌≡◌, ℕ, ◌+◌, ◌^◌, ◌<◌, ◌≤◌, [], length, IfOk, IfErr, OnOk, OnErr, None};
+ghost use Rattle.multi_layout.specs.Finding.{finding_steps};
 ghost use Rattle.multi_layout.specs.Prelude.{default_fault, under, FontData, SignData, judging_steps, code_of, Accepted, IsVerdict, Refused, check_limit, reading_limit, IsSized, ShowsAt, TakesFew, IsRefused, IsTold, IsAt, IsPassOf};
 
 use crate::bracket::is_bracket;
@@ -149,7 +150,8 @@ impl<'a> Judge<'a> {
         ensures undrawn { OnErr result (plane.new ≡ plane.old) }
         ensures size { IsSized plane.new self.now }
         ensures kept { source.new.octets ≡ source.old.octets }
-        ensures least { judging_steps self.now source.old.octets ≤ source.new.steps }
+        ensures least { OnOk result (judging_steps self.now source.old.octets + finding_steps self.now source.old.octets clock
+            ≤ source.new.steps) }
         ensures most { source.new.steps ≤ judging_steps self.now source.old.octets
             + check_limit (length source.old.octets) + reading_limit (length source.old.octets) }
         ensures fault_steps { OnErr result (source.new.steps ≡ judging_steps self.now source.old.octets) }

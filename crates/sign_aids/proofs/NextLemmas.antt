@@ -3,13 +3,12 @@ use Rattle.std.proofs.Common.{◌≡◌, ◌≢◌, ℕ, ◌+◌, ◌-◌, ◌<�
 use Rattle.std.specs.Io.KnownBytes.{Appends, Consumes, IsAtEnd, prepend_known}
 use Rattle.std.proofs.KnownBytes.{Appends-nil, Appends-trans, Consumes-nil, Consumes-trans}
 use Rattle.std.proofs.lemmas.List.{length-append, length-drop}
-use Rattle.message_cures.specs.declared.mending.Kind.{Kind}
 use Rattle.message_report.specs.Explanation.{Explains}
 use Rattle.message_report.specs.declared.format.Told.{Told}
 use Rattle.tool_streams.specs.declared.fault.ToolFault.{ToolFault}
 use Rattle.tool_streams.specs.declared.fault.ToolFault.TheVariants as faults
 use Rattle.tool_streams.specs.declared.lines.LineStart.{LineStart}
-use Rattle.sign_aids.specs.Explain.{Asking, BeginsAfter, ExplainsLines, IsMessageFault, proposed_one, refused_one}
+use Rattle.sign_aids.specs.Explain.{Asking, BeginsAfter, ExplainsLines, IsMessageFault, refused_one}
 use Rattle.sign_aids.specs.internal.Explaining.{EndsAfter, Explained, ExplainsLast, TellsLast, TellsMessage}
 use Rattle.tool_streams.specs.Blocks.{EndsWith, IsLineEnd}
 use Rattle.tool_streams.specs.Lines.{IsOneLine, octets_of, text_of}
@@ -22,7 +21,7 @@ module _ (asking : Asking) where
   -- ---- faults
 
   -- lines, and then a fault
-  pub begins_more : (place place' : LineStart) (input between input' output middle output' : Option (List ℕ)) → (ready : List ℕ) (messages refused mended : ℕ) (fault : ToolFault) → Explained asking place place' input between output middle [] ready messages refused mended
+  pub begins_more : (place place' : LineStart) (input between input' output middle output' : Option (List ℕ)) → (ready : List ℕ) (messages refused : ℕ) (mended : List Told) (fault : ToolFault) → Explained asking place place' input between output middle [] ready messages refused mended
       → BeginsAfter asking place' between input' middle output' ready fault → BeginsAfter asking place input input' output output' [] fault
   begins_more place place' input between input' output middle output' ready messages refused mended fault e f = record {
     lines = e.lines ++ f.lines;
@@ -40,9 +39,9 @@ module _ (asking : Asking) where
         subst (λ n. IsMessageFault n f.left f.more input' fault) number f.fault;
     last = f.last;
     text = e.text ++ f.text;
-    mended = mended + f.mended;
-    explains = subst (λ l. ExplainsLines asking place.number l (mended + f.mended) (e.text ++ f.text)) (sym (append_assoc e.lines f.lines f.told))
-        (lines_more asking place.number e.lines (f.lines ++ f.told) mended f.mended e.text f.text e.explains (subst (λ n. ExplainsLines asking n (f.lines ++ f.told) f.mended f.text) e.number f.explains));
+    tolds = mended ++ f.tolds;
+    explains = subst (λ l. ExplainsLines asking place.number l (mended ++ f.tolds) (e.text ++ f.text)) (sym (append_assoc e.lines f.lines f.told))
+        (lines_more asking place.number e.lines (f.lines ++ f.told) mended f.tolds e.text f.text e.explains (subst (λ n. ExplainsLines asking n (f.lines ++ f.told) f.tolds f.text) e.number f.explains));
     parts = parts_more e.sent f.sent [] ready f.unsent e.text f.text e.parts f.parts;
     writes = Appends-trans output middle output' e.sent f.sent e.writes f.writes;
     whole = f.whole;
@@ -64,7 +63,7 @@ module _ (asking : Asking) where
     most = most;
     fault = let number : place.number ≡ place.number + 0 = omega arith in subst (λ n. IsMessageFault n place.left taken input' fault) number is;
     last = inl refl;
-    mended = 0;
+    tolds = [];
     explains = (refl, refl);
     writes = writes;
     parts = refl;
@@ -83,7 +82,7 @@ module _ (asking : Asking) where
     most = most;
     fault = tt;
     last = inl refl;
-    mended = 0;
+    tolds = [];
     explains = (refl, refl);
     writes = writes;
     parts = all ∙ sym (append-nil ready);
@@ -91,9 +90,9 @@ module _ (asking : Asking) where
   }
 
   -- the writer fails at what is told of a line
-  pub begins_one : (place : LineStart) (left : ℕ) (input input' output output' : Option (List ℕ)) → (line more : List ℕ) (kept : Option Kind) (text ready : List ℕ) (e : ToolFault) → Consumes input input' ((line ++ 10 ∷ []) ++ more) → IsOneLine line
+  pub begins_one : (place : LineStart) (left : ℕ) (input input' output output' : Option (List ℕ)) → (line more : List ℕ) (kept : Told) (text ready : List ℕ) (e : ToolFault) → Consumes input input' ((line ++ 10 ∷ []) ++ more) → IsOneLine line
       → length line + 1 + left ≡ place.left → length more ≤ left + 1 → length (text_of line) ≤ 8300
-      → Explains asking.telling asking.sign asking.name (place.number - asking.before) (text_of line) kept text → WritesWhole output output' (ready ++ text) (Err e)
+      → Explains asking.telling asking.sign asking.most asking.name (place.number - asking.before) (text_of line) kept text → WritesWhole output output' (ready ++ text) (Err e)
       → BeginsAfter asking place input input' output output' ready e
   begins_one place left input input' output output' line more kept text ready e reads one room most short is (same, sent, unsent, writes, all) = subst (BeginsAfter asking place input input' output output' ready) (sym same) record {
     lines = line ∷ [];
@@ -108,7 +107,7 @@ module _ (asking : Asking) where
     most = most;
     fault = tt;
     last = inl refl;
-    mended = proposed_one kept;
+    tolds = kept ∷ [];
     explains = one_line asking place.number line kept text one short is;
     writes = writes;
     parts = all;
@@ -116,9 +115,9 @@ module _ (asking : Asking) where
   }
 
   -- the writer fails at what is told of what stands after the last line feed
-  pub begins_last : (place : LineStart) (input input' output output' : Option (List ℕ)) → (line : List ℕ) (kept : Option Kind) (text ready : List ℕ) (e : ToolFault) → Consumes input input' line → IsAtEnd input' → IsOneLine line
+  pub begins_last : (place : LineStart) (input input' output output' : Option (List ℕ)) → (line : List ℕ) (kept : Told) (text ready : List ℕ) (e : ToolFault) → Consumes input input' line → IsAtEnd input' → IsOneLine line
       → length line ≤ place.left + 1 → length (text_of line) ≤ 8300
-      → Explains asking.telling asking.sign asking.name (place.number - asking.before) (text_of line) kept text → WritesWhole output output' (ready ++ text) (Err e)
+      → Explains asking.telling asking.sign asking.most asking.name (place.number - asking.before) (text_of line) kept text → WritesWhole output output' (ready ++ text) (Err e)
       → BeginsAfter asking place input input' output output' ready e
   begins_last place input input' output output' line kept text ready e reads end one most short is (same, sent, unsent, writes, all) = subst (BeginsAfter asking place input input' output output' ready) (sym same) record {
     lines = [];
@@ -133,7 +132,7 @@ module _ (asking : Asking) where
     most = most;
     fault = tt;
     last = inr (refl, refl, end);
-    mended = proposed_one kept;
+    tolds = kept ∷ [];
     explains = one_line asking place.number line kept text one short is;
     writes = writes;
     parts = all;
@@ -155,7 +154,7 @@ module _ (asking : Asking) where
     most = omega arith;
     fault = tt;
     last = inl refl;
-    mended = 0;
+    tolds = [];
     explains = (refl, refl);
     writes = Appends-nil output;
     parts = refl;
@@ -168,14 +167,14 @@ module _ (asking : Asking) where
   pub told_first : (place place' : LineStart) (input output output' : Option (List ℕ)) → (held held' ready ready' : List ℕ) (end : ℕ) (told : Told) → IsLineEnd (take place.left held) (Some end) → held' ≡ drop (end + 1) held
       → place'.number ≡ place.number + 1 → place'.left ≡ place.left - (end + 1) → length (text_of (take end (take place.left held))) ≤ 8300
       → TellsMessage asking place.number (take end (take place.left held)) ready ready' output output' (Ok told)
-      → Explained asking place place' (prepend_known held input) (prepend_known held' input) output output' ready ready' 1 (if told.is_taken then 0 else 1) (proposed_one told.proposal)
+      → Explained asking place place' (prepend_known held input) (prepend_known held' input) output output' ready ready' 1 (if told.is_taken then 0 else 1) (told ∷ [])
   told_first place place' input output output' held held' ready ready' end told is passed number left short (text, explains, writes, taken) =
       let line = take end (take place.left held) in
       let (parts, size, fits, all) = first_line held place.left end is in
       let reads = passes_front (prepend_known held input) input held (line ++ 10 ∷ []) (drop (end + 1) held) [] parts (Consumes-nil (prepend_known held input)) in
       let here : Consumes (prepend_known held input) (prepend_known held' input) (line ++ 10 ∷ []) = subst (λ l. Consumes (prepend_known held input) (prepend_known l input) (line ++ 10 ∷ [])) (sym passed) reads in
       let refused : (if told.is_taken then 0 else 1) ≡ refused_one asking.sign line = ap (λ (b : Bool). if b then 0 else 1) taken in
-      explained_one asking place place' (prepend_known held input) (prepend_known held' input) output output' line text ready ready' (if told.is_taken then 0 else 1) told.proposal here is.1 number (omega (arith, size, fits, left)) short explains refused writes
+      explained_one asking place place' (prepend_known held input) (prepend_known held' input) output output' line text ready ready' (if told.is_taken then 0 else 1) told here is.1 number (omega (arith, size, fits, left)) short explains refused writes
 
   -- it isn't, or the writer fails
   pub first_fails : (place : LineStart) (input output output' : Option (List ℕ)) → (held ready ready' : List ℕ) (end : ℕ) (e : ToolFault) → IsLineEnd (take place.left held) (Some end) → length held ≤ place.left + 1
@@ -192,17 +191,17 @@ module _ (asking : Asking) where
   -- what stands after the last line feed is explained
   pub last_told : (place : LineStart) (input input' output middle output' : Option (List ℕ)) → (held taken ready : List ℕ) (number : ℕ) (told : Told) → Consumes input input' taken → IsAtEnd input' → IsOneLine taken → 0 < length taken
       → take 8301 held ≡ take 8301 taken → number ≡ place.number → Appends output middle ready → TellsLast asking number held middle output' (Ok told)
-      → ExplainsLast asking place input input' output output' ready (if told.is_taken then 0 else 1) (proposed_one told.proposal)
+      → ExplainsLast asking place input input' output output' ready (if told.is_taken then 0 else 1) (told ∷ [])
   last_told place input input' output middle output' held taken ready number told reads end one some front same first (short, (text, explains, last, is)) =
       let all = held_whole held taken front short in
-      let here = subst (λ n. Explains asking.telling asking.sign asking.name (n - asking.before) (text_of held) told.proposal text) same explains in
+      let here = subst (λ n. Explains asking.telling asking.sign asking.most asking.name (n - asking.before) (text_of held) told text) same explains in
       record {
         line = held;
         text = text;
         reads = subst (Consumes input input') (sym all) reads;
         end = end;
         some = subst (λ l. 0 < length l) (sym all) some;
-        explains = one_line asking place.number held told.proposal text (subst IsOneLine (sym all) one) (omega (arith, short, text_short held)) here;
+        explains = one_line asking place.number held told text (subst IsOneLine (sym all) one) (omega (arith, short, text_short held)) here;
         writes = Appends-trans output middle output' ready text first last;
         refused_is = ap (λ (b : Bool). if b then 0 else 1) is;
       }
@@ -217,7 +216,7 @@ module _ (asking : Asking) where
       begins_after place input input' output output' taken ready faults.Memory e reads (omega (arith, few)) tt (inl (is, quiet output middle output' ready first none))
   last_fails place input input' output middle output' held taken ready number e reads end one few front same first (inr (short, inr (text, kept, explains, fails))) =
       let all = held_whole held taken front short in
-      let here = subst (λ n. Explains asking.telling asking.sign asking.name (n - asking.before) (text_of held) kept text) same explains in
+      let here = subst (λ n. Explains asking.telling asking.sign asking.most asking.name (n - asking.before) (text_of held) kept text) same explains in
       begins_last place input input' output output' held kept text ready e (subst (Consumes input input') (sym all) reads) end (subst IsOneLine (sym all) one) (subst (λ l. length l ≤ place.left + 1) (sym all) (omega (arith, few)))
       (omega (arith, short, text_short held)) here (writes_both output middle output' ready text (Err e) first fails)
 

@@ -1,9 +1,9 @@
 //! Messages, explained one after the other.
-ghost use Rattle.std.specs.Prelude.{◌≡◌, ◌+◌, ◌-◌, ◌≤◌, ◌++◌, [], OnOk, IfOk, if◌then◌else◌, take};
+ghost use Rattle.std.specs.Prelude.{◌≡◌, ◌+◌, ◌-◌, ◌^◌, ◌≤◌, min, ◌++◌, [], OnOk, IfOk, if◌then◌else◌, take};
 ghost use Rattle.std.specs.Io.KnownBytes.{prepend_known};
 ghost use Rattle.message_cures.specs.Taking.{takes};
 ghost use Rattle.message_report.specs.Explanation.{Explains};
-ghost use Rattle.sign_aids.specs.Explain.{ExplainsInput, ExplainsRest, proposed_one};
+ghost use Rattle.sign_aids.specs.Explain.{ExplainsInput, ExplainsRest, asking_of, proposed_one};
 ghost use Rattle.sign_aids.specs.internal.Explaining.{EndsAfter, ExplainsNext, IsFurther, IsHeld, TellsLast, TellsMessage, WritesFront};
 ghost use Rattle.tool_streams.specs.Lines.{IsOneLine, input_limit, text_of};
 ghost use Rattle.tool_streams.specs.Streams.{WritesWhole};
@@ -26,8 +26,8 @@ pub struct Counts {
     pub messages: u32,
     /// How many of them the sign doesn't take.
     pub refused: u32,
-    /// How many warnings there are on the others.
-    pub warnings: u32,
+    /// How many warnings are told of the others.
+    pub warnings: u64,
     /// In place of how many of those that the sign doesn't take something is proposed.
     pub mended: u32,
 }
@@ -48,7 +48,13 @@ impl Model for Asker {
 
     ghost Value = { Asking };
 
-    ghost view = { λ a. record { sign = a.explainer; telling = a.telling; name = a.name.items; before = a.before } };
+    ghost view = { λ a. record {
+      sign = a.explainer.sign;
+      most = a.explainer.most;
+      telling = a.telling;
+      name = a.name.items;
+      before = a.before;
+    } };
 }
 
 /// What was done with what comes next in an input.
@@ -161,7 +167,8 @@ impl Asker {
         text: &mut Explanation,
     ) -> Result<Told, AllocError>
         ensures told { IfOk result (λ told.
-            Explains self.now.telling self.now.sign self.now.name (number - self.now.before) (text_of line.now) told.proposal text.new) }
+            Explains self.now.telling self.now.sign self.now.most self.now.name (number - self.now.before) (text_of line.now) told
+            text.new) }
         ensures taken { IfOk result (λ told. told.is_taken ≡ takes self.now.sign (text_of line.now)) }
     {
         text.clear();
@@ -332,7 +339,7 @@ fn proposed_one(proposal: Option<Kind>) -> u32
 }
 
 impl Counts {
-    /// With one more message, of which this was told. Where there are too many warnings to be counted, `u32::MAX` stands for them.
+    /// With one more message, of which this was told. Where there are too many warnings to be counted, `u64::MAX` stands for them.
     fn with(self, told: Told) -> Counts
         requires messages { self.messages ≤ input_limit + 1 }
         requires refused { self.refused ≤ self.messages }
@@ -340,11 +347,12 @@ impl Counts {
         ensures messages { result.messages ≡ self.messages + 1 }
         ensures refused { result.refused ≡ self.refused + (if told.is_taken then 0 else 1) }
         ensures mended { result.mended ≡ self.mended + proposed_one told.proposal }
+        ensures warnings { result.warnings ≡ min (self.warnings + told.warnings) (2 ^ 64 - 1) }
     {
         Counts {
             messages: self.messages + 1,
             refused: self.refused + u32::from(!told.is_taken),
-            warnings: self.warnings.saturating_add(told.warnings),
+            warnings: self.warnings.saturating_add(told.warnings as u64),
             mended: self.mended + proposed_one(told.proposal),
         }
     }
@@ -407,7 +415,7 @@ fn asker_of(
     name: &[u8],
     before: u32,
 ) -> Result<Asker, AllocError>
-    ensures { IfOk result (λ asker. asker ≡ record { sign = setup.sign; telling = telling; name = name.now; before = before }) }
+    ensures { IfOk result (λ asker. asker ≡ asking_of setup telling name.now before) }
 {
     let Setup { sign, store } = setup;
     let explainer = Explainer::new(sign, store.limits().max_string);

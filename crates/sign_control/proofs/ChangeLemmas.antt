@@ -5,7 +5,7 @@ use Rattle.sign_font.specs.Sign.{SignData}
 use Rattle.multi_meaning.specs.Meaning.{meanings}
 use Rattle.multi_meaning.specs.Picture.{pixel_at}
 use Rattle.multi_meaning.specs.Times.{shown}
-use Rattle.message_change.specs.Change.{IsBefore, IsSamePage, Stays, change_at}
+use Rattle.multi_layout.specs.Change.{IsBefore, IsSamePage, Stays, change_at}
 use Rattle.sign_control.specs.declared.command.Reply.TheVariants as reply
 use Rattle.sign_control.specs.Change.{IsAsNow, StaysUntilNextChange, no_later}
 use Rattle.sign_control.specs.Headline.{pixel_now, shown_by, shown_now}

@@ -3,8 +3,10 @@ use Rattle.std.specs.Prelude.{◌≡◌, ◌≤◌, ◌<◌, ◌^◌, ℕ, ◌+�
 use Rattle.step_count.specs.Count.{raised}
 use Rattle.sign_font.specs.Sign.{SignData}
 use Rattle.multi_meaning.specs.Meaning.{meanings}
+use Rattle.multi_meaning.specs.Steps.{judging_steps}
+use Rattle.multi_layout.specs.Finding.{change_steps, finding_steps}
 use Rattle.multi_layout.specs.Limits.{check_limit}
-use Rattle.message_change.specs.Change.{IsSamePage, change_at}
+use Rattle.multi_layout.specs.Change.{IsSamePage, change_at}
 use Rattle.sign_control.specs.declared.command.Reply.TheVariants as reply
 use Rattle.sign_control.specs.Headline.{pixel_now, shown_by, shown_now}
 use Rattle.sign_control.specs.State.{StateData}
@@ -21,9 +23,19 @@ abbrev pub next_change : SignData → StateData → ℕ → ℕ
 next_change sign state most =
     no_later (no_later most state.display.remaining) (change_at (shown_by sign state) (meanings state.text) state.display.clock)
 
--- the most steps of finding it: those of judging the text, and of going through it once more (own)
+-- the steps of judging the text that is shown, and of finding what it shows at the clock (own)
+abbrev pub shown_steps : SignData → StateData → ℕ
+shown_steps sign state =
+    judging_steps (shown_by sign state) state.text + finding_steps (shown_by sign state) state.text state.display.clock
+
+-- the steps of finding it: those of judging the text, and of passing its pages up to the one that is shown (own)
+abbrev pub next_change_steps : SignData → StateData → ℕ
+next_change_steps sign state =
+    judging_steps (shown_by sign state) state.text + change_steps (shown_by sign state) state.text state.display.clock
+
+-- the most of them (own)
 abbrev pub change_limit : ℕ → ℕ
-change_limit n = check_limit n + (2 * n + 1)
+change_limit n = 2 * check_limit n
 
 -- a count has risen by the steps that were taken, at least and at most this many (own)
 abbrev pub IsCounted : ℕ → ℕ → ℕ → ℕ → Type 0

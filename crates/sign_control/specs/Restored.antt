@@ -12,8 +12,8 @@ use Rattle.sign_control.specs.Run.{run}
 use Rattle.sign_control.specs.Saved.{IsRestorable, restored, saved_octets}
 use Rattle.sign_control.specs.State.{StateData}
 
--- a sign in one state answers as in another: after every list of commands, ticks among them, the replies are the same, the display shows the
--- same page or off time, and each pixel has the same colour (own)
+-- a sign in one state answers as in another: after every list of commands, ticks among them, the replies are the same, the display shows
+-- the same page or off time, and each pixel has the same colour (own)
 pub record AnswersAlike (sign : SignData) (one other : StateData) : Type 0 where
   pub replies : (commands : List Command) → (run sign other commands).replies ≡ (run sign one commands).replies
   pub shown : (commands : List Command) → shown_now sign (run sign other commands).state ≡ shown_now sign (run sign one commands).state
@@ -28,8 +28,8 @@ AnswersAsSaved =
     → store.limits ≡ state.store.limits → store.permanent ≡ state.store.permanent
     → restored sign store (saved_octets state) ≡ Ok other → AnswersAlike sign state other
 
--- what holds of every controller, whatever octets were restored: its messages are within the limits, the sign takes the defaults in force and
--- those of the display, and by these it accepts the display's text, which is no longer than a message may be (own)
+-- what holds of every controller, whatever octets were restored: its messages are within the limits, the sign takes the defaults in force
+-- and those of the display, and by these it accepts the display's text, which is no longer than a message may be (own)
 pub record IsTaken (sign : SignData) (state : StateData) : Type 0 where
   pub kept : IsKept state.store
   pub defaults : default_fault sign state.defaults ≡ None

@@ -1,18 +1,18 @@
 //! When what the display shows changes.
 
-ghost use Rattle.std.specs.Prelude.{◌≡◌, ◌≤◌, None, length};
+ghost use Rattle.std.specs.Prelude.{◌≡◌, ◌+◌, ◌≤◌, None, length};
 ghost use Rattle.sign_font.specs.Defaults.{default_fault, under};
 ghost use Rattle.sign_font.specs.Sound.{IsSound};
 ghost use Rattle.multi_meaning.specs.Meaning.{meanings};
 ghost use Rattle.multi_meaning.specs.Steps.{judging_steps};
-ghost use Rattle.sign_control.specs.Headline.{shown_by};
-ghost use Rattle.message_change.specs.Change.{change_at};
-ghost use Rattle.sign_control.specs.Change.{IsCounted, change_limit, next_change, no_later};
+ghost use Rattle.step_count.specs.Count.{raised};
+ghost use Rattle.multi_layout.specs.Change.{change_at};
+ghost use Rattle.multi_layout.specs.Finding.{change_steps};
+ghost use Rattle.sign_control.specs.Change.{change_limit, next_change, next_change_steps, no_later};
 ghost use Rattle.sign_control.specs.internal.Ready.{IsAccepted};
 
 use crate::check::accepted_text;
 use crate::controller::Controller;
-use message_change::next_change;
 use sign_font::{Defaults, Sign};
 use step_count::raised;
 
@@ -24,12 +24,13 @@ fn change_left(sign: &Sign, defaults: Defaults, text: &[u8], clock: u64) -> (Opt
     requires accepted { IsAccepted (under sign.now defaults) text.now }
     requires short { length text.now ≤ 4096 }
     ensures change { result.0 ≡ change_at (under sign.now defaults) (meanings text.now) clock }
-    ensures least { judging_steps (under sign.now defaults) text.now ≤ result.1 }
+    ensures steps { result.1
+        ≡ judging_steps (under sign.now defaults) text.now + change_steps (under sign.now defaults) text.now clock }
     ensures most { result.1 ≤ change_limit (length text.now) }
 {
-    let checked = accepted_text(sign, defaults, text);
-    let (left, steps) = next_change(&checked, defaults, text, clock);
-    (left, checked.steps() + steps)
+    let mut checked = accepted_text(sign, defaults, text);
+    let left = checked.next_change(clock);
+    (left, checked.steps())
 }
 
 /// A number of tenths, or those to a change that comes before.
@@ -57,13 +58,14 @@ impl Controller {
     /// page's on time or off time, to the next change of a flash, or to the end of the duration, whichever comes first. 0 where the
     /// duration ends with the next tick, even of 0 tenths.
     ///
-    /// It goes by the times of the pages and flashes, and draws nothing. For n octets of the text this takes at most 11n + 2 steps.
+    /// It goes by the times of the pages and flashes, and draws nothing: the text is judged, and its pages are passed up to the one that is
+    /// shown. For n octets of the text this takes at most 18n + 2 steps.
     pub fn next_change(&mut self, most: u32) -> u32
         ensures next { result ≡ next_change self.old.sign self.old.state most }
         ensures kept { (self.new.sign ≡ self.old.sign) × (self.new.state ≡ self.old.state) × (self.new.plane ≡ self.old.plane) }
         ensures revision { self.new.revision ≡ self.old.revision }
-        ensures steps { IsCounted self.old.steps (judging_steps (shown_by self.old.sign self.old.state) self.old.state.text)
-            (change_limit (length self.old.state.text)) self.new.steps }
+        ensures steps { self.new.steps ≡ raised self.old.steps (next_change_steps self.old.sign self.old.state) }
+        ensures most { next_change_steps self.old.sign self.old.state ≤ change_limit (length self.old.state.text) }
     {
         let (left, steps) = change_left(
             &self.sign,

@@ -138,7 +138,8 @@ impl Controller {
             octets.old octets.new) }
         ensures missing { IfErr result (LacksPage (in_force self.old.sign self.old.state) text.now page) }
         ensures unwritten { IfErr result (λ why. octets.new ≡ octets.old) }
-        ensures undrawn { (OnErr result (self.new.plane ≡ self.old.plane)) × IfOk result (λ written. written ≡ false → self.new.plane ≡ self.old.plane) }
+        ensures undrawn { (OnErr result (self.new.plane ≡ self.old.plane))
+            × IfOk result (λ written. written ≡ false → self.new.plane ≡ self.old.plane) }
         ensures kept { (self.new.sign ≡ self.old.sign) × (self.new.state ≡ self.old.state) }
         ensures revision { self.new.revision ≡ self.old.revision }
         ensures steps { IsCounted self.old.steps

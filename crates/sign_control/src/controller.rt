@@ -4,12 +4,12 @@ ghost use Rattle.std.specs.Prelude.{◌≡◌, ℕ, ◌+◌, ◌-◌, ◌≤◌,
 ghost use Rattle.std.specs.Borrow.{sem};
 ghost use Rattle.multi_meaning.specs.Picture.{Lights, pixel_at};
 ghost use Rattle.multi_meaning.specs.Meaning.{meanings};
-ghost use Rattle.multi_meaning.specs.Steps.{judging_steps};
 ghost use Rattle.multi_meaning.specs.Times.{shown};
 ghost use Rattle.multi_layout.specs.Limits.{frame_limit};
 ghost use Rattle.multi_layout.specs.Pages.{IsSized};
 ghost use Rattle.page_plane.specs.Plane.{is_lit};
 ghost use Rattle.sign_font.specs.Defaults.{under};
+ghost use Rattle.sign_control.specs.Change.{shown_steps};
 ghost use Rattle.sign_control.specs.State.{started};
 
 use crate::code::IdCode;
@@ -121,8 +121,7 @@ impl Controller {
         ensures drawn { Lights result.plane.now
             (pixel_at (under self.old.sign self.old.state.display.defaults) (meanings self.old.state.text) result.shown colour) }
         ensures size { IsSized result.plane.now self.old.sign }
-        ensures least { judging_steps (under self.old.sign self.old.state.display.defaults) self.old.state.text
-            + (result.plane.now.steps - self.old.plane.steps) ≤ result.steps }
+        ensures least { shown_steps self.old.sign self.old.state + (result.plane.now.steps - self.old.plane.steps) ≤ result.steps }
         ensures most { result.steps ≤ frame_limit self.old.sign (length self.old.state.text) }
     {
         let (shown, steps) = draw_shown(

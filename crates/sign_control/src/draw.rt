@@ -5,6 +5,7 @@ ghost use Rattle.multi_meaning.specs.Picture.{Lights, pixel_at};
 ghost use Rattle.multi_meaning.specs.Meaning.{meanings};
 ghost use Rattle.multi_meaning.specs.Steps.{judging_steps};
 ghost use Rattle.multi_meaning.specs.Times.{shown};
+ghost use Rattle.multi_layout.specs.Finding.{finding_steps};
 ghost use Rattle.multi_layout.specs.Limits.{frame_limit};
 ghost use Rattle.multi_layout.specs.Pages.{IsSized};
 ghost use Rattle.sign_font.specs.Defaults.{default_fault, under};
@@ -35,7 +36,8 @@ pub(crate) fn draw_shown(
     ensures shown { result.0 ≡ shown (under sign.now defaults) text.now clock }
     ensures drawn { Lights plane.new (pixel_at (under sign.now defaults) (meanings text.now) result.0 colour) }
     ensures size { (plane.new.width ≡ plane.old.width) × (plane.new.height ≡ plane.old.height) }
-    ensures least { judging_steps (under sign.now defaults) text.now + (plane.new.steps - plane.old.steps) ≤ result.1 }
+    ensures least { judging_steps (under sign.now defaults) text.now + finding_steps (under sign.now defaults) text.now clock
+        + (plane.new.steps - plane.old.steps) ≤ result.1 }
     ensures most { result.1 ≤ frame_limit sign.now (length text.now) }
 {
     let mut source = counted(text);

@@ -16,8 +16,8 @@ impl Controller {
         &self.sign
     }
 
-    /// The limits of the message table, as they were handed in. Whatever was asked of the controller, and whatever octets were restored, its
-    /// messages are within them, and the sign takes its defaults and accepts what the display shows.
+    /// The limits of the message table, as they were handed in. Whatever was asked of the controller, and whatever octets were restored,
+    /// its messages are within them, and the sign takes its defaults and accepts what the display shows.
     pub fn limits(&self) -> StoreLimits
         ensures limits { result ≡ self.now.state.store.limits }
         ensures taken { IsTaken self.now.sign self.now.state }

@@ -6,7 +6,7 @@ ghost use Rattle.sign_control.specs.Restored.{AnswersAsSaved};
 ghost use Rattle.sign_control.specs.Revision.{ChangesTheTimeAtMost};
 ghost use Rattle.sign_control.specs.Run.{EveryRunStaysWithin};
 
-use message_change::stays;
+use multi_layout::stays;
 
 /// After every command of every list of them the used bytes are at most the store's budget, the used slots at most its
 /// slots, and used and free bytes together are the budget.
@@ -37,8 +37,8 @@ pub fn changes_the_time_at_most()
     ensures { ChangesTheTimeAtMost }
 {}
 
-/// A controller that restores what another one of the same sign file has saved answers as that one: after every list of commands, ticks among
-/// them, its replies are the same, and its frames too, pixel by pixel.
+/// A controller that restores what another one of the same sign file has saved answers as that one: after every list of commands, ticks
+/// among them, its replies are the same, and its frames too, pixel by pixel.
 pub fn answers_as_saved()
     ensures { AnswersAsSaved }
 {}

@@ -116,8 +116,8 @@ impl Controller {
     /// The text is judged by the defaults in force, and what the display shows stays. [`Controller::plane`] lends it then.
     ///
     /// The first error that is true comes: `TooLong` from 4,294,967,296 octets on, `Refused` if the sign refuses the text, `Number` if it
-    /// has no such page; then the plane stays as it is. For n octets this takes at most 27n + 3 + R * n + B * (n / 4 + 1) steps. R is the height of the tallest font, and
-    /// B the number of octets of the plane.
+    /// has no such page; then the plane stays as it is. For n octets this takes at most 27n + 3 + R * n + B * (n / 4 + 1) steps. R is the
+    /// height of the tallest font, and B the number of octets of the plane.
     pub fn draw_page(&mut self, text: &[u8], page: u8, phase: u64, colour: u8) -> Result<(), NoPage>
         ensures found { OnOk result (HasPage (in_force self.old.sign self.old.state) text.now page) }
         ensures drawn { OnOk result (Lights self.new.plane (picture (in_force self.old.sign self.old.state) text.now page phase colour)) }

@@ -1,2 +1,3 @@
+pub mod DocumentLemmas
 pub mod PermanentLemmas
 pub mod SetupLemmas

@@ -1,7 +1,7 @@
 //! Why permanent messages are refused, in words.
 
 use crate::setup::setup_of;
-use message_report::{Explainer, Explanation, Format, Telling};
+use message_report::{Explainer, Explanation, Format, Telling, USUAL_WARNINGS};
 use message_store::Permanent;
 use sign_words::{PermanentRefusal, Setup};
 use std::alloc::{AllocError, Global};
@@ -12,7 +12,11 @@ const WORDS: Telling = Telling {
     phase: 0,
     refused_only: true,
     pictures: false,
+    warnings: USUAL_WARNINGS,
 };
+
+/// The last line of an explanation without a proposal. A report on a sign file ends with the reason.
+const NO_PROPOSAL: &str = "no proposal: the sign takes none of the texts that were tried\n";
 
 /// Why a permanent message is refused: lines, in the words of `explain`.
 fn explanation_of(
@@ -32,7 +36,8 @@ fn explanation_of(
     // it is no line of a file of messages
     let words = words.strip_prefix("line 1: ").unwrap_or(words);
     // an empty line stands after each explanation
-    String::from_str(alloc, words.strip_suffix("\n").unwrap_or(words))
+    let words = words.strip_suffix("\n").unwrap_or(words);
+    String::from_str(alloc, words.strip_suffix(NO_PROPOSAL).unwrap_or(words))
 }
 
 /// Why each of these permanent messages is refused. The octets are read anew, since an explainer keeps its sign.

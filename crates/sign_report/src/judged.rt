@@ -2,7 +2,7 @@
 
 ghost use Rattle.std.specs.Prelude.{◌≡◌, [], None, IfOk, is_some};
 ghost use Rattle.sign_report.specs.Permanents.{refusals_of};
-ghost use Rattle.sign_report.specs.Setup.{is_taken};
+ghost use Rattle.sign_report.specs.Setup.{is_taken, sign_of, sign_taken};
 
 use crate::lines::has_file_lines;
 use crate::permanents::refusals_of;
@@ -33,6 +33,7 @@ fn untaken(alloc: Global) -> Judged
 /// What these octets set up, with the permanent messages that the sign refuses.
 pub(crate) fn judged_of(alloc: Global, octets: &[u8]) -> Result<Judged, AllocError>
     ensures taken { IfOk result (λ judged. is_some judged.setup ≡ is_taken octets.now) }
+    ensures sign { IfOk result (λ judged. sign_of judged.setup ≡ sign_taken octets.now) }
     ensures refusals { IfOk result (λ judged. judged.refusals.items ≡ refusals_of octets.now) }
 {
     let Some(setup) = setup_of(alloc, octets)? else {

@@ -1,24 +1,26 @@
 //! The report on a sign file.
 
-ghost use Rattle.std.specs.Prelude.{◌≡◌, IfOk};
+ghost use Rattle.std.specs.Prelude.{◌≡◌, ◌↔◌, [], true, IfOk, string_bytes};
 ghost use Rattle.sign_report.specs.Permanents.{refusals_of};
-ghost use Rattle.sign_report.specs.Setup.{is_taken};
+ghost use Rattle.sign_report.specs.Setup.{is_taken, sign_taken};
+ghost use Rattle.sign_words.specs.Told.{IsTold};
 
 use crate::explanations::explanations_of;
-use crate::find::find_in;
+use crate::find::{hold_to, look_at_octets};
 use crate::judged::{Judged, judged_of};
-use sign_words::{PermanentRefusal, SignView, SignWords, add_refusals};
+use sign_words::{Findings, PermanentRefusal, SignView, SignWords, add_refusals};
 use std::alloc::{AllocError, Global};
 
 /// What is told of a sign file (own).
-#[derive(Debug, Drop)]
+#[derive(Drop)]
 pub struct SignReport {
     /// Whether the program takes it.
     pub is_taken: bool,
     /// The permanent messages that its sign refuses, in the order of their numbers; none if the file isn't taken.
     pub refusals: Vec<PermanentRefusal>,
-    /// How many warnings are told, 50 at most: what is no fault, and its maker may not have meant.
-    pub warnings: usize,
+    /// The faults, of which there is none exactly if the file is taken, and the warnings: what is no fault, and its maker may not have
+    /// meant. Of each there are 50 at most.
+    pub found: Findings,
     /// What it describes, or each fault that was found; the refusals and the warnings.
     pub text: String,
 }
@@ -37,11 +39,15 @@ pub fn sign_report(
 ) -> Result<SignReport, AllocError>
     ensures taken { IfOk result (λ report. report.is_taken ≡ is_taken octets.now) }
     ensures refusals { IfOk result (λ report. report.refusals.items ≡ refusals_of octets.now) }
+    ensures exact { IfOk result (λ report. report.found.faults.items ≡ [] ↔ is_taken octets.now ≡ true) }
+    ensures told { IfOk result (λ report. IsTold view.entry (sign_taken octets.now) report.found (string_bytes report.text)) }
 {
     let Judged { setup, refusals } = judged_of(alloc, octets)?;
-    let mut found = find_in(alloc, octets)?;
+    let mut found = Findings::new(alloc);
+    look_at_octets(alloc, &mut found, octets)?;
     let explanations = explanations_of(alloc, octets, &refusals)?;
     add_refusals(&mut found, octets, &refusals, &explanations)?;
+    hold_to(&mut found, octets, setup.is_some())?;
     let words = SignWords {
         alloc,
         view,
@@ -50,11 +56,11 @@ pub fn sign_report(
         refusals: &refusals,
         explanations: &explanations,
     };
-    let text = words.to_string(alloc)?;
+    let text = words.text()?;
     Ok(SignReport {
         is_taken: setup.is_some(),
         refusals,
-        warnings: found.warnings.len(),
+        found,
         text,
     })
 }

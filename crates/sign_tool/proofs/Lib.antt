@@ -1,3 +1,4 @@
+pub mod AlikeLemmas
 pub mod AnsweringLemmas
 pub mod CodeLemmas
 pub mod CutLemmas

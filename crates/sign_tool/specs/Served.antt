@@ -1,7 +1,7 @@
 -- What a served sign answers.
-use Rattle.std.specs.Prelude.{◌≡◌, ℕ, ◌+◌, ◌*◌, ◌==◌, List, [], ◌∷◌, ◌++◌, fold, length, map, nat_lt, slice_range, if◌then◌else◌, codes, decimal, Option, None, Some, Result, Ok, Err}
+use Rattle.std.specs.Prelude.{◌≡◌, ◌≢◌, ℕ, ◌+◌, ◌*◌, ◌==◌, false, List, [], ◌∷◌, ◌++◌, fold, length, map, nat_lt, slice_range, if◌then◌else◌, codes, decimal, Option, None, Some, IsSomeAnd, Result, Ok, Err}
 use Rattle.std.specs.Int.{w16, to_be_bytes}
-use Rattle.std.specs.List.{flat_map, range_with_len}
+use Rattle.std.specs.List.{AllByRecursion, flat_map, range_with_len}
 use Rattle.hex.specs.Hex.{encode_lower}
 use Rattle.sign_font.specs.Defaults.{under}
 use Rattle.sign_font.specs.Sign.{SignData}
@@ -21,6 +21,7 @@ use Rattle.sign_control.specs.Run.{run}
 use Rattle.sign_control.specs.Saved.{restored, saved_octets}
 use Rattle.sign_control.specs.State.{StateData}
 use Rattle.sign_control.specs.Step.{step}
+use Rattle.sign_script.specs.Asks.{ask_of}
 use Rattle.sign_script.specs.Fields.{octets_of}
 use Rattle.sign_script.specs.declared.ask.Ask.{Ask}
 use Rattle.sign_script.specs.declared.ask.Ask.TheVariants as ask
@@ -30,7 +31,7 @@ use Rattle.sign_script.specs.Questions.{question_of}
 use Rattle.sign_tool.specs.Frame.{head_text}
 use Rattle.sign_tool.specs.Replies.{crc_text, fault_text}
 use Rattle.sign_tool.specs.Reply.{check_answer, too_long_text}
-use Rattle.sign_tool.specs.Script.{Told, command_asked, told}
+use Rattle.sign_tool.specs.Script.{Told, command_asked, replies, told}
 
 -- ---- the texts of the answers that a script doesn't give
 
@@ -199,3 +200,12 @@ ServesOn = (sign : SignData) (state : StateData) (before after : List (List ℕ)
 abbrev pub CommandsRun : Type 0
 CommandsRun = (sign : SignData) (state : StateData) (commands : List Command)
     → fold (acted sign) state (map (λ command. Does command) commands) ≡ (run sign state commands).state
+
+-- A line that a script and a served sign answer alike: it has at most 8,300 octets, and spells something that a script asks for (own).
+abbrev pub IsAskedAlike : List ℕ → Type 0
+IsAskedAlike line = (nat_lt 8300 (length line) ≡ false) × IsSomeAnd (ask_of line) (λ asked. asked ≢ ask.Nothing)
+
+-- The replies of a served sign to the lines of a script are those of the script (own).
+abbrev pub ServesAsRuns : Type 0
+ServesAsRuns = (sign : SignData) (state : StateData) (lines : List (List ℕ)) → AllByRecursion IsAskedAlike lines
+    → replies sign state lines ≡ map (λ text. Some text) (served sign state lines)

@@ -1,5 +1,8 @@
 //! The codes of what is found in a sign file.
 
+ghost use Rattle.std.specs.Prelude.{◌≡◌};
+ghost use Rattle.sign_words.specs.Names.{code_word};
+
 /// What kind of thing is found in a sign file (own).
 #[derive(Clone, Copy)]
 pub(crate) enum Code {
@@ -9,6 +12,8 @@ pub(crate) enum Code {
     TooDeep,
     /// The text is no TOML.
     NotToml,
+    /// The program doesn't take the file, and nothing says why.
+    NotTaken,
     /// A line has too many octets for the commands that read lines.
     LongLine,
     /// A line is the mark at which those commands end the file.
@@ -55,11 +60,15 @@ pub(crate) enum Code {
 
 impl Code {
     /// Its word, by which programs know it.
-    pub(crate) fn word(self) -> &'static str {
+    #[tactic(auto, unfolding(crate::specs::Names::code_word))]
+    pub(crate) fn word(self) -> &'static str
+        ensures { result.now ≡ code_word self }
+    {
         match self {
             Code::NotText => "not-text",
             Code::TooDeep => "too-deep",
             Code::NotToml => "not-toml",
+            Code::NotTaken => "not-taken",
             Code::LongLine => "long-line",
             Code::MarkLine => "mark-line",
             Code::Missing => "missing",

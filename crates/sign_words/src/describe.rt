@@ -1,8 +1,12 @@
 //! What a sign file describes.
 
+ghost use Rattle.std.specs.Prelude.{◌≡◌, ◌++◌, OnOk, string_bytes};
+ghost use Rattle.sign_words.specs.Told.{size_told};
+
 use crate::cells::cells_crc;
 use crate::keys::{COLOURS, GROUPS, LIGHTS, LINES};
 use crate::part::{Part, tell};
+use crate::told::{push_count, push_text};
 use message_store::{Permanent, Store, StoreLimits, message_crc};
 use multi_token::Source;
 use sign_font::{FontInfo, LineFill, Sign};
@@ -40,7 +44,18 @@ fn truth(is_so: bool) -> Part<'static> {
     Part::Words(if is_so { "yes" } else { "no" })
 }
 
-/// Writes what a sign is.
+/// Appends the size of a sign in pixels.
+pub(crate) fn push_size(text: &mut String, sign: &Sign) -> Result<(), AllocError>
+    ensures { OnOk result (string_bytes text.new ≡ string_bytes text.old ++ size_told sign.now) }
+{
+    push_text(text, "sign: ")?;
+    push_count(text, usize::from(sign.width()))?;
+    push_text(text, " by ")?;
+    push_count(text, usize::from(sign.height()))?;
+    push_text(text, " pixels ")
+}
+
+/// Writes what a sign is, from its scheme on.
 fn describe_sign(text: &mut String, sign: &Sign) -> Result<(), AllocError> {
     let scheme = if sign.classic() {
         "in the classic colours"
@@ -51,11 +66,8 @@ fn describe_sign(text: &mut String, sign: &Sign) -> Result<(), AllocError> {
         LineFill::Off => "not filled",
         LineFill::Words => "filled by words",
     };
-    let told =
-        "sign: @ by @ pixels @\nmessages: up to @ pages\nlines: @\nbeacons: @\npixel service: @\n";
+    let told = "@\nmessages: up to @ pages\nlines: @\nbeacons: @\npixel service: @\n";
     let parts = [
-        short(sign.width()),
-        short(sign.height()),
         Part::Words(scheme),
         small(sign.max_pages()),
         Part::Words(filling),
@@ -199,18 +211,19 @@ fn describe_permanents(text: &mut String, permanents: &[Permanent]) -> Result<()
     Ok(())
 }
 
-/// Writes what a sign file describes.
-pub(crate) fn describe(alloc: Global, text: &mut String, setup: &Setup) -> Result<(), AllocError> {
+/// What a sign file describes, from the scheme of its sign on.
+pub(crate) fn description(alloc: Global, setup: &Setup) -> Result<String, AllocError> {
     let Setup { sign, store } = setup;
-    describe_sign(text, sign)?;
-    describe_limits(text, store.limits())?;
-    describe_permanents(text, store.permanents())?;
-    describe_defaults(text, sign)?;
+    let mut text = String::new(alloc);
+    describe_sign(&mut text, sign)?;
+    describe_limits(&mut text, store.limits())?;
+    describe_permanents(&mut text, store.permanents())?;
+    describe_defaults(&mut text, sign)?;
     let mut source = Source::new(b"");
     for number in 1..=255u8 {
         if let Some(font) = sign.font(&mut source, number) {
-            describe_font(alloc, text, sign, font)?;
+            describe_font(alloc, &mut text, sign, font)?;
         }
     }
-    Ok(())
+    Ok(text)
 }

@@ -1,12 +1,16 @@
 //! What a sign file says, for programs.
 
+ghost use Rattle.std.specs.Prelude.{◌≡◌, ◌++◌, List, ℕ, IfOk, OnOk, string_bytes};
+ghost use Rattle.sign_words.specs.Told.{IsDocument, IsOfSign, sign_of};
+
 use crate::cells::{cell_octets, cells_crc};
 use crate::describe::Setup;
 use crate::findings::{Finding, Findings};
 use crate::json::Document;
-use crate::place::push_place;
+use crate::members::push_found;
 use crate::refusal::PermanentRefusal;
-use message_store::{Permanent, StoreLimits, message_crc};
+use crate::told::{push_count, push_text};
+use message_store::{Permanent, Store, StoreLimits, message_crc};
 use multi_token::Source;
 use sign_font::{Cell, Defaults, FontInfo, LineFill, Sign};
 use std::alloc::{AllocError, Global};
@@ -223,7 +227,7 @@ fn push_permanents(
     document.close(']')
 }
 
-/// Writes what a sign is and what its message table holds.
+/// Writes what a sign is, from its height on, and what its message table holds.
 fn push_sign(document: &mut Document, sign: &Sign, limits: StoreLimits) -> Result<(), AllocError> {
     let scheme = if sign.classic() {
         "classic"
@@ -234,10 +238,7 @@ fn push_sign(document: &mut Document, sign: &Sign, limits: StoreLimits) -> Resul
         LineFill::Off => "none",
         LineFill::Words => "words",
     };
-    document.numbers(&[
-        ("width", u64::from(sign.width())),
-        ("height", u64::from(sign.height())),
-    ])?;
+    document.numbers(&[("height", u64::from(sign.height()))])?;
     document.text("scheme", scheme)?;
     document.numbers(&[("max_pages", u64::from(sign.max_pages()))])?;
     document.word("beacons", truth(sign.beacons()))?;
@@ -250,70 +251,37 @@ fn push_sign(document: &mut Document, sign: &Sign, limits: StoreLimits) -> Resul
     ])
 }
 
-/// Writes a finding.
-fn push_finding(
-    alloc: Global,
-    document: &mut Document,
-    finding: &Finding,
-) -> Result<(), AllocError> {
-    let mut table = String::new(alloc);
-    push_place(&mut table, finding.place)?;
-    document.open("", '{')?;
-    push_position(document, finding)?;
-    document.text("table", &table)?;
-    document.text("key", &finding.key)?;
-    document.text("code", finding.code.word())?;
-    document.text("sentence", &finding.sentence)?;
-    document.close('}')
+/// The facts of a sign, as the last member of a document.
+fn sign_json(sign: &Sign, store: &Store, facts: &Facts<'_>) -> Result<String, AllocError> {
+    let mut document = Document::within(facts.alloc);
+    push_sign(&mut document, sign, store.limits())?;
+    push_defaults(&mut document, sign.defaults())?;
+    push_fonts(&mut document, sign, facts)?;
+    push_permanents(&mut document, store.permanents(), facts)?;
+    document.close('}')?;
+    document.close('}')?;
+    document.finish()
 }
 
-/// Writes findings at a name.
-fn push_findings(
-    alloc: Global,
-    document: &mut Document,
-    name: &str,
-    findings: &[Finding],
-) -> Result<(), AllocError> {
-    document.open(name, '[')?;
-    for finding in findings {
-        push_finding(alloc, document, finding)?;
-    }
-    document.close(']')
-}
-
-/// Writes all that was found, and how much more there is.
-fn push_found(document: &mut Document, facts: &Facts<'_>) -> Result<(), AllocError> {
-    let found = facts.found;
-    push_findings(facts.alloc, document, "faults", &found.faults)?;
-    document.numbers(&[("more_faults", found.more_faults as u64)])?;
-    push_findings(facts.alloc, document, "warnings", &found.warnings)?;
-    document.numbers(&[("more_warnings", found.more_warnings as u64)])
-}
-
-/// Writes what a sign file sets up, or nothing if it isn't taken.
-fn push_setup(
-    document: &mut Document,
-    setup: Option<&Setup>,
-    facts: &Facts<'_>,
-) -> Result<(), AllocError> {
+/// Appends what a sign file sets up, or nothing if it isn't taken.
+fn push_setup(text: &mut String, setup: Option<&Setup>, facts: &Facts<'_>) -> Result<(), AllocError>
+    ensures { OnOk result ((facts : List ℕ) × IsOfSign (sign_of setup.entry) facts × (string_bytes text.new ≡ string_bytes text.old ++ facts)) }
+{
     let Some(Setup { sign, store }) = setup else {
-        return document.word("sign", "null");
+        return push_text(text, ",\n  \"sign\": null\n}\n");
     };
-    document.open("sign", '{')?;
-    push_sign(document, sign, store.limits())?;
-    push_defaults(document, sign.defaults())?;
-    push_fonts(document, sign, facts)?;
-    push_permanents(document, store.permanents(), facts)?;
-    document.close('}')
+    let rest = sign_json(sign, store, facts)?;
+    push_text(text, ",\n  \"sign\": {\n    \"width\": ")?;
+    push_count(text, usize::from(sign.width()))?;
+    push_text(text, &rest)
 }
 
 /// What a sign file says, in JSON (own). `taken` says whether the program takes it, and `sign` has its facts then.
-pub(crate) fn json_of(facts: &Facts<'_>, setup: Option<&Setup>) -> Result<String, AllocError> {
-    let mut document = Document::new(facts.alloc);
-    document.open("", '{')?;
-    document.word("taken", truth(setup.is_some()))?;
-    push_found(&mut document, facts)?;
-    push_setup(&mut document, setup, facts)?;
-    document.close('}')?;
-    document.finish()
+pub(crate) fn json_of(facts: &Facts<'_>, setup: Option<&Setup>) -> Result<String, AllocError>
+    ensures { IfOk result (λ text. IsDocument (sign_of setup.entry) facts.now.found.now (string_bytes text)) }
+{
+    let mut text = String::new(facts.alloc);
+    push_found(facts.alloc, &mut text, setup.is_some(), facts.found)?;
+    push_setup(&mut text, setup, facts)?;
+    Ok(text)
 }

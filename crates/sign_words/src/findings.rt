@@ -1,5 +1,7 @@
 //! What is found in a sign file.
 
+ghost use Rattle.std.specs.Prelude.{◌≡◌, []};
+
 use crate::address::Address;
 use crate::code::Code;
 use crate::part::{Part, tell};
@@ -140,6 +142,14 @@ impl Findings {
             refusals: Vec::new(alloc),
             sought: 0,
         }
+    }
+
+    /// Takes back each fault.
+    pub fn clear_faults(&mut self)
+        ensures { self.new.faults.items ≡ [] }
+    {
+        self.faults.clear();
+        self.more_faults = 0;
     }
 
     /// What is told of a key: a sentence, and what stands at its marks.

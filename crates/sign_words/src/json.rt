@@ -16,13 +16,13 @@ pub(crate) struct Document {
 }
 
 impl Document {
-    /// A document of which nothing is written.
-    pub(crate) fn new(alloc: Global) -> Document {
+    /// A document within whose last member something is written already, which stands elsewhere.
+    pub(crate) fn within(alloc: Global) -> Document {
         Document {
             alloc,
             text: String::new(alloc),
-            depth: 0,
-            is_first: true,
+            depth: 2,
+            is_first: false,
         }
     }
 

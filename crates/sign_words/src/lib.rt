@@ -15,6 +15,7 @@ mod findings;
 mod json;
 mod keys;
 mod meant;
+mod members;
 mod names;
 mod order;
 mod part;
@@ -25,6 +26,7 @@ mod refusal;
 mod scan;
 mod strings;
 mod syntax;
+mod told;
 mod unknown;
 mod view;
 mod words;
@@ -34,4 +36,6 @@ pub use findings::{Finding, Findings};
 pub use refusal::PermanentRefusal;
 pub use syntax::syntax_fault;
 pub use view::{SignView, SignWords};
-pub use words::{add_refusals, encoding_fault, look_at_document, look_at_lines, nesting_fault};
+pub use words::{
+    add_refusals, encoding_fault, look_at_document, look_at_lines, nesting_fault, untaken_fault,
+};

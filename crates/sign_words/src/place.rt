@@ -1,7 +1,10 @@
 //! Where something stands in a sign file.
 
+ghost use Rattle.std.specs.Prelude.{◌≡◌, ◌++◌, OnOk, string_bytes};
+ghost use Rattle.sign_words.specs.Names.{entry_text, place_text};
+
 use crate::address::{Address, TableKind};
-use crate::part::{Part, tell};
+use crate::told::{push_count, push_signed, push_text};
 use std::alloc::AllocError;
 
 /// An entry of an array of tables: its place, counted from 1, and its number, if it has one.
@@ -48,26 +51,38 @@ impl Place {
 }
 
 /// Appends an entry: its number, or its place if it has none.
-fn push_entry(text: &mut String, name: &str, entry: Entry) -> Result<(), AllocError> {
-    let name = Part::Words(name);
+fn push_entry(text: &mut String, name: &str, entry: Entry) -> Result<(), AllocError>
+    ensures { OnOk result (string_bytes text.new ≡ string_bytes text.old ++ entry_text name.now entry) }
+{
+    push_text(text, name)?;
     match entry.number {
-        Some(number) => tell(text, "@ @", &[name, Part::Number(number)]),
-        None => tell(text, "@ at place @", &[name, Part::Count(entry.place)]),
+        Some(number) => {
+            push_text(text, " ")?;
+            push_signed(text, number)
+        }
+        None => {
+            push_text(text, " at place ")?;
+            push_count(text, entry.place)
+        }
     }
 }
 
 /// Appends the name of a table, which is empty for the document and for the text.
-pub(crate) fn push_place(text: &mut String, place: Place) -> Result<(), AllocError> {
+#[tactic(auto, unfolding(crate::specs::Names::place_text))]
+pub(crate) fn push_place(text: &mut String, place: Place) -> Result<(), AllocError>
+    ensures { OnOk result (string_bytes text.new ≡ string_bytes text.old ++ place_text place) }
+{
     match place {
         Place::Text | Place::Sign => Ok(()),
-        Place::Defaults => text.push_str("[defaults]"),
+        Place::Defaults => push_text(text, "[defaults]"),
         Place::Font(font) => push_entry(text, "font", font),
         Place::Cell(font, cell) => {
             push_entry(text, "font", font)?;
             push_entry(text, ", cell", cell)
         }
         Place::Permanent(message) => {
-            tell(text, "permanent message @", &[Part::Count(message.place)])
+            push_text(text, "permanent message ")?;
+            push_count(text, message.place)
         }
     }
 }

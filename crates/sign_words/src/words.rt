@@ -56,6 +56,12 @@ pub fn nesting_fault(found: &Findings, text: &str, at: usize) -> Result<Finding,
     found.at_octet(Code::TooDeep, text.as_bytes(), at, NESTING, &[])
 }
 
+/// What is told of octets that aren't taken, if no fault was found in them. The error says that memory was refused.
+pub fn untaken_fault(found: &Findings, octets: &[u8]) -> Result<Finding, AllocError> {
+    let told = "the sign file isn't taken";
+    found.at_octet(Code::NotTaken, octets, 0, told, &[])
+}
+
 /// Adds the permanent messages of the octets that the sign refuses, each with why: lines.
 pub fn add_refusals(
     found: &mut Findings,

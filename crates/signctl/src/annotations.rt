@@ -1,39 +1,7 @@
 //! What is told to editors, as annotations of a workflow of GitHub.
 
+use crate::finding::{Finding, findings_of};
 use std::alloc::{AllocError, Global};
-
-/// What is told of one place of a file.
-#[derive(Clone, Copy)]
-struct Finding<'a> {
-    line: &'a [u8],
-    column: &'a [u8],
-    /// `error`, `warning` or `note`.
-    kind: &'a [u8],
-    words: &'a [u8],
-}
-
-/// What stands before the first colon, and what stands after it.
-fn at_colon(octets: &[u8]) -> Option<(&[u8], &[u8])> {
-    let place = octets.iter().position(|octet| *octet == b':')?;
-    let front = octets.get(..place)?;
-    let rest = octets.get(place.saturating_add(1)..)?;
-    Some((front, rest))
-}
-
-/// What a line tells, which begins with the name of its file: `NAME:LINE:COLUMN: KIND: WORDS`.
-fn finding_of<'a>(name: &str, told: &'a [u8]) -> Option<Finding<'a>> {
-    let rest = told.get(name.len().saturating_add(1)..)?;
-    let (line, rest) = at_colon(rest)?;
-    let (column, rest) = at_colon(rest)?;
-    let (kind, rest) = at_colon(rest.get(1..)?)?;
-    let words = rest.get(1..)?;
-    Some(Finding {
-        line,
-        column,
-        kind,
-        words,
-    })
-}
 
 /// Appends a text, in which a workflow reads some signs by their numbers.
 fn push_text(out: &mut Vec<u8>, text: &[u8]) -> Result<(), AllocError> {
@@ -89,16 +57,8 @@ pub(crate) fn annotations_of(
     lines: &[u8],
 ) -> Result<Vec<u8>, AllocError> {
     let mut out = Vec::new(alloc);
-    let mut begin: usize = 0;
-    for (at, octet) in lines.iter().enumerate() {
-        if *octet != b'\n' {
-            continue;
-        }
-        let told = lines.get(begin..at).unwrap_or(b"");
-        if let Some(finding) = finding_of(name, told) {
-            push_annotation(&mut out, name, finding)?;
-        }
-        begin = at.saturating_add(1);
+    for finding in findings_of(alloc, name, lines)?.iter() {
+        push_annotation(&mut out, name, *finding)?;
     }
     Ok(out)
 }

@@ -4,8 +4,9 @@ use crate::annotations::annotations_of;
 use crate::beginning::Beginning;
 use crate::ends::{DONE, FAULTED, UNREAD, say_of_file, say_tool};
 use crate::front::{FileFault, Front};
+use crate::sarif::{log_of, push_results};
 use command_line::{ExplainRequest, ManyMessages, ReportFormat};
-use message_report::{Format, Telling};
+use message_report::{CODES, Format, Telling, USUAL_WARNINGS};
 use sign_aids::{Counts, run_explain};
 use std::alloc::Global;
 use std::fs;
@@ -19,7 +20,7 @@ fn telling_of(asked: &ExplainRequest<'_>) -> Telling {
         format: match asked.format {
             ReportFormat::Text => Format::Text,
             ReportFormat::Ansi => Format::Ansi,
-            ReportFormat::Lines | ReportFormat::Annotations => Format::Lines,
+            ReportFormat::Lines | ReportFormat::Annotations | ReportFormat::Sarif => Format::Lines,
             ReportFormat::Json => Format::Json,
             ReportFormat::Mended => Format::Mended,
             ReportFormat::Changed => Format::Changed,
@@ -27,7 +28,17 @@ fn telling_of(asked: &ExplainRequest<'_>) -> Telling {
         phase: u64::from(asked.phase),
         refused_only: asked.refused_only,
         pictures: asked.has_pictures,
+        warnings: warnings_of(asked),
     }
+}
+
+/// Which warnings are told: those that are told where nothing is asked for, and those that are asked for, but none that is passed over.
+fn warnings_of(asked: &ExplainRequest<'_>) -> [bool; CODES] {
+    let mut told = USUAL_WARNINGS;
+    for place in 0..CODES {
+        told[place] = (told[place] || asked.selected[place]) && !asked.ignored[place];
+    }
+    told
 }
 
 /// Says how many messages there were.
@@ -53,17 +64,20 @@ fn say_counts<E: Write>(counts: Counts, is_mended: bool, errors: &mut E) {
 }
 
 /// What was told of the messages of some files (own).
-#[derive(Clone, Copy)]
+#[derive(Drop)]
 struct Sum {
     counts: Counts,
+    /// The results that are written as a log in SARIF, if one is asked for.
+    results: Vec<u8>,
     /// Whether all of them were read, and what is told of them was written.
     is_whole: bool,
 }
 
 impl Sum {
     /// That of no file.
-    fn new() -> Sum {
+    fn new(alloc: Global) -> Sum {
         Sum {
+            results: Vec::new(alloc),
             counts: Counts {
                 messages: 0,
                 refused: 0,
@@ -85,9 +99,9 @@ impl Sum {
 }
 
 /// The exit status of a run that explains messages, with what is said of it.
-fn end_of_explain<E: Write>(sum: Sum, asked: &ExplainRequest<'_>, errors: &mut E) -> u8 {
-    let Sum { counts, is_whole } = sum;
-    if !is_whole {
+fn end_of_explain<E: Write>(sum: &Sum, asked: &ExplainRequest<'_>, errors: &mut E) -> u8 {
+    let counts = sum.counts;
+    if !sum.is_whole {
         return UNREAD;
     }
     let is_mended = matches!(asked.format, ReportFormat::Mended | ReportFormat::Changed);
@@ -138,27 +152,37 @@ fn explain_to<R: Read, W: Write, E: Write>(
     )
 }
 
-/// The same, and writes annotations in place of lines if these are asked for.
+/// The same, and writes annotations in place of lines, or keeps their results, if these are asked for.
 fn explain_text<R: Read, W: Write, E: Write>(
     alloc: Global,
     asked: &ExplainRequest<'_>,
     name: &str,
     front: &Front<'_>,
     first: &[u8],
+    sum: &mut Sum,
     reader: &mut R,
     writer: &mut W,
     errors: &mut E,
-) -> Result<Counts, ToolFault> {
-    if !matches!(asked.format, ReportFormat::Annotations) {
-        return explain_to(alloc, asked, name, front, first, reader, writer, errors);
+) -> Result<(), ToolFault> {
+    let is_log = matches!(asked.format, ReportFormat::Sarif);
+    if !is_log && !matches!(asked.format, ReportFormat::Annotations) {
+        sum.add(explain_to(alloc, asked, name, front, first, reader, writer, errors)?);
+        return Ok(());
     }
     let mut lines = Vec::new(alloc);
     let end = explain_to(alloc, asked, name, front, first, reader, &mut lines, errors);
-    let Ok(annotations) = annotations_of(alloc, name, &lines) else {
-        return Err(ToolFault::Memory);
-    };
-    write_whole(writer, &annotations)?;
-    end
+    if is_log {
+        if push_results(alloc, &mut sum.results, name, &lines).is_err() {
+            return Err(ToolFault::Memory);
+        }
+    } else {
+        let Ok(annotations) = annotations_of(alloc, name, &lines) else {
+            return Err(ToolFault::Memory);
+        };
+        write_whole(writer, &annotations)?;
+    }
+    sum.add(end?);
+    Ok(())
 }
 
 /// Explains the messages of an input. If it is UTF-16, that is said, and the sum isn't whole. The error is another fault.
@@ -179,8 +203,9 @@ fn explain_input<R: Read, W: Write, E: Write>(
         return Ok(());
     }
     let first = beginning.text();
-    sum.add(explain_text(alloc, asked, name, front, first, reader, writer, errors)?);
-    Ok(())
+    explain_text(
+        alloc, asked, name, front, first, sum, reader, writer, errors,
+    )
 }
 
 /// Explains the messages of a file. If it can't be read, why is said, and the sum isn't whole. The error is another fault.
@@ -259,8 +284,9 @@ fn explain_all<P: Files, R: Read, W: Write, E: Write>(
         ManyMessages::Files(names) => names,
         ManyMessages::Given(lines) => {
             let mut given = lines.as_slice();
-            sum.add(explain_text(alloc, asked, "-", front, b"", &mut given, writer, errors)?);
-            return Ok(());
+            return explain_text(
+                alloc, asked, "-", front, b"", sum, &mut given, writer, errors,
+            );
         }
     };
     for name in names.iter() {
@@ -269,6 +295,14 @@ fn explain_all<P: Files, R: Read, W: Write, E: Write>(
         )?;
     }
     Ok(())
+}
+
+/// Writes what was told as a log in SARIF.
+fn write_log<W: Write>(alloc: Global, sum: &Sum, writer: &mut W) -> Result<(), ToolFault> {
+    let Ok(log) = log_of(alloc, &sum.results) else {
+        return Err(ToolFault::Memory);
+    };
+    write_whole(writer, &log)
 }
 
 /// Explains the messages, and says how many there were. A file that can't be opened is passed over, and any other fault ends the run. The
@@ -282,9 +316,13 @@ pub(crate) fn answer_explain<P: Files, R: Read, W: Write, E: Write>(
     writer: &mut W,
     errors: &mut E,
 ) -> u8 {
-    let mut sum = Sum::new();
-    match explain_all(alloc, files, asked, front, &mut sum, reader, writer, errors) {
-        Ok(()) => end_of_explain(sum, asked, errors),
+    let mut sum = Sum::new(alloc);
+    let mut end = explain_all(alloc, files, asked, front, &mut sum, reader, writer, errors);
+    if end.is_ok() && matches!(asked.format, ReportFormat::Sarif) {
+        end = write_log(alloc, &sum, writer);
+    }
+    match end {
+        Ok(()) => end_of_explain(&sum, asked, errors),
         Err(fault) => {
             say_tool(front, fault, errors);
             UNREAD

@@ -88,10 +88,12 @@ mod annotations;
 mod beginning;
 mod ends;
 mod explain;
+mod finding;
 mod font;
 mod front;
 mod main_with;
 mod picture;
+mod sarif;
 
 use command_line::Surroundings;
 use std::alloc::AllocError;

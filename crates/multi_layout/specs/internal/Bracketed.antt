@@ -30,7 +30,8 @@ pub record IsBracketedJudged (words : Bool) (sign : SignData) (source : Counted)
 abbrev pub JudgesRead : Bool → SignData → Pass → Counted → Option (Tag × ℕ) → Option (Result ℕ SyntaxError) → Pass → Counted → Type 0
 JudgesRead words sign old source None None new judged = judged ≡ source
 JudgesRead words sign old source (Some (tag, len)) (Some (Ok long)) new judged =
-    (long ≡ len) × (judged ≡ charged source (looks (said_by tag))) × ((ended : Option Line) × JudgesItem words sign old (said_by tag) (Ok ended) new)
+    (long ≡ len) × (judged ≡ charged source (looks (said_by tag)))
+    × ((ended : Option Line) × JudgesItem words sign old (said_by tag) (Ok ended) new)
 JudgesRead words sign old source (Some (tag, len)) (Some (Err error)) new judged =
     (judged ≡ charged source (looks (said_by tag))) × JudgesItem words sign old (said_by tag) (Err error) new
 JudgesRead words sign old source _ _ new judged = ⊥

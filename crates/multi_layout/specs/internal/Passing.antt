@@ -1,5 +1,5 @@
 -- Passing a page of an accepted string, with nothing laid out (own).
-use Rattle.std.specs.Prelude.{◌≡◌, ◌⊎◌, ℕ, ◌+◌, ◌<◌, ◌≤◌, not, length, List, [], ◌∷◌, ◌++◌, map}
+use Rattle.std.specs.Prelude.{◌≡◌, ◌⊎◌, ℕ, ◌+◌, ◌-◌, ◌<◌, ◌≤◌, not, length, List, [], ◌∷◌, ◌++◌, map}
 use Rattle.std.specs.List.{filter}
 use Rattle.multi_token.specs.Spelling.{Item}
 use Rattle.sign_font.specs.Sign.{SignData}
@@ -7,7 +7,12 @@ use Rattle.multi_meaning.specs.internal.Bounds.{BeginsPage, has_place}
 use Rattle.multi_meaning.specs.Meaning.{Meaning, meaning, meanings}
 use Rattle.multi_meaning.specs.Verdict.{pages_of}
 use Rattle.multi_meaning.specs.Times.{Times, cycle, page_times}
+use Rattle.multi_token.specs.Counted.{Counted, charged}
+use Rattle.multi_token.specs.Tokens.{IsTokenOf, item_of}
+use Rattle.multi_token.specs.declared.token.Token.{Token}
 use Rattle.multi_layout.specs.declared.cursor.Cursor.{Cursor}
+use Rattle.multi_layout.specs.declared.turn.Turn.{Turn}
+use Rattle.multi_layout.specs.Finding.{reading_steps}
 use Rattle.multi_layout.specs.internal.Cursors.{IsPlaced}
 use Rattle.multi_judge.specs.internal.State.{IsStateOf}
 
@@ -25,11 +30,7 @@ pub record IsAtStart (sign : SignData) (cursor : Cursor) : Type 0 where
   pub at : cursor.at ≡ 0
   pub state_is : IsStateOf sign [] cursor.state
 
--- the cursor stands between two items of an accepted string, and nothing was laid out (own)
-abbrev pub IsOnTheWay : SignData → List ℕ → Cursor → Type 0
-IsOnTheWay sign octets cursor = (before behind : List Item) × IsPassing sign octets before behind cursor
-
--- and a page begins there (own)
+-- a page begins at the cursor, and nothing was laid out (own)
 pub record IsAtPage (sign : SignData) (octets : List ℕ) (cursor : Cursor) : Type 0 where
   pub before : List Item
   pub behind : List Item
@@ -50,3 +51,18 @@ pub record IsPageSkipped (sign : SignData) (octets : List ℕ) (old new : Cursor
       ((new.state.pages ≡ old.state.pages) × (later ≡ []) × (old.state.pages ≡ pages_of (meanings octets)))
       ⊎ ((new.state.pages ≡ old.state.pages + 1) × (old.at < new.at)
       × (new.state.cycle ≡ old.state.cycle + new.state.attributes.on + new.state.attributes.off) × IsAtPage sign octets new)
+
+-- the item that stands at an offset, of which the first octet was read, is read to its end (own)
+abbrev pub IsRestRead : Counted → ℕ → Counted → Type 0
+IsRestRead source at new = (token : Token) × (token.at ≡ at) × IsTokenOf source.octets token
+    × (new ≡ charged source (reading_steps (length source.octets - at) (item_of source.octets token) - 1))
+
+-- a time of the cycle is one of the page that begins at the cursor, and these are that page's times (own)
+pub record IsTurnAt (sign : SignData) (octets : List ℕ) (time : ℕ) (start : Cursor) (turn : Turn) : Type 0 where
+  pub behind : Cursor
+  pub skipped : IsPageSkipped sign octets start behind
+  pub on : turn.on ≡ behind.state.attributes.on
+  pub off : turn.off ≡ behind.state.attributes.off
+  pub began : start.state.cycle ≤ time
+  pub phase : turn.phase ≡ time - start.state.cycle
+  pub until : turn.phase < turn.on + turn.off

@@ -431,3 +431,33 @@ fn each_step_is_a_read_or_a_look(rt: HostRuntime) -> Result<(), Fail> {
     }
     Ok(())
 }
+
+#[test]
+fn a_change_is_found_by_passing_the_pages_up_to_the_one_that_is_shown(
+    rt: HostRuntime,
+) -> Result<(), Fail> {
+    let rows: [(&[u8], u64, Option<u64>, u64); 8] = [
+        (b"A", 0, None, 2),
+        (b"[[I]]", 0, None, 6),
+        (b"[fo2]A", 0, None, 10),
+        (b"[flt5o5]A", 0, Some(5), 12),
+        (b"[flt5o5]A", 7, Some(3), 12),
+        (b"A[np]A", 0, Some(30), 7),
+        (b"A[np]A", 31, Some(29), 9),
+        (b"[pt10o5]A[np]A", 12, Some(3), 22),
+    ];
+    let sign = Sign::new(rt.alloc(), sample_sign(rt.alloc())?)?;
+    for (octets, clock, left, steps) in rows {
+        let Ok(mut checked) = check(&sign, Source::new(octets)) else {
+            panic!(rt; "{octets:?} is accepted");
+        };
+        let judging = checked.steps();
+        let told = checked.next_change(clock);
+        let took = checked.steps().saturating_sub(judging);
+        assert!(rt;
+            told == left && took == steps,
+            "{octets:?}: {told:?} in {took}"
+        );
+    }
+    Ok(())
+}

@@ -1,4 +1,4 @@
-use message_report::{Explainer, Explanation, Format, Telling};
+use message_report::{Explainer, Explanation, Format, Telling, USUAL_WARNINGS};
 use sign_font::{Sign, sample_sign};
 use std::alloc::Global;
 use std::test::Fail;
@@ -9,6 +9,7 @@ const TELLING: Telling = Telling {
     phase: 0,
     refused_only: false,
     pictures: true,
+    warnings: USUAL_WARNINGS,
 };
 
 /// What is told of a message on the sample sign, as line 2 of a file.
@@ -31,6 +32,7 @@ fn a_refusal_is_told_with_its_reason(rt: HostRuntime) -> Result<(), Fail> {
 AB
  ^
 font 1 has no character 66 'B'; it has A I [ ] space
+no proposal: the sign takes none of the texts that were tried
 
 ",
         ),
@@ -40,6 +42,7 @@ font 1 has no character 66 'B'; it has A I [ ] space
 AAAA
    ^
 the line needs 15 pixels, the rectangle has 12
+no proposal: the sign takes none of the texts that were tried
 
 ",
         ),
@@ -77,9 +80,23 @@ fn a_message_is_told_in_lines_and_records(rt: HostRuntime) -> Result<(), Fail> {
         (
             Format::Lines,
             "AAAA",
-            "day:2:4: error: textTooBig (5): the line needs 15 pixels, the rectangle has 12\n",
+            "day:2:4: error: textTooBig (5): the line needs 15 pixels, the rectangle has 12\n\
+             day:2:4: note: no proposal: the sign takes none of the texts that were tried\n",
         ),
         (Format::Lines, "A", ""),
+        (
+            Format::Lines,
+            "[fl]A",
+            "day:2:1: warning: all text flashes, so that nothing stands out (W12)\n",
+        ),
+        (
+            Format::Json,
+            "I ",
+            "{\"line\":2,\"message\":\"I \",\"octets\":null,\"outcome\":\"accepted\",\
+             \"pages\":[{\"number\":1,\"off\":0,\"on\":30,\"picture\":\"............\\n............\\n....1.......\\n\
+             ....1.......\\n....1.......\\n............\\n............\\n\"}],\
+             \"warnings\":[{\"code\":\"W05\",\"octet\":1,\"text\":\"a space at the end of the line takes room and moves the line\"}]}\n",
+        ),
         (Format::Mended, "A", "A\n"),
         (Format::Mended, "AAAA", "AAAA\n"),
         (Format::Mended, "A[nl]A[nl]A", "A[nl]A[np]A\n"),

@@ -77,7 +77,7 @@ const MARKED: &str = "note = '''
 fn a_file_is_described(rt: HostRuntime) -> Result<(), Fail> {
     let report = sign_report(rt.alloc(), FILE.as_bytes(), SignView::Description)?;
     let told = report.text.as_str() == DESCRIPTION;
-    let clean = report.refusals.is_empty() && report.warnings == 0;
+    let clean = report.refusals.is_empty() && report.found.warnings.is_empty();
     assert!(rt; report.is_taken && told && clean, "{}", report.text);
     Ok(())
 }

@@ -2,7 +2,7 @@
 
 use super::{FailingReader, NarrowWriter};
 use crate::tests::so;
-use message_report::{Format, Telling};
+use message_report::{Format, Telling, USUAL_WARNINGS};
 use sign_aids::{Counts, run_explain};
 use std::alloc::Global;
 use std::io::{Read, Write};
@@ -14,6 +14,7 @@ const TELLING: Telling = Telling {
     phase: 0,
     refused_only: false,
     pictures: false,
+    warnings: USUAL_WARNINGS,
 };
 
 /// One of two messages is refused.
@@ -42,6 +43,7 @@ line 2: refused: characterNotDefined (7) at octet 1
 AB
  ^
 font 1 has no character 66 'B'; it has A I [ ] space
+no proposal: the sign takes none of the texts that were tried
 
 ";
 

@@ -1,48 +1,43 @@
-use Rattle.std.proofs.Common.{◌∙◌, ap, subst, drop, arith}
-use Rattle.multi_meaning.specs.Meaning.{meaning}
+use Rattle.std.proofs.Common.{◌∙◌, ◌+◌, ap, subst, arith}
 use Rattle.multi_token.specs.Counted.{Counted}
-use Rattle.multi_token.specs.Spelling.{HasNoItem}
-use Rattle.multi_token.specs.Tokens.{IsTokenOf, item_of}
-use Rattle.message_film.specs.Period.{flash_time}
+use Rattle.multi_layout.specs.Items.{IsNext}
 use Rattle.message_film.proofs.FlashLemmas
+use Rattle.message_film.proofs.FlashLemmas.{Passed}
+use Rattle.message_film.proofs.period.flash_period.Goals.{After-common_time-common}
 use Rattle.message_film.proofs.period.flash_period.Goals as goal
 
-pub loop-token-init : goal.loop-token-init
-loop-token-init c = record {
+pub loop-item-init : goal.loop-item-init
+loop-item-init c = record {
   source = ap (λ (s : Counted). s.octets) c.new-source.ensures;
   within = omega arith;
   passed = FlashLemmas.begins c.args.sign.now c.args.octets.now;
 }
 
+-- what was read, of the octets of the string
+next : (c : After-common_time-common) → IsNext c.args.octets.now c.loop-item.at c.in-Some.item
+next c = subst (λ o. IsNext o c.loop-item.at c.in-Some.item) c.loop-item.invariant.source c.in-Some.ensures.next
+
+-- the item is passed
+passed : (c : After-common_time-common) → Passed c.args.sign.now c.args.octets.now (c.loop-item.at + c.in-Some.item.len) c.common_time-common.result
+passed c =
+    let n = next c in
+    FlashLemmas.passed_more c.args.sign.now c.args.octets.now c.loop-item.at (c.loop-item.at + c.in-Some.item.len) c.loop-item.period c.item_time-flash.result c.common_time-common.result n.item n.next (c.item_time-flash.ensures.time n.item n.is)
+    c.common_time-common.ensures c.loop-item.invariant.passed
+
 pub returns-then-common-from : goal.returns-then-common-from
 returns-then-common-from c =
-    let h = c.loop-token.invariant in
-    let sign = c.args.sign.now in
-    let octets = c.args.octets.now in
-    let token = c.in-Some.token in
-    let stands = subst (λ o. IsTokenOf o token) h.source c.in-Some.ensures.token.1 in
-    let time = c.token_time-flash.ensures.time ∙ ap (λ o. flash_time sign.defaults (meaning (item_of o token))) (c.token_at.ensures.kept ∙ h.source) in
-    let passed = FlashLemmas.passed_more sign octets c.loop-token.at c.loop-token.period c.token_time-flash.result c.common_time-common.result token c.in-Some.ensures.token.0 stands time
-    c.common_time-common.ensures h.passed in
-    FlashLemmas.too_long sign octets _ c.common_time-common.result passed (omega (arith, c.if-common-from.true, c.from.ensures))
+    FlashLemmas.too_long c.args.sign.now c.args.octets.now _ c.common_time-common.result (passed (goal.at.returns-then-common-from c).After-common_time-common) (omega (arith, c.if-common-from.true, c.from.ensures))
 
-pub loop-token-preserved : goal.loop-token-preserved
-loop-token-preserved c =
-    let h = c.loop-token.invariant in
-    let sign = c.args.sign.now in
-    let octets = c.args.octets.now in
-    let token = c.in-Some.token in
-    let here = c.in-Some.ensures.token.0 in
-    let stands = subst (λ o. IsTokenOf o token) h.source c.in-Some.ensures.token.1 in
-    let within = stands.within in
-    let time = c.token_time-flash.ensures.time ∙ ap (λ o. flash_time sign.defaults (meaning (item_of o token))) (c.token_at.ensures.kept ∙ h.source) in
+pub loop-item-preserved : goal.loop-item-preserved
+loop-item-preserved c =
+    let here = (goal.at.loop-item-preserved c).After-common_time-common in
     record {
-      source = c.token_time-flash.ensures.kept ∙ c.token_at.ensures.kept ∙ h.source;
-      within = omega (arith, here, within);
-      passed = FlashLemmas.passed_more sign octets c.loop-token.at c.loop-token.period c.token_time-flash.result c.common_time-common.result token here stands time c.common_time-common.ensures h.passed;
+      source = ap (λ (s : Counted). s.octets) c.in-Some.ensures.steps.3 ∙ c.loop-item.invariant.source;
+      within = (next here).within;
+      passed = passed here;
     }
 
 pub returns : goal.returns
 returns c =
-    let h = c.loop-token.invariant in
-    FlashLemmas.at_end c.args.sign.now c.args.octets.now c.loop-token.at c.loop-token.period h.passed (subst (λ o. HasNoItem (drop c.loop-token.at o)) h.source c.in_default.ensures.none)
+    let h = c.loop-item.invariant in
+    FlashLemmas.at_end c.args.sign.now c.args.octets.now c.loop-item.at c.loop-item.period h.passed (rw h.source at c.in_default.ensures.end)

@@ -9,7 +9,7 @@ pub draw_colours-requires-clause-there : goal.draw_colours-requires-clause-there
 draw_colours-requires-clause-there c =
     let old = c.args.checked.now in
     let there = ShownLemmas.there_at old.sign old.source.octets c.from.result c.locate-shown.result c.locate-shown.ensures.shown in
-    subst (λ text. IsThere text c.locate-shown.result) (sym (ap (λ s. s.octets) c.locate-shown.ensures.steps.3)) there
+    subst (λ text. IsThere text c.locate-shown.result) (sym (ap (λ s. s.octets) c.locate-shown.ensures.steps)) there
 
 pub returns-clause-points : goal.returns-clause-points
 returns-clause-points c =
@@ -17,7 +17,7 @@ returns-clause-points c =
     let text = c.args.checked.now.source.octets in
     let reel = c.args.reel.now in
     let located = c.locate-shown.ensures in
-    let text_is = ap (λ s. s.octets) located.steps.3 in
+    let text_is = ap (λ s. s.octets) located.steps in
     let seen : c.locate-shown.result ≡ shown sign text c.args.clock =
     located.shown ∙ ap (λ s. shown s text c.from.result) c.requires.sign ∙ ap (shown sign text) c.from.ensures in
     let drawn : c.in_ok-moment.moment.items ≡ colours sign text (shown sign text c.args.clock) =

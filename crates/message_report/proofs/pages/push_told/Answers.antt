@@ -10,5 +10,6 @@ returns-in_ok-push_warned c =
     let line = c.args.message.now.line in
     let pages = ExplanationLemmas.pages_are string.sign string.source.octets c.pages.result c.pages.ensures c.requires.short in
     let (told, is, passes) = c.in_ok-push_warned.ensures in
-    let counted = subst (λ n. PassesOver c.args.message.now.message.now line n told) pages passes in
-    (told, is, rw c.if-message.true (subst (λ l. PassesOver l line (page_count string) told) (sym c.requires.octets) counted))
+    let warnings = c.args.message.now.found.now.warnings.items in
+    let counted = subst (λ n. PassesOver c.args.message.now.message.now line n warnings told) pages passes in
+    (told, is, rw c.if-message.true (subst (λ l. PassesOver l line (page_count string) warnings told) (sym c.requires.octets) counted))

@@ -16,4 +16,4 @@ returns c =
     let four = c.in_ok-all.ensures ∙ ap (λ ws. compact_text (array (items_of (warning_records ws)))) c.deref.ensures.value in
     let written = RecordLemmas.accepted_is message.line _ _ _ _ message.message.now pages all (c.deref-2.ensures.value ∙ c.in_ok-shown.ensures) (c.deref-3.ensures.value ∙ c.in_ok-octets.ensures) (c.deref-4.ensures.value ∙ c.in_ok-pages.ensures) (c.deref-5.ensures.value ∙ four) in
     let same = written ∙ ap (λ octets. compact_text (accepted_record message.line octets pages all)) (sym c.requires.octets) in
-    (_, TextLemmas.grown c.args.text.now c.push_accepted.new.text c.push_octet.new.text _ (10 ∷ []) _ c.in_ok-push_accepted.ensures c.in_ok-push_octet.ensures (ap (λ l. l ++ 10 ∷ []) (sym same)), (warnings, refl))
+    (_, TextLemmas.grown c.args.text.now c.push_accepted.new.text c.push_octet.new.text _ (10 ∷ []) _ c.in_ok-push_accepted.ensures c.in_ok-push_octet.ensures (ap (λ l. l ++ 10 ∷ []) (sym same)), refl)

@@ -16,7 +16,7 @@ returns c =
     let (reason, free, third) = c.in_ok-push_reason.ensures in
     let from = from_text (refusal.at - 60) in
     let caret = 10 ∷ caret_text before in
-    let proposal = proposal_line (codes "try: ") c.args.outcome.now in
+    let proposal = proposal_line [] (codes "try: ") c.args.outcome.now in
     let all = ExplanationLemmas.three_more text c.push_refused.new.text c.push_excerpt.new.text c.push_reason.new.text c.push_proposal.new.text told (from ++ shown ++ caret) reason proposal first second third c.in_ok-push_proposal.ensures in
     let same = ap (λ l. l ++ reason ++ 10 ∷ proposal) (sym (NoteLemmas.as_one told from shown caret)) in
     (_, TextLemmas.grown text c.push_proposal.new.text c.push_octet.new.text _ (10 ∷ []) _ (all ∙ ap (λ l. text ++ l) same) c.in_ok-push_octet.ensures refl, (shown, reason, before, of, free, refl))

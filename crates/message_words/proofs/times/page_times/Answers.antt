@@ -4,8 +4,8 @@ use Rattle.multi_token.specs.Counted.{Counted}
 use Rattle.multi_token.specs.Spelling.{HasNoItem}
 use Rattle.multi_token.specs.Tokens.{IsTokenOf, item_of}
 use Rattle.multi_meaning.specs.Meaning.{meaning, meanings}
-use Rattle.message_change.specs.internal.Walk.{IsSaid, is_page_said}
-use Rattle.message_change.proofs.NextItemLemmas
+use Rattle.multi_layout.specs.Items.{IsSaid, is_page_said}
+use Rattle.multi_layout.proofs.ItemLemmas
 use Rattle.message_words.specs.PageTimes.{times_data}
 use Rattle.message_words.proofs.PageTimesLemmas
 use Rattle.message_words.proofs.times.page_times.Goals as goal
@@ -30,10 +30,10 @@ loop-token-preserved c =
     let item = meaning (item_of octets token) in
     let same = c.token_at.ensures.kept ∙ h.source in
     let said = subst (λ o. IsSaid (meaning (item_of o token)) c.said_by-said.result) same c.said_by-said.ensures.said in
-    let read = subst (λ n. meanings (drop n octets) ≡ item ∷ meanings (drop (n + token.len) octets)) here (NextItemLemmas.meanings_next octets token stands) in
+    let read = subst (λ n. meanings (drop n octets) ≡ item ∷ meanings (drop (n + token.len) octets)) here (ItemLemmas.meanings_next octets token stands) in
     let ended = map times_data c.loop-token.ended.items in
     let now = PageTimesLemmas.seen_as (is_page_said c.said_by-said.result) c.loop-token.ended.items c.end_page.new.ended.items c.loop-token.times c.in_ok-end_page.ensures in
-    let is = now ∙ ap (λ b. cond b (ended ++ times_data c.loop-token.times ∷ []) ended) (sym (NextItemLemmas.page_said item c.said_by-said.result said)) in
+    let is = now ∙ ap (λ b. cond b (ended ++ times_data c.loop-token.times ∷ []) ended) (sym (ItemLemmas.page_said item c.said_by-said.result said)) in
     record {
       source = c.said_by-said.ensures.kept ∙ same;
       within = omega (arith, here, within);
@@ -45,6 +45,6 @@ pub returns : goal.returns
 returns c =
     let h = c.loop-token.invariant in
     let octets = c.args.message.now in
-    let none = NextItemLemmas.meanings_none (drop c.loop-token.at octets) (subst (λ o. HasNoItem (drop c.loop-token.at o)) h.source c.in_default.ensures.none) in
+    let none = ItemLemmas.meanings_none (drop c.loop-token.at octets) (subst (λ o. HasNoItem (drop c.loop-token.at o)) h.source c.in_default.ensures.none) in
     ap (map times_data) c.in_ok-push.ensures.items ∙ map-append times_data c.loop-token.ended.items (c.loop-token.times ∷ [])
     ∙ PageTimesLemmas.ends c.args.sign.now octets c.loop-token.at (map times_data c.loop-token.ended.items) (times_data c.loop-token.times) h.passed none

@@ -1,4 +1,4 @@
-use Rattle.std.proofs.Common.{inr, subst, sym}
+use Rattle.std.proofs.Common.{[], inr, subst, sym}
 use Rattle.std.specs.Io.KnownBytes.{prepend_known}
 use Rattle.tool_streams.specs.declared.fault.ToolFault.TheVariants as faults
 use Rattle.sign_aids.specs.internal.Explaining.{Explained}
@@ -17,7 +17,7 @@ returns-in-Ok-true-clause-explains g c =
     let (more, took, grown, some, most) = rw c.in-Ok-true.field-0-test at c.in-Ok-true.ensures.on in
     let reads = HeldLemmas.read_behind (g.R.Read.remaining c.args.reader.now) (g.R.Read.remaining c.read_on.new.reader) c.args.unread.now.block c.read_on.new.block more took grown in
     let written = ExplainLemmas.explained_more_read c.args.asker.now place (prepend_known c.args.unread.now.block (g.R.Read.remaining c.args.reader.now)) (prepend_known c.read_on.new.block (g.R.Read.remaining c.read_on.new.reader)) (g.W.Write.contents c.args.writer.now) (g.W.Write.contents c.write.new.writer) c.args.gathered.now.ready.items reads c.in-Ok.ensures.written in
-    subst (λ l. Explained c.args.asker.now place place (prepend_known c.args.unread.now.block (g.R.Read.remaining c.args.reader.now)) (prepend_known c.read_on.new.block (g.R.Read.remaining c.read_on.new.reader)) (g.W.Write.contents c.args.writer.now) (g.W.Write.contents c.write.new.writer) c.args.gathered.now.ready.items l 0 0 0) (sym c.in-Ok.ensures.none) written
+    subst (λ l. Explained c.args.asker.now place place (prepend_known c.args.unread.now.block (g.R.Read.remaining c.args.reader.now)) (prepend_known c.read_on.new.block (g.R.Read.remaining c.read_on.new.reader)) (g.W.Write.contents c.args.writer.now) (g.W.Write.contents c.write.new.writer) c.args.gathered.now.ready.items l 0 0 []) (sym c.in-Ok.ensures.none) written
 
 pub returns-in_default : goal.returns-in_default
 returns-in_default g c =

@@ -1,4 +1,5 @@
 use Rattle.std.proofs.Common.{inl}
+use Rattle.sign_aids.specs.Explain.{asking_of}
 use Rattle.sign_aids.proofs.NextLemmas
 use Rattle.sign_aids.proofs.explain.run_explain.Goals as goal
 
@@ -8,5 +9,5 @@ returns-in_default g c =
     let setup = c.in-Ok.start.setup in
     let between = g.R.Read.remaining c.begin.new.reader in
     record {
-      explained = inl (taken, setup, c.in-Ok.start.place, between, leads, took, NextLemmas.begins_none (record { sign = setup.sign; telling = c.args.telling; name = c.args.name.now; before = c.args.before }) _ between _);
+      explained = inl (taken, setup, c.in-Ok.start.place, between, leads, took, NextLemmas.begins_none (asking_of setup c.args.telling c.args.name.now c.args.before) _ between _);
     }

@@ -7,6 +7,5 @@ use Rattle.sign_control.proofs.colours.write_shown.Goals as goal
 pub write_colours-requires-clause-there : goal.write_colours-requires-clause-there
 write_colours-requires-clause-there c =
     let old = c.accepted_text-checked.result in
-    let (k, low, high, is) = c.locate-shown.ensures.steps in
-    let octets = ap (λ (s : Counted). s.octets) is in
+    let octets = ap (λ (s : Counted). s.octets) c.locate-shown.ensures.steps in
     subst (λ (l : List ℕ). IsThere l c.locate-shown.result) (sym octets) (there_at old.sign old.source.octets c.args.clock c.locate-shown.result c.locate-shown.ensures.shown)

@@ -1,3 +1,4 @@
+use Rattle.sign_tool.proofs.AlikeLemmas
 use Rattle.sign_tool.proofs.ServedLemmas
 use Rattle.sign_tool.proofs.laws.served_signs_run_the_controller.Goals as goal
 
@@ -9,3 +10,6 @@ returns-clause-state c = ServedLemmas.serves_on
 
 pub returns-clause-commands : goal.returns-clause-commands
 returns-clause-commands c = ServedLemmas.commands_run
+
+pub returns-clause-scripts : goal.returns-clause-scripts
+returns-clause-scripts c = AlikeLemmas.serves_as_runs

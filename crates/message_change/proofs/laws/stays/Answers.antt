@@ -1,5 +1,0 @@
-use Rattle.message_change.proofs.StayLemmas
-use Rattle.message_change.proofs.laws.stays.Goals as goal
-
-pub returns : goal.returns
-returns c = StayLemmas.stays

@@ -1,2 +1,0 @@
--- What the code keeps on its way, which no reader of the public contracts needs.
-pub mod Walk

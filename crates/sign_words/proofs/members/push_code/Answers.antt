@@ -1,0 +1,7 @@
+use Rattle.std.proofs.Common.{◌++◌, ◌∙◌, ap, string_bytes}
+use Rattle.sign_words.specs.Told.{quoted}
+use Rattle.sign_words.proofs.ToldLemmas.{then}
+use Rattle.sign_words.proofs.members.push_code.Goals as goal
+
+pub returns : goal.returns
+returns c = then _ _ c.push_quoted.result c.push_quoted.ensures (λ e. e ∙ ap (λ l. string_bytes c.args.text.now ++ quoted l) c.word.ensures)
