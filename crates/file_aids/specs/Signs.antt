@@ -23,7 +23,8 @@ pub record IsReport (view : SignView) (octets text : List ℕ) (warnings : List 
 -- The whole input is taken as a sign file, and its report is written. The answer is whether the file is taken and its sign accepts each
 -- of its permanent messages, and whether the report has no warning. After the fault `Write` a beginning of the report was written. Or the
 -- input isn't read whole, or memory is refused, and nothing is written (own).
-abbrev pub TellsSign : SignView → Option (List ℕ) → Option (List ℕ) → Option (List ℕ) → Option (List ℕ) → Result SignFound ToolFault → Type 0
+abbrev pub TellsSign : SignView → Option (List ℕ) → Option (List ℕ) → Option (List ℕ) → Option (List ℕ)
+    → Result SignFound ToolFault → Type 0
 TellsSign view old new contents contents' (Ok found) = (octets text : List ℕ) × (warnings : List Finding)
     × Consumes old new octets × IsAtEnd new × (length octets ≤ input_limit) × IsReport view octets text warnings
     × (found.is_sound ≡ is_sound octets) × (found.is_clean ≡ (length warnings == 0)) × Appends contents contents' text

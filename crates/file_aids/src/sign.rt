@@ -29,7 +29,8 @@ pub fn run_sign<R: Read, W: Write>(
     reader: &mut R,
     writer: &mut W,
 ) -> Result<SignFound, ToolFault>
-    ensures told { TellsSign view.entry (R.remaining reader.old) (R.remaining reader.new) (W.contents writer.old) (W.contents writer.new) result }
+    ensures told { TellsSign view.entry (R.remaining reader.old) (R.remaining reader.new)
+        (W.contents writer.old) (W.contents writer.new) result }
 {
     let octets = match read_whole(alloc, reader) {
         Ok(octets) => octets,

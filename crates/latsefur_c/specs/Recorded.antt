@@ -54,8 +54,8 @@ why_unfilmed (NoPage pages) = 2
 why_unfilmed (TooLarge tenths) = 14
 why_unfilmed (TooLong tenths) = 15
 
--- there is no film of a text: there is no such sign, or it doesn't accept the text, or the film would be too large (14) or too long (15), or
--- memory was refused (2) (own)
+-- there is no film of a text: there is no such sign, or it doesn't accept the text, or the film would be too large (14) or too long (15),
+-- or memory was refused (2) (own)
 abbrev pub IsUnfilmed : List ℕ → List ℕ → ℕ → Option ℕ → ℕ → Type 0
 IsUnfilmed file text side seconds outcome =
     HasNoSign file outcome
@@ -68,7 +68,8 @@ IsUnfilmed file text side seconds outcome =
 abbrev pub seconds_of : ℕ → Option ℕ
 seconds_of seconds = if seconds == 0 then None else Some seconds
 
--- the film is told; or the side of a pixel isn't 1 to 16, or the seconds are more than 600 (13), or there is no film, and nothing is told (own)
+-- the film is told; or the side of a pixel isn't 1 to 16, or the seconds are more than 600 (13), or there is no film, and nothing is told
+-- (own)
 abbrev pub Films : List ℕ → List ℕ → ℕ → ℕ → List ℕ → List ℕ → ℕ → ℕ → ℕ → Type 0
 Films file text side seconds was now before count outcome =
     ((outcome ≡ 13) × ((side ≡ 0) ⊎ (16 < side) ⊎ (600 < seconds)) × (now ≡ was) × (count ≡ before))

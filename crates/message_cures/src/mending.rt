@@ -2,7 +2,7 @@
 
 ghost use Rattle.std.specs.Prelude.{◌≡◌, ◌+◌, ◌++◌, ◌∷◌, [], ◌<◌, ◌≤◌, true, false, IfOk, IfSome, MatchOption};
 ghost use Rattle.message_cures.specs.Cures.{AreRefused, FailsAll, IsChanged, Mends, Tries, found_one, judged_of, texts};
-ghost use Rattle.message_cures.specs.Shown.{in_capitals, in_lines, in_small_letters, made};
+ghost use Rattle.message_cures.specs.Shown.{in_lines, made};
 ghost use Rattle.message_cures.specs.Taking.{takes};
 
 use crate::change::changed;

@@ -17,7 +17,8 @@ use Rattle.message_report.specs.declared.format.Telling.{Telling}
 use Rattle.message_report.specs.declared.format.Told.{Told}
 use Rattle.message_words.specs.Codes.{code_text}
 use Rattle.message_words.specs.declared.warnings.Warning.{Warning}
-use Rattle.message_report.specs.Explanation.{Explains, HasPages, IsWarned, IsWarnings, PassesOver, Tells, TellsTooLong, accepted_text, head_text, kind_of, line_head, warning_text}
+use Rattle.message_report.specs.Explanation.{Explains, HasPages, IsWarned, IsWarnings, PassesOver, Tells, TellsTooLong, warning_text}
+use Rattle.message_report.specs.Phrases.{accepted_text, head_text, kind_of, line_head}
 
 -- an accepted string has the pages that its items begin
 pub pages_are : (sign : SignData) (octets : List ℕ) (pages : ℕ) → IsVerdict sign octets (Accepted pages) → length octets < 2 ^ 32 → pages ≡ pages_of (meanings octets)

@@ -27,7 +27,8 @@ use Rattle.message_cures.specs.declared.mending.Outcome.TheVariants as outcomes
 use Rattle.message_cures.specs.declared.proposal.Proposal.{Proposal}
 use Rattle.message_words.specs.Codes.{code_text}
 use Rattle.message_words.specs.declared.warnings.Warning.{Warning}
-use Rattle.message_report.specs.Records.{AreFixes, AreFixesOf, accepted_json, accepted_record, edit_record, fix_record, octets_data, page_data, page_record, pages_from, picture_data, refused_json, refused_record, text_data, too_long_record, warning_record, warning_records}
+use Rattle.message_report.specs.Records.{accepted_json, accepted_record, page_data, page_record, pages_from, picture_data, refused_json, refused_record, too_long_record, warning_record, warning_records}
+use Rattle.message_report.specs.Fixes.{AreFixes, AreFixesOf, edit_record, fix_record, octets_data, text_data}
 
 -- one more item without a float
 pub more_items : (ds : List Data) (d : Data) → items_have_float (items_of ds) ≡ false → has_float d ≡ false → items_have_float (items_of (ds ++ d ∷ [])) ≡ false

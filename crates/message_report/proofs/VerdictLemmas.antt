@@ -2,7 +2,7 @@
 use Rattle.std.proofs.Common.{◌≡◌, ℕ, ◌+◌, ◌<◌, ◌++◌, ◌∷◌, ap, arith, codes, false, refl, sym}
 use Rattle.std.specs.Prelude.{◌==◌}
 use Rattle.std.proofs.lemmas.Fmt.{decimal_digit}
-use Rattle.message_report.specs.Explanation.{accepted_text, head_text}
+use Rattle.message_report.specs.Phrases.{accepted_text, head_text}
 
 -- the head of one of the first nine pages, of at most nine
 pub short_head : (page pages : ℕ) → page < 9 → pages < 10 → codes "page " ++ (49 + page) ∷ codes " of " ++ (48 + pages) ∷ codes ", " ≡ head_text page pages

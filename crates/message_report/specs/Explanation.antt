@@ -1,11 +1,9 @@
 -- What is told of a message: the verdict on it and its place, and the pages as pictures, with lines of words for people between them.
-use Rattle.std.specs.Prelude.{◌≡◌, ℕ, zero, suc, ◌+◌, ◌-◌, min, Bool, true, false, ◌==◌, nat_lt, List, [], ◌∷◌, ◌++◌, drop, length, codes, decimal, Option, None, Some, if◌then◌else◌}
+use Rattle.std.specs.Prelude.{◌≡◌, ℕ, zero, suc, ◌+◌, ◌-◌, min, Bool, true, false, nat_lt, List, [], ◌∷◌, ◌++◌, drop, length, codes, None, if◌then◌else◌}
 use Rattle.sign_font.specs.Sign.{SignData}
 use Rattle.multi_meaning.specs.Verdict.{Verdict, Accepted, Refused, verdict}
 use Rattle.message_cures.specs.Cures.{Mends}
-use Rattle.message_cures.specs.declared.mending.Kind.{Kind}
 use Rattle.message_cures.specs.declared.mending.Outcome.{Outcome}
-use Rattle.message_cures.specs.declared.mending.Outcome.TheVariants as outcomes
 use Rattle.message_words.specs.Codes.{code_text}
 use Rattle.message_words.specs.Warned.{AreWarnings}
 use Rattle.message_words.specs.declared.warnings.Warning.{Warning}
@@ -18,75 +16,9 @@ use Rattle.message_report.specs.declared.picture.Picture.{Picture}
 use Rattle.message_report.specs.declared.picture.Picture.TheVariants.{Blocks, Marks}
 use Rattle.message_report.specs.Blocks.{coloured_text}
 use Rattle.message_report.specs.Records.{TellsRecord, TooLongRecord}
-use Rattle.message_report.specs.Names.{name_of}
 use Rattle.message_report.specs.Notes.{AreWarned, caret_text, from_text, is_still, legend_text}
 use Rattle.message_report.specs.Pictures.{page_text}
-
--- PLACES
-
--- what is told of a message begins with the number of its line (own)
-unfoldable pub line_head : ℕ → List ℕ
-line_head line = codes "line " ++ decimal line ++ codes ": "
-
--- a place in a file as editors read it: the name, the line, and the column of an octet, which is counted from 1 (own)
-unfoldable pub place_text : List ℕ → ℕ → ℕ → List ℕ
-place_text name line at = name ++ codes ":" ++ decimal line ++ codes ":" ++ decimal (at + 1) ++ codes ": "
-
--- VERDICTS
-
--- an error by its name and its number (own)
-unfoldable pub error_text : ℕ → List ℕ
-error_text code = name_of code ++ codes " (" ++ decimal code ++ codes ")"
-
--- a refused message is told with its error, and the octet where that stands, counted from 0 (own)
-unfoldable pub refused_text : ℕ → ℕ → List ℕ
-refused_text code at = codes "refused: " ++ error_text code ++ codes " at octet " ++ decimal at ++ codes "\n"
-
--- an accepted message is told with the number of its pages (own)
-unfoldable pub accepted_text : ℕ → List ℕ
-accepted_text pages = codes "accepted: " ++ decimal pages ++ (if pages == 1 then codes " page\n" else codes " pages\n")
-
--- a message with too many octets isn't judged (own)
-unfoldable pub too_long_text : List ℕ
-too_long_text = codes "too long: a message has at most 4096 octets\n"
-
--- a page begins with its number, counted from 1, and how many there are (own)
-unfoldable pub head_text : ℕ → ℕ → List ℕ
-head_text page pages = codes "page " ++ decimal (page + 1) ++ codes " of " ++ decimal pages ++ codes ", "
-
--- PROPOSALS
-
--- a change of a line of a file begins with the file's name, once for what it was and once for what it becomes, and the line (own)
-unfoldable pub change_head : List ℕ → ℕ → List ℕ
-change_head name line = codes "--- " ++ name ++ codes "\n+++ " ++ name ++ codes "\n@@ -" ++ decimal line ++ codes " +" ++ decimal line ++ codes " @@\n-"
-
--- that nothing is proposed, as a line (own)
-unfoldable pub no_proposal_text : List ℕ
-no_proposal_text = codes "no proposal: the sign takes none of the texts that were tried\n"
-
--- what is proposed in place of a message that a sign refuses, after a place and some words as a line, or that nothing is (own)
-abbrev pub proposal_line : List ℕ → List ℕ → Outcome → List ℕ
-proposal_line place words (outcomes.Mended other kind) = place ++ words ++ other.items ++ 10 ∷ []
-proposal_line place words outcomes.Taken = []
-proposal_line place words outcomes.Unknown = place ++ no_proposal_text
-
--- what is written in place of a message: what is proposed, or else itself (own)
-abbrev pub mended_text : List ℕ → Outcome → List ℕ
-mended_text octets (outcomes.Mended other kind) = other.items
-mended_text octets outcomes.Taken = octets
-mended_text octets outcomes.Unknown = octets
-
--- what a proposal keeps, if there is one (own)
-abbrev pub kind_of : Outcome → Option Kind
-kind_of (outcomes.Mended other kind) = Some kind
-kind_of outcomes.Taken = None
-kind_of outcomes.Unknown = None
-
--- the change of a line of a file from a message to what is proposed in its place, as a unified diff, or nothing (own)
-abbrev pub change_text : List ℕ → ℕ → List ℕ → Outcome → List ℕ
-change_text name line octets (outcomes.Mended other kind) = change_head name line ++ octets ++ codes "\n+" ++ other.items ++ codes "\n"
-change_text name line octets outcomes.Taken = []
-change_text name line octets outcomes.Unknown = []
+use Rattle.message_report.specs.Phrases.{accepted_text, diff_text, error_text, head_text, kind_of, line_head, mended_text, place_text, proposal_line, refused_text, too_long_text}
 
 -- WORDS AND PICTURES
 
@@ -164,7 +96,7 @@ Tells telling Ansi sign name octets line v outcome warnings text = TellsWords te
 Tells telling Lines sign name octets line v outcome warnings text = TellsLines name line v outcome warnings text
 Tells telling Json sign name octets line v outcome warnings text = TellsRecord telling sign octets line v outcome warnings text
 Tells telling Mended sign name octets line v outcome warnings text = text ≡ mended_text octets outcome ++ 10 ∷ []
-Tells telling Changed sign name octets line v outcome warnings text = text ≡ change_text name line octets outcome
+Tells telling Changed sign name octets line v outcome warnings text = text ≡ diff_text name line octets outcome
 
 -- a text tells in a format that a message has too many octets (own)
 abbrev pub TellsTooLong : Format → List ℕ → List ℕ → ℕ → List ℕ → Type 0
@@ -180,7 +112,7 @@ abbrev pub IsWarned : List Bool → SignData → ℕ → List ℕ → Verdict �
 IsWarned told sign most octets (Accepted pages) warnings = AreWarnings told sign most octets warnings
 IsWarned told sign most octets (Refused code at) warnings = warnings ≡ []
 
--- a text tells the sign's verdict on a message, with what is proposed in its place and with the warnings on it, as many as are told of (own)
+-- a text tells the sign's verdict on a message, with what is proposed in its place and the warnings on it, as many as are told of (own)
 abbrev pub TellsJudged : Telling → SignData → ℕ → List ℕ → ℕ → List ℕ → Told → List ℕ → Type 0
 TellsJudged telling sign most name line octets told text = (outcome : Outcome) × (warnings : List Warning) × Mends sign octets outcome
     × (told.proposal ≡ kind_of outcome) × IsWarned telling.warnings sign most octets (verdict sign octets) warnings

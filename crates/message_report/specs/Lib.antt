@@ -1,8 +1,10 @@
 pub mod Blocks
 pub mod Explained
 pub mod Explanation
+pub mod Fixes
 pub mod Names
 pub mod Notes
+pub mod Phrases
 pub mod Pictures
 pub mod Pieces
 pub mod Records

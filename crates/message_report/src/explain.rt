@@ -3,7 +3,8 @@ ghost use Rattle.std.specs.Prelude.{◌≡◌, ◌++◌, ◌∷◌, ◌<◌, ◌
 ghost use Rattle.multi_meaning.specs.Verdict.{Accepted, Refused};
 ghost use Rattle.multi_layout.specs.Pages.{page_count};
 ghost use Rattle.message_cures.specs.Taking.{takes};
-ghost use Rattle.message_report.specs.Explanation.{Explains, Tells, TellsTooLong, change_head, change_text, error_text, kind_of, mended_text, place_text, proposal_line};
+ghost use Rattle.message_report.specs.Explanation.{Explains, Tells, TellsTooLong};
+ghost use Rattle.message_report.specs.Phrases.{change_head, diff_text, error_text, kind_of, mended_text, place_text, proposal_line};
 ghost use Rattle.message_cures.specs.declared.mending.Outcome.TheVariants as outcomes;
 ghost use Rattle.message_report.specs.Words.{GrowsBy, IsOneLine};
 
@@ -142,7 +143,7 @@ fn push_mended(text: &mut Explanation, message: &[u8], outcome: &Outcome) -> Res
 }
 
 /// Appends how a change of a line of a file begins.
-#[tactic(auto, unfolding(crate::specs::Explanation::change_head))]
+#[tactic(auto, unfolding(crate::specs::Phrases::change_head))]
 fn push_change_head(text: &mut Explanation, name: &[u8], line: u32) -> Result<(), AllocError>
     ensures { OnOk result (text.new ≡ text.old ++ change_head name.now line) }
 {
@@ -170,7 +171,7 @@ fn push_change(
     message: &[u8],
     outcome: &Outcome,
 ) -> Result<(), AllocError>
-    ensures { OnOk result (text.new ≡ text.old ++ change_text name.now line message.now outcome.now) }
+    ensures { OnOk result (text.new ≡ text.old ++ diff_text name.now line message.now outcome.now) }
 {
     match outcome {
         Outcome::Mended { text: other, .. } => {

@@ -6,7 +6,7 @@ ghost use Rattle.message_cures.specs.Cures.{AreFurther};
 ghost use Rattle.message_cures.specs.Edits.{IsEdited};
 ghost use Rattle.message_cures.specs.declared.difference.Edit.{Edit};
 ghost use Rattle.message_cures.specs.declared.proposal.Proposal.{Proposal};
-ghost use Rattle.message_report.specs.Records.{AreFixes, AreFixesOf, edit_record, fix_record, kind_name, octets_data, text_data};
+ghost use Rattle.message_report.specs.Fixes.{AreFixes, AreFixesOf, edit_record, fix_record, kind_name, octets_data, text_data};
 
 use message_cures::{Edit, Kind, Outcome, edits_of, further};
 use serde_json::{Value, json};
@@ -46,7 +46,7 @@ fn name_of_kind(kind: Kind) -> &'static str
 }
 
 /// The record of an edit.
-#[tactic(auto, unfolding(crate::specs::Records::edit_record))]
+#[tactic(auto, unfolding(crate::specs::Fixes::edit_record))]
 fn edit_value(alloc: Global, edit: &Edit) -> Result<Value, AllocError>
     ensures { IfOk result (λ v. view v ≡ edit_record edit.now) }
 {
@@ -68,7 +68,7 @@ fn edit_values(alloc: Global, edits: &[Edit]) -> Result<Value, AllocError>
 }
 
 /// The record of what is proposed, which these edits make.
-#[tactic(auto, unfolding(crate::specs::Records::fix_record))]
+#[tactic(auto, unfolding(crate::specs::Fixes::fix_record))]
 fn record_value(
     alloc: Global,
     other: &[u8],

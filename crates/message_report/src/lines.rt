@@ -1,7 +1,8 @@
 //! Messages in lines, as editors read them.
 ghost use Rattle.std.specs.Prelude.{◌≡◌, ◌++◌, ◌∷◌, ◌<◌, ◌^◌, [], List, ℕ, codes, min, OnOk};
 ghost use Rattle.message_words.specs.Codes.{code_text};
-ghost use Rattle.message_report.specs.Explanation.{IsWarnings, error_text, place_text, warning_text};
+ghost use Rattle.message_report.specs.Explanation.{IsWarnings, warning_text};
+ghost use Rattle.message_report.specs.Phrases.{error_text, place_text};
 ghost use Rattle.message_report.specs.Words.{GrowsBy, IsOneLine};
 
 use crate::explanation::{Explanation, push_octets};

@@ -9,7 +9,8 @@ ghost use Rattle.message_cures.specs.declared.mending.Outcome.TheVariants.{Taken
 ghost use Rattle.message_words.specs.Codes.{code_text};
 ghost use Rattle.message_report.specs.Names.{name_of};
 ghost use Rattle.message_report.specs.Pictures.{page_text};
-ghost use Rattle.message_report.specs.Records.{AreFixes, TellsPages, TellsRecord, TooLongRecord, accepted_json, all_pages, octets_data, page_record, picture_data, refused_json, refused_record, text_data, warning_record, warning_records};
+ghost use Rattle.message_report.specs.Records.{TellsPages, TellsRecord, TooLongRecord, accepted_json, all_pages, page_record, picture_data, refused_json, refused_record, warning_record, warning_records};
+ghost use Rattle.message_report.specs.Fixes.{AreFixes, octets_data, text_data};
 ghost use Rattle.message_report.specs.Words.{GrowsBy};
 
 use crate::accepted::AcceptedMessage;

@@ -1,6 +1,7 @@
 //! Refused messages in words.
 ghost use Rattle.std.specs.Prelude.{◌≡◌, ◌++◌, ◌∷◌, ◌-◌, [], List, ℕ, drop, OnOk};
-ghost use Rattle.message_report.specs.Explanation.{TellsRefused, no_proposal_text, proposal_line};
+ghost use Rattle.message_report.specs.Explanation.{TellsRefused};
+ghost use Rattle.message_report.specs.Phrases.{no_proposal_text, proposal_line};
 ghost use Rattle.message_report.specs.Notes.{caret_text, from_text};
 ghost use Rattle.message_report.specs.Words.{GrowsBy, GrowsByLineOf, IsLineOf};
 
@@ -22,7 +23,7 @@ pub(crate) fn push_as_it_is(text: &mut Explanation, message: &[u8]) -> Result<()
 }
 
 /// Appends that nothing is proposed, as a line.
-#[tactic(auto, unfolding(crate::specs::Explanation::no_proposal_text))]
+#[tactic(auto, unfolding(crate::specs::Phrases::no_proposal_text))]
 fn push_no_proposal(text: &mut Explanation) -> Result<(), AllocError>
     ensures { OnOk result (text.new ≡ text.old ++ no_proposal_text) }
 {

@@ -1,6 +1,6 @@
 //! The first lines of an explanation.
 ghost use Rattle.std.specs.Prelude.{◌≡◌, ◌++◌, ◌<◌, ◌≤◌, ◌^◌, OnOk};
-ghost use Rattle.message_report.specs.Explanation.{accepted_text, error_text, head_text, line_head, place_text, refused_text, too_long_text};
+ghost use Rattle.message_report.specs.Phrases.{accepted_text, error_text, head_text, line_head, place_text, refused_text, too_long_text};
 ghost use Rattle.message_report.specs.Names.{name_of};
 
 use crate::explanation::Piece::{Number, Octets};
@@ -25,7 +25,7 @@ pub(crate) fn name_of(code: u8) -> &'static str
 }
 
 /// Appends the number of the line of a message.
-#[tactic(auto, unfolding(crate::specs::Explanation::line_head))]
+#[tactic(auto, unfolding(crate::specs::Phrases::line_head))]
 #[inline(always)]
 pub(crate) fn push_line_head(text: &mut Explanation, line: u32) -> Result<(), AllocError>
     ensures { OnOk result (text.new ≡ text.old ++ line_head line) }
@@ -36,7 +36,7 @@ pub(crate) fn push_line_head(text: &mut Explanation, line: u32) -> Result<(), Al
 }
 
 /// Appends a place: the name of a file, a line, and the column of an octet, which is counted from 0 here.
-#[tactic(auto, unfolding(crate::specs::Explanation::place_text))]
+#[tactic(auto, unfolding(crate::specs::Phrases::place_text))]
 pub(crate) fn push_place(
     text: &mut Explanation,
     name: &[u8],
@@ -60,7 +60,7 @@ pub(crate) fn push_place(
 }
 
 /// Appends the name and the number of an error.
-#[tactic(auto, unfolding(crate::specs::Explanation::error_text))]
+#[tactic(auto, unfolding(crate::specs::Phrases::error_text))]
 pub(crate) fn push_error(text: &mut Explanation, code: u8) -> Result<(), AllocError>
     ensures { OnOk result (text.new ≡ text.old ++ error_text code) }
 {
@@ -76,7 +76,7 @@ pub(crate) fn push_error(text: &mut Explanation, code: u8) -> Result<(), AllocEr
 }
 
 /// Appends that a message is refused, with its error and the octet where that stands.
-#[tactic(auto, unfolding(crate::specs::Explanation::refused_text))]
+#[tactic(auto, unfolding(crate::specs::Phrases::refused_text))]
 pub(crate) fn push_refused(text: &mut Explanation, code: u8, at: usize) -> Result<(), AllocError>
     ensures { OnOk result (text.new ≡ text.old ++ refused_text code at) }
 {
@@ -105,7 +105,7 @@ pub(crate) fn push_accepted(text: &mut Explanation, pages: u8) -> Result<(), All
 }
 
 /// The same where the number has more digits than one.
-#[tactic(auto, unfolding(crate::specs::Explanation::accepted_text))]
+#[tactic(auto, unfolding(crate::specs::Phrases::accepted_text))]
 #[inline(never)]
 fn push_many_pages(text: &mut Explanation, pages: u8) -> Result<(), AllocError>
     requires many { 10 ≤ pages }
@@ -122,7 +122,7 @@ fn push_many_pages(text: &mut Explanation, pages: u8) -> Result<(), AllocError>
 }
 
 /// Appends that a message has too many octets.
-#[tactic(auto, unfolding(crate::specs::Explanation::too_long_text))]
+#[tactic(auto, unfolding(crate::specs::Phrases::too_long_text))]
 pub(crate) fn push_too_long(text: &mut Explanation) -> Result<(), AllocError>
     ensures { OnOk result (text.new ≡ text.old ++ too_long_text) }
 {
@@ -144,7 +144,7 @@ pub(crate) fn push_head(text: &mut Explanation, page: u8, pages: u8) -> Result<(
 }
 
 /// The same where a number may have more digits than one.
-#[tactic(auto, unfolding(crate::specs::Explanation::head_text))]
+#[tactic(auto, unfolding(crate::specs::Phrases::head_text))]
 #[inline(never)]
 fn push_long_head(text: &mut Explanation, page: u8, pages: u8) -> Result<(), AllocError>
     ensures { OnOk result (text.new ≡ text.old ++ head_text page pages) }

@@ -1,3 +1,5 @@
+mod CharacterLemmas
+mod OnPagesLemmas
 mod PageTimesLemmas
 mod SaidLemmas
 mod WarnedLemmas

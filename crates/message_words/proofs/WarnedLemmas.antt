@@ -1,48 +1,13 @@
--- On the way through what the items of a message say: where warnings stand.
-use Rattle.std.proofs.Common.{◌≡◌, ℕ, ◌+◌, ◌<◌, ◌≤◌, Bool, true, false, cond, ◌||◌, ◌==◌, arith, min, ◌-◌, List, [], ◌∷◌, ◌++◌, drop, get_or, length, map, take, refl, sym, ap, ◌∙◌, append-nil, append_assoc, take-append-drop}
+-- On the way through the pages of a message: which are too short.
+use Rattle.std.proofs.Common.{◌≡◌, ℕ, ◌+◌, ◌<◌, ◌≤◌, Bool, true, false, ◌||◌, ◌==◌, arith, min, ◌-◌, List, [], ◌∷◌, ◌++◌, drop, get_or, length, map, take, refl, sym, ap, ◌∙◌, append-nil, append_assoc, take-append-drop}
 use Rattle.std.proofs.lemmas.Bool.{ne_eqb}
 use Rattle.std.proofs.lemmas.List.{drop_more, get_or-map, length-drop, length-map, map-append, take_more}
 use Rattle.std.proofs.lemmas.List.Sums.{sum_by-append}
-use Rattle.std.proofs.lemmas.List.Elements.{filter_more}
-use Rattle.std.specs.List.{filter}
-use Rattle.sign_font.specs.Sign.{SignData}
 use Rattle.multi_meaning.specs.Times.{Times, cycle}
 use Rattle.message_words.specs.PageTimes.{times_data}
-use Rattle.message_words.specs.Warned.{is_letter, is_on_item, is_page, is_short, is_shown_always, item_places, page_texts, place_first, short_places}
-use Rattle.message_words.specs.declared.code.WarningCode.{WarningCode}
+use Rattle.message_words.specs.OnPages.{is_short, is_shown_always, place_first, short_places}
 use Rattle.message_words.specs.declared.pages.PageText.{PageText}
-use Rattle.message_words.specs.declared.said.Said.{Said}
 use Rattle.message_words.specs.declared.times.Times as kept
-
--- what is left at a place of a list
-pub left : {X : Type 0} (xs : List X) (i : ℕ) (x : X) → i < length xs → x ≡ get_or xs i x → drop i xs ≡ x ∷ drop (i + 1) xs
-left xs i x below is = drop_more xs i x below ∙ ap (λ y. y ∷ drop (i + 1) xs) (sym is)
-
--- one more item
-pub item_more : (sign : SignData) (pages : ℕ) (code : WarningCode) (said : List Said) (i : ℕ) (next : Said) → i < length said → next ≡ get_or said i next
-    → item_places sign pages code (take (i + 1) said) ≡ item_places sign pages code (take i said) ++ place_first (is_on_item sign pages code next.tag) next.at []
-item_more sign pages code said i next below is =
-    let test : Said → Bool = λ s. is_on_item sign pages code s.tag in
-    let place : Said → ℕ = λ s. s.at in
-    let more = filter_more test said i next below ∙ ap (λ s. filter test (take i said) ++ cond (test s) (s ∷ []) []) (sym is) in
-    ap (map place) more ∙ map-append place (filter test (take i said)) (cond (test next) (next ∷ []) []) ∙ ap (λ l. map place (filter test (take i said)) ++ l) (of (test next))
-  where
-    of : (b : Bool) → map (λ (s : Said). s.at) (cond b (next ∷ []) []) ≡ place_first b next.at []
-    of true = refl
-    of false = refl
-
--- a page ends, or goes on
-pub page_ends : (said : List Said) (i : ℕ) (next : Said) (begin letters : ℕ) → i < length said → next ≡ get_or said i next → is_page next.tag ≡ true
-    → page_texts begin letters (drop i said) ≡ record { begin = begin; letters = letters } ∷ page_texts next.end 0 (drop (i + 1) said)
-page_ends said i next begin letters below is page =
-    ap (page_texts begin letters) (left said i next below is)
-    ∙ ap (λ b. cond b (record { begin = begin; letters = letters } ∷ page_texts next.end 0 (drop (i + 1) said)) (page_texts begin (letters + cond (is_letter next.tag) 1 0) (drop (i + 1) said))) page
-
-pub page_goes_on : (said : List Said) (i : ℕ) (next : Said) (begin letters : ℕ) → i < length said → next ≡ get_or said i next → is_page next.tag ≡ false
-    → page_texts begin letters (drop i said) ≡ page_texts begin (letters + cond (is_letter next.tag) 1 0) (drop (i + 1) said)
-page_goes_on said i next begin letters below is page =
-    ap (page_texts begin letters) (left said i next below is)
-    ∙ ap (λ b. cond b (record { begin = begin; letters = letters } ∷ page_texts next.end 0 (drop (i + 1) said)) (page_texts begin (letters + cond (is_letter next.tag) 1 0) (drop (i + 1) said))) page
 
 -- one more place, after others
 pub placed : (b : Bool) (at : ℕ) (old rest : List ℕ) → old ++ place_first b at rest ≡ (old ++ place_first b at []) ++ rest

@@ -1,4 +1,7 @@
+pub mod Characters
 pub mod Codes
+pub mod OnItems
+pub mod OnPages
 pub mod PageTimes
 pub mod Said
 pub mod Warned

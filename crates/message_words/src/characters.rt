@@ -1,4 +1,6 @@
 //! The characters that a sign's fonts have.
+ghost use Rattle.std.specs.Prelude.{◌≡◌, ◌+◌, ◌++◌, IfOk, OnOk};
+ghost use Rattle.message_words.specs.Characters.{AreCharacters, IsAdded, font_characters, open_run, run_numbers};
 
 use crate::sentence::Value::Hex;
 use crate::sentence::write_sentence;
@@ -88,29 +90,36 @@ fn write_run(text: &mut String, run: CharacterRun) -> Result<(), AllocError> {
     write_character(text, run.last)
 }
 
-/// Adds a character after all others.
-fn add(runs: &mut Vec<CharacterRun>, number: u16) -> Result<(), AllocError> {
-    if let Some(run) = runs.last_mut() {
-        if run.last.saturating_add(1) == number {
-            run.last = number;
-            return Ok(());
-        }
+/// The last number that a character may have.
+const LAST: u16 = 65535;
+
+/// Ends a run at a number, if one has begun; none has where the number of its first character is 0.
+fn end_run(runs: &mut Vec<CharacterRun>, first: u16, last: u16) -> Result<(), AllocError>
+    ensures { OnOk result (run_numbers runs.new.items ≡ run_numbers runs.old.items ++ open_run first (last + 1)) }
+{
+    if first > 0 {
+        runs.push(CharacterRun { first, last })?;
     }
-    Ok(runs.push(CharacterRun {
-        first: number,
-        last: number,
-    })?)
+    Ok(())
 }
 
 /// The characters of a font of a sign. The error says that memory was refused.
-fn runs_of(alloc: Global, sign: &Sign, font: u8) -> Result<Vec<CharacterRun>, AllocError> {
+fn runs_of(alloc: Global, sign: &Sign, font: u8) -> Result<Vec<CharacterRun>, AllocError>
+    ensures { IfOk result (λ runs. run_numbers runs.items ≡ font_characters sign.now font) }
+{
     let mut source = Source::new(b"");
     let mut runs = Vec::new(alloc);
-    for number in 1..=65535u16 {
-        if sign.cell_width(&mut source, font, number).is_some() {
-            add(&mut runs, number)?;
+    let mut first = 0;
+    for last in 0..LAST {
+        let number = last + 1;
+        if sign.cell_width(&mut source, font, number).is_none() {
+            end_run(&mut runs, first, last)?;
+            first = 0;
+        } else if first == 0 {
+            first = number;
         }
     }
+    end_run(&mut runs, first, LAST)?;
     Ok(runs)
 }
 
@@ -179,7 +188,9 @@ fn add_font(
     alloc: Global,
     sign: &Sign,
     font: u8,
-) -> Result<(), AllocError> {
+) -> Result<(), AllocError>
+    ensures { OnOk result (IsAdded sign.now font fonts.old.items fonts.new.items) }
+{
     let runs = runs_of(alloc, sign, font)?;
     let words = in_words(alloc, &runs)?;
     Ok(fonts.push(FontCharacters { font, runs, words })?)
@@ -187,10 +198,13 @@ fn add_font(
 
 impl FontCharacters {
     /// Those of all fonts of a sign. The error says that memory was refused.
-    pub fn of_sign(alloc: Global, sign: &Sign) -> Result<Vec<FontCharacters>, AllocError> {
+    pub fn of_sign(alloc: Global, sign: &Sign) -> Result<Vec<FontCharacters>, AllocError>
+        ensures { IfOk result (λ fonts. AreCharacters sign.now 256 fonts.items) }
+    {
         let mut source = Source::new(b"");
         let mut fonts = Vec::new(alloc);
-        for number in 1..=255u8 {
+        for last in 0..255u8 {
+            let number = last + 1;
             if sign.font(&mut source, number).is_some() {
                 add_font(&mut fonts, alloc, sign, number)?;
             }

@@ -2,12 +2,14 @@
 ghost use Rattle.std.specs.Prelude.{◌≡◌, ◌++◌, [], IfOk, OnOk, map};
 ghost use Rattle.std.specs.List.{flat_map};
 ghost use Rattle.message_words.specs.PageTimes.{times_data};
-ghost use Rattle.message_words.specs.Warned.{decided_notes, note_of, notes_of, place_first, places_in, told_notes};
+ghost use Rattle.message_words.specs.OnPages.{place_first};
+ghost use Rattle.message_words.specs.Warned.{decided_notes, note_of, notes_of, places_in, told_notes};
 
 use crate::code::{CODES, DECIDED, WarningCode};
 use crate::flashes::{all_flash, open_flashes};
-use crate::items::chosen_places;
+use crate::items::{chosen_places, flash_period};
 use crate::pages::{page_texts, short_pages};
+use crate::places::add_place;
 use crate::said::{Said, said_items};
 use crate::sentence::Value::{Hex, Number};
 use crate::sentence::{Value, sentence_of};
@@ -42,16 +44,15 @@ impl<'a> ReadMessage<'a> {
         ensures { IfOk result (λ places. places.items ≡ place_first is at []) }
     {
         let mut places = Vec::new(self.alloc);
-        if is {
-            places.push(at)?;
-        }
+        add_place(&mut places, is, at)?;
         Ok(places)
     }
 
     /// Where warnings with a code stand. The error says that memory was refused.
     fn places(&self, code: WarningCode) -> Result<Vec<usize>, AllocError>
         ensures { IfOk result (λ places. places.items
-            ≡ places_in self.now.sign.now self.now.max_string self.now.octets.now self.now.said.now (map times_data self.now.times.now) code) }
+            ≡ places_in self.now.sign.now self.now.max_string self.now.octets.now self.now.said.now
+            (map times_data self.now.times.now) code) }
     {
         let most = usize::from(self.max_string);
         let defaults = self.sign.defaults();
@@ -120,15 +121,10 @@ impl<'a> ReadMessage<'a> {
         )
     }
 
-    /// How often a flash lights, in tenths of a second.
+    /// After how many tenths of a second a flash lights again.
     fn flash_tenths(&self, at: usize) -> Value<'static> {
-        let defaults = self.sign.defaults();
-        let (on, off) = match self.tag_at(at) {
-            Some(Tag::Flash { on, off, .. }) => (on, off),
-            _ => (None, None),
-        };
-        let on = u64::from(on.unwrap_or(defaults.flash_on));
-        Number(on + u64::from(off.unwrap_or(defaults.flash_off)))
+        let tag = self.tag_at(at);
+        Number(flash_period(self.sign.defaults(), tag).map_or(0, |tenths| tenths.into()))
     }
 
     /// The words on a font.

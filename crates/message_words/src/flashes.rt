@@ -1,8 +1,9 @@
 //! Which flashes of a message go on too long.
-ghost use Rattle.std.specs.Prelude.{◌≡◌, IfOk, false};
-ghost use Rattle.message_words.specs.Warned.{all_flash, open_flashes};
+ghost use Rattle.std.specs.Prelude.{◌≡◌, IfOk};
+ghost use Rattle.message_words.specs.OnPages.{all_flash, open_flashes};
 
-use crate::items::{flashes_after, is_letter, is_page};
+use crate::items::{flash_turn, is_letter, is_page};
+use crate::places::add_place;
 use crate::said::Said;
 use sign_font::Defaults;
 use std::alloc::{AllocError, Global};
@@ -13,33 +14,29 @@ pub(crate) fn open_flashes(
     defaults: Defaults,
     said: &[Said],
 ) -> Result<Vec<usize>, AllocError>
-    ensures { IfOk result (λ places. places.items ≡ open_flashes defaults false said.now) }
+    ensures { IfOk result (λ places. places.items ≡ open_flashes defaults said.now) }
 {
     let mut places = Vec::new(alloc);
     let mut is_flashing = false;
     for one in said {
-        if is_flashing && is_page(one.tag) {
-            places.push(one.at)?;
-        }
-        is_flashing = flashes_after(defaults, is_flashing, one.tag);
+        add_place(&mut places, is_flashing && is_page(one.tag), one.at)?;
+        is_flashing = flash_turn(defaults, one.tag).unwrap_or(is_flashing);
     }
     Ok(places)
 }
 
 /// Whether all letters of a message flash, and there are some.
 pub(crate) fn all_flash(defaults: Defaults, said: &[Said]) -> bool
-    ensures { result ≡ all_flash defaults false false said.now }
+    ensures { result ≡ all_flash defaults said.now }
 {
     let mut has_letters = false;
+    let mut has_still = false;
     let mut is_flashing = false;
     for one in said {
-        if !is_letter(one.tag) {
-            is_flashing = flashes_after(defaults, is_flashing, one.tag);
-        } else if is_flashing {
-            has_letters = true;
-        } else {
-            return false;
-        }
+        let letter = is_letter(one.tag);
+        has_letters = has_letters || letter;
+        has_still = has_still || (letter && !is_flashing);
+        is_flashing = flash_turn(defaults, one.tag).unwrap_or(is_flashing);
     }
-    has_letters
+    has_letters && !has_still
 }

@@ -1,7 +1,7 @@
 //! On which items of a message there are warnings.
 ghost use Rattle.std.specs.Prelude.{◌≡◌, ◌&&◌, IfOk, not};
-ghost use Rattle.std.specs.List.{filter};
-ghost use Rattle.message_words.specs.Warned.{asks_any_version, asks_colour, begins_endless, begins_fast, begins_rapid, chosen_places, flashes_after, has_version, is_any_version, is_idle, is_letter, is_on_item, is_page, item_places, one_place, sets_idle_off, sets_long_dark};
+ghost use Rattle.message_words.specs.OnItems.{asks_any_version, asks_colour, begins_endless, begins_fast, begins_rapid, chosen_places, flash_period, has_version, is_any_version, is_idle, is_letter, is_on_item, is_page, item_places, one_place, sets_idle_off, sets_long_dark};
+ghost use Rattle.message_words.specs.OnPages.{flash_turn};
 
 use crate::code::WarningCode;
 use crate::said::Said;
@@ -80,17 +80,31 @@ fn asks_colour(tag: Option<Tag>) -> bool
     }
 }
 
-/// Whether an item begins a flash that lights more often than twice a second, but not three times.
-fn begins_fast(defaults: Defaults, tag: Option<Tag>) -> bool
-    ensures { result ≡ begins_fast defaults tag }
+/// After how many tenths of a second a flash that an item begins lights again, if it goes on and off.
+pub(crate) fn flash_period(defaults: Defaults, tag: Option<Tag>) -> Option<u16>
+    ensures { result ≡ flash_period defaults tag }
 {
     match tag {
         Some(Tag::Flash { on, off, .. }) => {
             let on = on.unwrap_or(defaults.flash_on);
             let off = off.unwrap_or(defaults.flash_off);
-            on > 0 && off > 0 && u16::from(on) + u16::from(off) == FAST
+            if on > 0 && off > 0 {
+                Some(u16::from(on) + u16::from(off))
+            } else {
+                None
+            }
         }
-        _ => false,
+        _ => None,
+    }
+}
+
+/// Whether an item begins a flash that lights more often than twice a second, but not three times.
+fn begins_fast(defaults: Defaults, tag: Option<Tag>) -> bool
+    ensures { result ≡ begins_fast defaults tag }
+{
+    match flash_period(defaults, tag) {
+        Some(tenths) => tenths == FAST,
+        None => false,
     }
 }
 
@@ -98,13 +112,9 @@ fn begins_fast(defaults: Defaults, tag: Option<Tag>) -> bool
 fn begins_rapid(defaults: Defaults, tag: Option<Tag>) -> bool
     ensures { result ≡ begins_rapid defaults tag }
 {
-    match tag {
-        Some(Tag::Flash { on, off, .. }) => {
-            let on = on.unwrap_or(defaults.flash_on);
-            let off = off.unwrap_or(defaults.flash_off);
-            on > 0 && off > 0 && u16::from(on) + u16::from(off) < FAST
-        }
-        _ => false,
+    match flash_period(defaults, tag) {
+        Some(tenths) => tenths < FAST,
+        None => false,
     }
 }
 
@@ -118,16 +128,14 @@ fn begins_endless(defaults: Defaults, tag: Option<Tag>) -> bool
     }
 }
 
-/// Whether a flash that goes on and off is in force after an item, before which one was or wasn't.
-pub(crate) fn flashes_after(defaults: Defaults, was: bool, tag: Option<Tag>) -> bool
-    ensures { result ≡ flashes_after defaults was tag }
+/// Whether a flash that goes on and off is in force after an item, if the item changes that.
+pub(crate) fn flash_turn(defaults: Defaults, tag: Option<Tag>) -> Option<bool>
+    ensures { result ≡ flash_turn defaults tag }
 {
     match tag {
-        Some(Tag::Flash { on, off, .. }) => {
-            on.unwrap_or(defaults.flash_on) > 0 && off.unwrap_or(defaults.flash_off) > 0
-        }
-        Some(Tag::FlashEnd) => false,
-        _ => was,
+        Some(Tag::Flash { .. }) => Some(flash_period(defaults, tag).is_some()),
+        Some(Tag::FlashEnd) => Some(false),
+        _ => None,
     }
 }
 

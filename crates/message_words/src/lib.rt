@@ -16,6 +16,7 @@ mod items;
 mod names;
 mod pages;
 mod piece;
+mod places;
 mod plain;
 mod reason;
 mod room;

@@ -1,7 +1,7 @@
 //! Which pages of a message are too short to be read.
 ghost use Rattle.std.specs.Prelude.{◌≡◌, IfOk, map};
 ghost use Rattle.message_words.specs.PageTimes.{times_data};
-ghost use Rattle.message_words.specs.Warned.{is_short, is_shown_always, page_texts, short_pages, short_places};
+ghost use Rattle.message_words.specs.OnPages.{is_short, is_shown_always, page_texts, short_pages, short_places};
 
 use crate::items::{is_letter, is_page};
 use crate::said::Said;
@@ -25,7 +25,7 @@ pub(crate) struct PageText {
 
 /// The pages of a message, the items of which say this. The error says that memory was refused.
 pub(crate) fn page_texts(alloc: Global, said: &[Said]) -> Result<Vec<PageText>, AllocError>
-    ensures { IfOk result (λ pages. pages.items ≡ page_texts 0 0 said.now) }
+    ensures { IfOk result (λ pages. pages.items ≡ page_texts said.now) }
 {
     let mut pages = Vec::new(alloc);
     let mut begin = 0;
@@ -35,8 +35,8 @@ pub(crate) fn page_texts(alloc: Global, said: &[Said]) -> Result<Vec<PageText>, 
             pages.push(PageText { begin, letters })?;
             begin = one.end;
             letters = 0;
-        } else {
-            letters += usize::from(is_letter(one.tag));
+        } else if is_letter(one.tag) {
+            letters += 1;
         }
     }
     pages.push(PageText { begin, letters })?;
@@ -91,7 +91,7 @@ pub(crate) fn short_pages(
     times: &[Times],
     said: &[Said],
 ) -> Result<Vec<usize>, AllocError>
-    ensures { IfOk result (λ places. places.items ≡ short_pages (map times_data times.now) (page_texts 0 0 said.now)) }
+    ensures { IfOk result (λ places. places.items ≡ short_pages (map times_data times.now) (page_texts said.now)) }
 {
     if is_shown_always(times) {
         return Ok(Vec::new(alloc));

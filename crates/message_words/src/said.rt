@@ -2,7 +2,7 @@
 ghost use Rattle.std.specs.Prelude.{◌≡◌, IfOk};
 ghost use Rattle.message_words.specs.Said.{said_items};
 
-use crate::times::{said_by, token_at};
+use multi_layout::item_at;
 use multi_tag::Tag;
 use multi_token::Source;
 use std::alloc::{AllocError, Global};
@@ -24,9 +24,9 @@ pub(crate) fn said_items(alloc: Global, message: &[u8]) -> Result<Vec<Said>, All
     let mut source = Source::new(message);
     let mut all = Vec::new(alloc);
     let mut at = 0;
-    while let Some(token) = token_at(&mut source, at) {
-        let tag = said_by(&mut source, &token);
-        let end = at + token.len;
+    while let Some(item) = item_at(&mut source, at) {
+        let end = at + item.len;
+        let tag = item.tag;
         all.push(Said { at, end, tag })?;
         at = end;
     }

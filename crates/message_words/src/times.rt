@@ -1,17 +1,16 @@
 //! The times of the pages of a message.
-ghost use Rattle.std.specs.Prelude.{◌≡◌, ◌∷◌, [], ◌++◌, ◌≤◌, drop, length, IfNone, IfOk, IfSome, OnOk, if◌then◌else◌};
+ghost use Rattle.std.specs.Prelude.{◌≡◌, ◌∷◌, [], ◌++◌, IfOk, OnOk, if◌then◌else◌};
 ghost use Rattle.std.specs.Option.{unwrap_or};
-ghost use Rattle.multi_token.specs.Spelling.{HasNoItem};
-ghost use Rattle.multi_token.specs.Tokens.{IsTokenOf, item_of};
 ghost use Rattle.multi_meaning.specs.Address.{Standing};
-ghost use Rattle.multi_meaning.specs.Meaning.{Meaning, meaning, said_by};
+ghost use Rattle.multi_meaning.specs.Meaning.{Meaning, said_by};
 ghost use Rattle.multi_meaning.specs.Times.{times_at};
 ghost use Rattle.multi_meaning.specs.internal.Present.{standing_behind};
 ghost use Rattle.multi_layout.specs.Items.{IsSaid, is_page_said};
 ghost use Rattle.message_words.specs.PageTimes.{AreTimes, default_times, times_data};
 
-use multi_tag::{Tag, read_tag};
-use multi_token::{Kind, Source, Token, next_token};
+use multi_layout::item_at;
+use multi_tag::Tag;
+use multi_token::Source;
 use sign_font::Sign;
 use std::alloc::{AllocError, Global};
 
@@ -69,34 +68,6 @@ impl Times {
     }
 }
 
-/// The token at an offset of a message, if one is spelled there.
-pub(crate) fn token_at(source: &mut Source<'_>, at: usize) -> Option<Token>
-    requires { at ≤ length source.old.octets }
-    ensures token { IfSome result (λ token. (token.at ≡ at) × IsTokenOf source.old.octets token) }
-    ensures none { IfNone result (HasNoItem (drop at source.old.octets)) }
-    ensures kept { source.new.octets ≡ source.old.octets }
-{
-    match next_token(source, at) {
-        Ok(token) => token,
-        Err(_) => None,
-    }
-}
-
-/// What a token says, if its tag isn't at fault. A character says what the tag 'hc' with its number does.
-pub(crate) fn said_by(source: &mut Source<'_>, token: &Token) -> Option<Tag>
-    requires { IsTokenOf source.old.octets token.now }
-    ensures said { IsSaid (meaning (item_of source.old.octets token.now)) result }
-    ensures kept { source.new.octets ≡ source.old.octets }
-{
-    match token.kind {
-        Kind::Char(octet) => Some(Tag::HexChar(u16::from(octet))),
-        Kind::Tag => match read_tag(source, token) {
-            Ok(tag) => Some(tag),
-            Err(_) => None,
-        },
-    }
-}
-
 /// Ends a page that has these times, if an item that says this begins another one. The error says that memory was refused.
 fn end_page(ended: &mut Vec<Times>, times: Times, said: Option<Tag>) -> Result<(), AllocError>
     ensures { OnOk result (ended.new.items ≡ (if is_page_said said then ended.old.items ++ times ∷ [] else ended.old.items)) }
@@ -115,11 +86,10 @@ pub fn page_times(alloc: Global, sign: &Sign, message: &[u8]) -> Result<Vec<Time
     let mut ended = Vec::new(alloc);
     let mut times = Times::usual(sign);
     let mut at = 0;
-    while let Some(token) = token_at(&mut source, at) {
-        let said = said_by(&mut source, &token);
-        end_page(&mut ended, times, said)?;
-        times = times.after(sign, said);
-        at += token.len;
+    while let Some(item) = item_at(&mut source, at) {
+        end_page(&mut ended, times, item.tag)?;
+        times = times.after(sign, item.tag);
+        at += item.len;
     }
     ended.push(times)?;
     Ok(ended)

@@ -1,5 +1,5 @@
 -- The next item of a text, and what it says.
-use Rattle.std.proofs.Common.{◌≡◌, ℕ, ◌+◌, true, List, [], ◌∷◌, ◌++◌, drop, length, map, Option, Some, None, Err, refl, sym, ap, ◌∙◌, arith, append_assoc}
+use Rattle.std.proofs.Common.{◌≡◌, ℕ, ◌+◌, true, List, [], ◌∷◌, ◌++◌, drop, length, Option, Some, None, Err, refl, sym, ap, ◌∙◌, arith, append_assoc}
 use Rattle.std.proofs.Math.Seq.{drop-length}
 use Rattle.std.proofs.lemmas.List.{length-append}
 use Rattle.std.proofs.lemmas.List.Elements.{All-cons, All-nil}
@@ -13,10 +13,10 @@ use Rattle.multi_tag.specs.declared.tag.Tag.{Tag}
 use Rattle.multi_tag.specs.declared.tag.TagFault.{TagFault}
 use Rattle.multi_tag.specs.declared.tag.TagFault.TheVariants.{Unsupported, Value}
 use Rattle.multi_tag.specs.declared.tag.Tag.TheVariants.{NewPage, NewLine, LineJust, PageJust, Font, CharSpacing, CharSpacingEnd, PageTime, Flash, FlashEnd, Fore, Back, Rect, HexChar}
-use Rattle.multi_meaning.specs.Meaning.{Does, Faulty, Meaning, is_new_page, meaning, meaning_of_tag, meanings}
+use Rattle.multi_meaning.specs.Meaning.{Does, Faulty, Meaning, is_new_page, meaning_of_tag}
 use Rattle.multi_layout.specs.Items.{IsSaid, is_page_said}
 
--- what is left behind an item is read as if it stood alone
+-- what is left after an item is read as if it stood alone
 reading_next : (octets rest : List ℕ) (item : Item) → BeginsWith octets item rest → (reading octets).items ≡ item ∷ (reading rest).items
 reading_next octets rest item begins =
     let behind = each_string_has_a_reading rest in
@@ -27,13 +27,13 @@ reading_next octets rest item begins =
     } in
     (one_reading octets (reading octets).items (item ∷ (reading rest).items) (reading octets).rest (reading rest).rest (each_string_has_a_reading octets) whole).0
 
-pub meanings_next : (octets : List ℕ) (token : Token) → IsTokenOf octets token → meanings (drop token.at octets) ≡ meaning (item_of octets token) ∷ meanings (drop (token.at + token.len) octets)
-meanings_next octets token is = ap (map meaning) (reading_next (drop token.at octets) (drop (token.at + token.len) octets) (item_of octets token) is.begins)
+pub token_next : (octets : List ℕ) (token : Token) → IsTokenOf octets token → (reading (drop token.at octets)).items ≡ item_of octets token ∷ (reading (drop (token.at + token.len) octets)).items
+token_next octets token is = reading_next (drop token.at octets) (drop (token.at + token.len) octets) (item_of octets token) is.begins
 
-pub meanings_none : (octets : List ℕ) → HasNoItem octets → meanings octets ≡ []
-meanings_none octets none =
+pub items_none : (octets : List ℕ) → HasNoItem octets → (reading octets).items ≡ []
+items_none octets none =
     let empty : IsReading octets [] octets = record { each = All-nil IsItem; spelled = refl; ends = none } in
-    ap (map meaning) (one_reading octets (reading octets).items [] (reading octets).rest octets (each_string_has_a_reading octets) empty).0
+    (one_reading octets (reading octets).items [] (reading octets).rest octets (each_string_has_a_reading octets) empty).0
 
 nothing_begins : HasNoItem []
 nothing_begins item rest begins =
@@ -41,8 +41,8 @@ nothing_begins item rest begins =
     let long = ap length begins.1 ∙ length-append (spelling item) rest in
     omega (arith, some, long)
 
-pub meanings_end : (octets : List ℕ) (at : ℕ) → at ≡ length octets → meanings (drop at octets) ≡ []
-meanings_end octets at end = ap meanings (ap (λ n. drop n octets) end ∙ drop-length octets) ∙ meanings_none [] nothing_begins
+pub items_end : (octets : List ℕ) (at : ℕ) → at ≡ length octets → (reading (drop at octets)).items ≡ []
+items_end octets at end = ap (λ l. (reading l).items) (ap (λ n. drop n octets) end ∙ drop-length octets) ∙ items_none [] nothing_begins
 
 -- a tag at fault
 pub faulty : (item : Meaning) (fault : TagFault) → item ≡ meaning_of_tag (Err fault) → (code : ℕ) × (item ≡ Faulty code)

@@ -1,8 +1,10 @@
 -- The items of a string, one after the other, as whoever asks what a message sets reads them.
 use Rattle.std.specs.Prelude.{◌≡◌, ℕ, ◌+◌, ◌^◌, ◌<◌, ◌≤◌, Bool, true, false, List, ◌∷◌, drop, length, Option, Some, None}
+use Rattle.multi_token.specs.Reading.{reading}
+use Rattle.multi_token.specs.Spelling.{Item, spelling}
 use Rattle.multi_tag.specs.declared.tag.Tag.{Tag}
 use Rattle.multi_tag.specs.declared.tag.Tag.TheVariants.{NewPage}
-use Rattle.multi_meaning.specs.Meaning.{Faulty, Meaning, meanings, said_by}
+use Rattle.multi_meaning.specs.Meaning.{Faulty, Meaning, meaning, said_by}
 use Rattle.multi_layout.specs.declared.item.StringItem.{StringItem}
 
 -- an item says what a tag does, or its tag is at fault (own)
@@ -17,9 +19,10 @@ is_page_said _ = false
 
 -- this was read of the item at an offset (own)
 pub record IsNext (octets : List ℕ) (at : ℕ) (read : StringItem) : Type 0 where
-  pub item : Meaning
-  pub next : meanings (drop at octets) ≡ item ∷ meanings (drop (at + read.len) octets)
-  pub is : IsSaid item read.tag
+  pub item : Item
+  pub next : (reading (drop at octets)).items ≡ item ∷ (reading (drop (at + read.len) octets)).items
+  pub is : IsSaid (meaning item) read.tag
+  pub len : read.len ≡ length (spelling item)
   pub some : 1 ≤ read.len
   pub within : at + read.len ≤ length octets
   -- a slice is no longer than this

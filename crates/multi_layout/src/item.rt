@@ -1,8 +1,9 @@
 //! The items of a string, one after the other, for whoever asks what a message sets.
 ghost use Rattle.std.specs.Prelude.{◌≡◌, ◌+◌, ◌-◌, ◌*◌, ◌≤◌, [], drop, length, IfNone, IfSome};
 ghost use Rattle.multi_token.specs.Counted.{RisesBetween};
+ghost use Rattle.multi_token.specs.Reading.{reading};
 ghost use Rattle.multi_token.specs.Tokens.{IsTokenOf, item_of};
-ghost use Rattle.multi_meaning.specs.Meaning.{meaning, meanings};
+ghost use Rattle.multi_meaning.specs.Meaning.{meaning};
 ghost use Rattle.multi_layout.specs.Items.{IsNext, IsSaid};
 
 use multi_tag::{Tag, read_tag};
@@ -36,7 +37,7 @@ fn said_by(source: &mut Source<'_>, token: &Token) -> Option<Tag>
 pub fn item_at(source: &mut Source<'_>, at: usize) -> Option<StringItem>
     requires { at ≤ length source.old.octets }
     ensures next { IfSome result (IsNext source.old.octets at) }
-    ensures end { IfNone result (meanings (drop at source.old.octets) ≡ []) }
+    ensures end { IfNone result ((reading (drop at source.old.octets)).items ≡ []) }
     ensures steps { IfSome result (λ item. RisesBetween source.old source.new 0 (2 * item.len - 1)) }
     ensures end_steps { IfNone result (RisesBetween source.old source.new 0 (length source.old.octets - at + 1)) }
 {

@@ -75,7 +75,8 @@ pub record IsListed (v : SignView) (sign : Option SignData) (found : Findings) (
   pub refusals_told : AreTold v rank.Fault found.refusals.items refusals
   pub warnings_told : AreTold v rank.Warning found.warnings.items warnings
   pub describes : IsDescribed v sign described
-  pub all : text ≡ (faults ++ more_told v rank.Fault found.more_faults) ++ refusals ++ (warnings ++ more_told v rank.Warning found.more_warnings) ++ described
+  pub all : text ≡ (faults ++ more_told v rank.Fault found.more_faults) ++ refusals
+      ++ (warnings ++ more_told v rank.Warning found.more_warnings) ++ described
 
 -- ---- the document in JSON
 
@@ -117,20 +118,16 @@ unfoldable pub truth_of : Bool → List ℕ
 truth_of true = codes "true"
 truth_of false = codes "false"
 
--- whether the file is taken, the faults that are told, and how many more there are (own)
-unfoldable pub faults_told : Bool → Findings → List ℕ
-faults_told is_taken found =
-    codes "{\n  \"taken\": " ++ truth_of is_taken ++ codes ",\n  \"faults\": " ++ findings_told found.faults.items
-    ++ codes ",\n  \"more_faults\": " ++ decimal found.more_faults
+-- the members of some findings: those that are told, and how many more there are (own)
+unfoldable pub list_told : List ℕ → List Finding → ℕ → List ℕ
+list_told name findings more =
+    codes ",\n  \"" ++ name ++ codes "\": " ++ findings_told findings ++ codes ",\n  \"more_" ++ name ++ codes "\": " ++ decimal more
 
--- the warnings that are told, and how many more there are (own)
-unfoldable pub warnings_told : Findings → List ℕ
-warnings_told found =
-    codes ",\n  \"warnings\": " ++ findings_told found.warnings.items ++ codes ",\n  \"more_warnings\": " ++ decimal found.more_warnings
-
--- the document up to the facts of the sign (own)
+-- the document up to the facts of the sign: whether the file is taken, its faults and its warnings (own)
 unfoldable pub found_told : Bool → Findings → List ℕ
-found_told is_taken found = faults_told is_taken found ++ warnings_told found
+found_told is_taken found =
+    codes "{\n  \"taken\": " ++ truth_of is_taken ++ list_told (codes "faults") found.faults.items found.more_faults
+    ++ list_told (codes "warnings") found.warnings.items found.more_warnings
 
 -- the facts of the sign, or that there is none (own)
 abbrev pub IsOfSign : Option SignData → List ℕ → Type 0

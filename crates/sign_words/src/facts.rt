@@ -265,7 +265,8 @@ fn sign_json(sign: &Sign, store: &Store, facts: &Facts<'_>) -> Result<String, Al
 
 /// Appends what a sign file sets up, or nothing if it isn't taken.
 fn push_setup(text: &mut String, setup: Option<&Setup>, facts: &Facts<'_>) -> Result<(), AllocError>
-    ensures { OnOk result ((facts : List ℕ) × IsOfSign (sign_of setup.entry) facts × (string_bytes text.new ≡ string_bytes text.old ++ facts)) }
+    ensures { OnOk result ((facts : List ℕ) × IsOfSign (sign_of setup.entry) facts
+        × (string_bytes text.new ≡ string_bytes text.old ++ facts)) }
 {
     let Some(Setup { sign, store }) = setup else {
         return push_text(text, ",\n  \"sign\": null\n}\n");

@@ -2,7 +2,7 @@
 
 ghost use Rattle.std.specs.Prelude.{◌≡◌, ◌++◌, OnOk, string_bytes};
 ghost use Rattle.sign_words.specs.Names.{code_word, place_text};
-ghost use Rattle.sign_words.specs.Told.{faults_told, finding_told, findings_told, found_told, key_told, others_told, position_told, quoted, table_told, truth_of, warnings_told};
+ghost use Rattle.sign_words.specs.Told.{finding_told, findings_told, found_told, key_told, list_told, others_told, position_told, quoted, table_told, truth_of};
 
 use crate::code::Code;
 use crate::findings::{Finding, Findings};
@@ -114,47 +114,25 @@ fn push_truth(text: &mut String, is_taken: bool) -> Result<(), AllocError>
     }
 }
 
-/// Appends the faults that are told.
-fn push_fault_list(alloc: Global, text: &mut String, found: &Findings) -> Result<(), AllocError>
-    ensures { OnOk result (string_bytes text.new ≡ string_bytes text.old ++ findings_told found.now.faults.items) }
-{
-    push_findings(alloc, text, found.faults.as_slice())
-}
-
-/// Appends the warnings that are told.
-fn push_warning_list(alloc: Global, text: &mut String, found: &Findings) -> Result<(), AllocError>
-    ensures { OnOk result (string_bytes text.new ≡ string_bytes text.old ++ findings_told found.now.warnings.items) }
-{
-    push_findings(alloc, text, found.warnings.as_slice())
-}
-
-/// Appends whether a sign file is taken, and the faults that were found.
-#[tactic(auto, unfolding(crate::specs::Told::faults_told))]
-fn push_faults(
+/// Appends findings, and how many more there are, as the members that begin with a name.
+#[tactic(auto, unfolding(crate::specs::Told::list_told))]
+fn push_list(
     alloc: Global,
     text: &mut String,
-    is_taken: bool,
-    found: &Findings,
+    name: &str,
+    findings: &[Finding],
+    more: usize,
 ) -> Result<(), AllocError>
-    ensures { OnOk result (string_bytes text.new ≡ string_bytes text.old ++ faults_told is_taken found.now) }
+    ensures { OnOk result (string_bytes text.new ≡ string_bytes text.old ++ list_told name.now findings.now more) }
 {
-    push_text(text, "{\n  \"taken\": ")?;
-    push_truth(text, is_taken)?;
-    push_text(text, ",\n  \"faults\": ")?;
-    push_fault_list(alloc, text, found)?;
-    push_text(text, ",\n  \"more_faults\": ")?;
-    push_count(text, found.more_faults)
-}
-
-/// Appends the warnings that were found.
-#[tactic(auto, unfolding(crate::specs::Told::warnings_told))]
-fn push_warnings(alloc: Global, text: &mut String, found: &Findings) -> Result<(), AllocError>
-    ensures { OnOk result (string_bytes text.new ≡ string_bytes text.old ++ warnings_told found.now) }
-{
-    push_text(text, ",\n  \"warnings\": ")?;
-    push_warning_list(alloc, text, found)?;
-    push_text(text, ",\n  \"more_warnings\": ")?;
-    push_count(text, found.more_warnings)
+    push_text(text, ",\n  \"")?;
+    push_text(text, name)?;
+    push_text(text, "\": ")?;
+    push_findings(alloc, text, findings)?;
+    push_text(text, ",\n  \"more_")?;
+    push_text(text, name)?;
+    push_text(text, "\": ")?;
+    push_count(text, more)
 }
 
 /// Appends a document in JSON up to the facts of the sign: whether the file is taken, and what was found.
@@ -167,6 +145,10 @@ pub(crate) fn push_found(
 ) -> Result<(), AllocError>
     ensures { OnOk result (string_bytes text.new ≡ string_bytes text.old ++ found_told is_taken found.now) }
 {
-    push_faults(alloc, text, is_taken, found)?;
-    push_warnings(alloc, text, found)
+    push_text(text, "{\n  \"taken\": ")?;
+    push_truth(text, is_taken)?;
+    let faults = found.faults.as_slice();
+    push_list(alloc, text, "faults", faults, found.more_faults)?;
+    let warnings = found.warnings.as_slice();
+    push_list(alloc, text, "warnings", warnings, found.more_warnings)
 }

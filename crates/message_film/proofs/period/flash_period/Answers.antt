@@ -1,5 +1,6 @@
-use Rattle.std.proofs.Common.{◌∙◌, ◌+◌, ap, subst, arith}
+use Rattle.std.proofs.Common.{◌∙◌, ◌+◌, map, ap, subst, arith}
 use Rattle.multi_token.specs.Counted.{Counted}
+use Rattle.multi_meaning.specs.Meaning.{meaning}
 use Rattle.multi_layout.specs.Items.{IsNext}
 use Rattle.message_film.proofs.FlashLemmas
 use Rattle.message_film.proofs.FlashLemmas.{Passed}
@@ -21,7 +22,7 @@ next c = subst (λ o. IsNext o c.loop-item.at c.in-Some.item) c.loop-item.invari
 passed : (c : After-common_time-common) → Passed c.args.sign.now c.args.octets.now (c.loop-item.at + c.in-Some.item.len) c.common_time-common.result
 passed c =
     let n = next c in
-    FlashLemmas.passed_more c.args.sign.now c.args.octets.now c.loop-item.at (c.loop-item.at + c.in-Some.item.len) c.loop-item.period c.item_time-flash.result c.common_time-common.result n.item n.next (c.item_time-flash.ensures.time n.item n.is)
+    FlashLemmas.passed_more c.args.sign.now c.args.octets.now c.loop-item.at (c.loop-item.at + c.in-Some.item.len) c.loop-item.period c.item_time-flash.result c.common_time-common.result (meaning n.item) (ap (map meaning) n.next) (c.item_time-flash.ensures.time (meaning n.item) n.is)
     c.common_time-common.ensures c.loop-item.invariant.passed
 
 pub returns-then-common-from : goal.returns-then-common-from
@@ -40,4 +41,4 @@ loop-item-preserved c =
 pub returns : goal.returns
 returns c =
     let h = c.loop-item.invariant in
-    FlashLemmas.at_end c.args.sign.now c.args.octets.now c.loop-item.at c.loop-item.period h.passed (rw h.source at c.in_default.ensures.end)
+    FlashLemmas.at_end c.args.sign.now c.args.octets.now c.loop-item.at c.loop-item.period h.passed (ap (map meaning) (rw h.source at c.in_default.ensures.end))

@@ -4,7 +4,7 @@ use Rattle.serde_json.specs.View.{view}
 use Rattle.message_cures.specs.Cures.{AreFurther}
 use Rattle.message_cures.specs.Edits.{IsEdited}
 use Rattle.message_cures.specs.declared.proposal.Proposal.{Proposal}
-use Rattle.message_report.specs.Records.{AreFixesOf, fix_record}
+use Rattle.message_report.specs.Fixes.{AreFixesOf, fix_record}
 use Rattle.message_report.proofs.RecordLemmas
 use Rattle.message_report.proofs.fixes.all_fixes.Goals as goal
 

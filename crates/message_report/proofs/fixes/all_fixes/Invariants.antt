@@ -1,6 +1,6 @@
 use Rattle.std.proofs.Common.{◌∷◌, map, take}
 use Rattle.serde_json.specs.View.{view}
-use Rattle.message_report.specs.Records.{AreFixesOf}
+use Rattle.message_report.specs.Fixes.{AreFixesOf}
 use Rattle.message_report.proofs.fixes.all_fixes.Given as goal
 
 abbrev pub invariant-loop-other : goal.invariant-loop-other

@@ -1,7 +1,7 @@
 use Rattle.std.proofs.Common.{◌≡◌, map, take}
 use Rattle.serde_json.specs.View.{view}
 use Rattle.message_cures.specs.declared.difference.Edit.{Edit}
-use Rattle.message_report.specs.Records.{edit_record}
+use Rattle.message_report.specs.Fixes.{edit_record}
 use Rattle.message_report.proofs.fixes.edit_values.Given as goal
 
 abbrev pub invariant-loop-edit : goal.invariant-loop-edit

@@ -1,6 +1,6 @@
 use Rattle.std.proofs.Common.{[], ◌∷◌, ◌++◌, codes, refl, append_assoc}
 use Rattle.octet_text.proofs.TextLemmas
-use Rattle.message_report.specs.Explanation.{error_text, place_text}
+use Rattle.message_report.specs.Phrases.{error_text, place_text}
 use Rattle.message_report.proofs.lines.push_error_line.Goals as goal
 
 pub returns : goal.returns

@@ -1,7 +1,8 @@
 use Rattle.std.proofs.Common.{◌++◌, codes, refl, ap, ◌∙◌}
 use Rattle.octet_text.proofs.TextLemmas
 use Rattle.message_words.specs.Codes.{code_text}
-use Rattle.message_report.specs.Explanation.{place_text, warning_text}
+use Rattle.message_report.specs.Explanation.{warning_text}
+use Rattle.message_report.specs.Phrases.{place_text}
 use Rattle.message_report.proofs.NoteLemmas
 use Rattle.message_report.proofs.lines.push_warning_line.Goals as goal
 

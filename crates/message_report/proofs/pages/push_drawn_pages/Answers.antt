@@ -1,7 +1,8 @@
 use Rattle.std.proofs.Common.{◌≡◌, ◌∷◌, ◌++◌, ap, ◌∙◌, arith, subst}
 use Rattle.multi_meaning.specs.Meaning.{meanings}
 use Rattle.multi_meaning.specs.Verdict.{pages_of}
-use Rattle.message_report.specs.Explanation.{HasPages, head_text, picture_text}
+use Rattle.message_report.specs.Explanation.{HasPages, picture_text}
+use Rattle.message_report.specs.Phrases.{head_text}
 use Rattle.message_report.proofs.ExplanationLemmas
 use Rattle.message_report.proofs.pages.push_drawn_pages.Goals as goal
 

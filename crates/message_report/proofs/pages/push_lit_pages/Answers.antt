@@ -2,7 +2,8 @@ use Rattle.std.proofs.Common.{◌≡◌, ◌<◌, ◌∷◌, ◌++◌, ap, ◌�
 use Rattle.multi_meaning.specs.Meaning.{meanings}
 use Rattle.multi_meaning.specs.Verdict.{pages_of}
 use Rattle.multi_layout.specs.Pages.{IsSized, page_count}
-use Rattle.message_report.specs.Explanation.{HasPages, head_text, picture_text}
+use Rattle.message_report.specs.Explanation.{HasPages, picture_text}
+use Rattle.message_report.specs.Phrases.{head_text}
 use Rattle.message_report.specs.declared.picture.Picture.TheVariants.{Marks}
 use Rattle.message_report.proofs.ExplanationLemmas
 use Rattle.message_report.proofs.PageLemmas

@@ -1,5 +1,5 @@
 use Rattle.std.proofs.Common.{[], ◌∷◌, ◌++◌, refl, sym, ap, ◌∙◌, subst}
-use Rattle.message_report.specs.Explanation.{accepted_text, line_head}
+use Rattle.message_report.specs.Phrases.{accepted_text, line_head}
 use Rattle.message_report.specs.Notes.{is_still, legend_text}
 use Rattle.message_report.specs.Words.{IsLineOf}
 use Rattle.multi_layout.specs.Pages.{page_count}

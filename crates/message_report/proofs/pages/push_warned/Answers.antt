@@ -1,6 +1,6 @@
 use Rattle.std.proofs.Common.{[], ◌∷◌, ◌++◌, sym, ap, ◌∙◌, append_assoc, length}
 use Rattle.std.proofs.lemmas.Bool.{eqb-false}
-use Rattle.message_report.specs.Explanation.{accepted_text, line_head}
+use Rattle.message_report.specs.Phrases.{accepted_text, line_head}
 use Rattle.message_report.proofs.ExplanationLemmas
 use Rattle.message_report.proofs.pages.push_warned.Goals as goal
 

@@ -1,6 +1,6 @@
 use Rattle.std.proofs.Common.{◌-◌, [], ◌∷◌, ◌++◌, codes, refl, sym, ap, ◌∙◌}
 use Rattle.octet_text.proofs.TextLemmas
-use Rattle.message_report.specs.Explanation.{line_head, proposal_line, refused_text}
+use Rattle.message_report.specs.Phrases.{line_head, proposal_line, refused_text}
 use Rattle.message_report.specs.Notes.{caret_text, from_text}
 use Rattle.message_report.proofs.ExplanationLemmas
 use Rattle.message_report.proofs.NoteLemmas

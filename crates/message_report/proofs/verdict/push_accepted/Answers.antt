@@ -1,5 +1,5 @@
 use Rattle.std.proofs.Common.{◌≡◌, ◌++◌, OnOk, ap, ◌∙◌, subst, sym}
-use Rattle.message_report.specs.Explanation.{accepted_text}
+use Rattle.message_report.specs.Phrases.{accepted_text}
 use Rattle.std.proofs.lemmas.Bool.{ne_eqb}
 use Rattle.message_report.proofs.VerdictLemmas
 use Rattle.message_report.proofs.verdict.push_accepted.Goals as goal

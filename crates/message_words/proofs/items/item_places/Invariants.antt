@@ -1,5 +1,5 @@
 use Rattle.std.proofs.Common.{◌≡◌, take}
-use Rattle.message_words.specs.Warned.{item_places}
+use Rattle.message_words.specs.OnItems.{item_places}
 use Rattle.message_words.proofs.items.item_places.Given as goal
 
 abbrev pub invariant-loop-one : goal.invariant-loop-one

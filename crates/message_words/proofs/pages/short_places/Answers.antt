@@ -1,6 +1,6 @@
 use Rattle.std.proofs.Common.{◌≡◌, ◌+◌, ◌++◌, Global, Vec, ℕ, [], ap, append-nil, sym, ◌∙◌, drop, get_or, map, arith}
 use Rattle.message_words.specs.PageTimes.{times_data}
-use Rattle.message_words.specs.Warned.{is_short, place_first, short_places}
+use Rattle.message_words.specs.OnPages.{is_short, place_first, short_places}
 use Rattle.message_words.proofs.WarnedLemmas
 use Rattle.message_words.proofs.pages.short_places.Goals.{then-is_short+in_ok-push, else-is_short}
 use Rattle.message_words.proofs.pages.short_places.Goals as goal

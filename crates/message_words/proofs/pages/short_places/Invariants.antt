@@ -1,6 +1,6 @@
 use Rattle.std.proofs.Common.{◌≡◌, ◌++◌, drop, map}
 use Rattle.message_words.specs.PageTimes.{times_data}
-use Rattle.message_words.specs.Warned.{short_places}
+use Rattle.message_words.specs.OnPages.{short_places}
 use Rattle.message_words.proofs.pages.short_places.Given as goal
 
 abbrev pub invariant-loop-page : goal.invariant-loop-page

@@ -1,9 +1,10 @@
 use Rattle.std.proofs.Common.{◌≡◌, ◌+◌, ◌-◌, ◌∷◌, drop, ap, subst, arith}
 use Rattle.multi_token.specs.Counted.{Counted}
+use Rattle.multi_token.specs.Reading.{reading}
 use Rattle.multi_token.proofs.ReadingLemmas.{spelling_some}
 use Rattle.multi_token.proofs.StepLemmas.{rises_then}
 use Rattle.multi_token.specs.Tokens.{item_of}
-use Rattle.multi_meaning.specs.Meaning.{meaning, meanings}
+use Rattle.multi_meaning.specs.Meaning.{meaning}
 use Rattle.multi_layout.specs.Items.{IsSaid}
 use Rattle.multi_layout.proofs.ItemLemmas
 use Rattle.multi_layout.proofs.item.item_at.Goals as goal
@@ -18,9 +19,10 @@ returns-in-Ok-Some-clause-next c =
     let len = is.len in
     let within = is.within in
     record {
-      item = meaning (item_of octets token);
-      next = subst (λ n. meanings (drop n octets) ≡ meaning (item_of octets token) ∷ meanings (drop (n + token.len) octets)) here (ItemLemmas.meanings_next octets token is);
+      item = item_of octets token;
+      next = subst (λ n. (reading (drop n octets)).items ≡ item_of octets token ∷ (reading (drop (n + token.len) octets)).items) here (ItemLemmas.token_next octets token is);
       is = subst (λ l. IsSaid (meaning (item_of l token)) c.said_by.result) same c.said_by.ensures.said;
+      len = len;
       some = omega (arith, some, len);
       within = omega (arith, within, here);
       room = is.room;
@@ -37,7 +39,7 @@ returns-in-Ok-Some-clause-steps c =
     (k.0, omega arith, omega (arith, k.2, some, len), k.3)
 
 pub returns-in-Ok-None-clause-end : goal.returns-in-Ok-None-clause-end
-returns-in-Ok-None-clause-end c = ItemLemmas.meanings_end c.args.source.now.octets c.args.at (rw c.in-Ok-None.field-0-is at c.in-Ok-None.ensures.end)
+returns-in-Ok-None-clause-end c = ItemLemmas.items_end c.args.source.now.octets c.args.at (rw c.in-Ok-None.field-0-is at c.in-Ok-None.ensures.end)
 
 pub returns-in-Err-clause-end : goal.returns-in-Err-clause-end
-returns-in-Err-clause-end c = ItemLemmas.meanings_none (drop c.args.at c.args.source.now.octets) c.in-Err.ensures.none_stands
+returns-in-Err-clause-end c = ItemLemmas.items_none (drop c.args.at c.args.source.now.octets) c.in-Err.ensures.none_stands
