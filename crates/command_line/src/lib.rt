@@ -21,7 +21,7 @@ pub use characters::Characters;
 pub use explain::{ExplainRequest, ReportFormat};
 pub use font::{FontRequest, OutsideChoice};
 pub use messages::{ManyMessages, Messages};
-pub use picture::{LitChoice, PictureRequest, Shown};
+pub use picture::{LitChoice, PictureKind, PictureRequest, Shown};
 pub use request::{Request, request_of};
 pub use sign::{SignFormat, SignRequest};
 pub use source::{SignSource, Surroundings};

@@ -15,6 +15,17 @@ pub enum Shown {
     Film { seconds: Option<u16> },
 }
 
+/// What a picture is written in (own).
+#[derive(Clone, Copy, PartialEq, Eq)]
+pub enum PictureKind {
+    /// The Portable Pixmap Format.
+    Ppm,
+    /// GIF.
+    Gif,
+    /// PNG.
+    Png,
+}
+
 /// The colour of the lit pixels of a sign of one colour (own).
 #[derive(Clone, Copy)]
 pub enum LitChoice {
@@ -35,8 +46,8 @@ pub struct PictureRequest<'a> {
     pub sign: SignSource<'a>,
     /// What is drawn of the message.
     pub shown: Shown,
-    /// Whether it is written in GIF, and not in PPM.
-    pub is_gif: bool,
+    /// What it is written in. The message as it plays is written in GIF.
+    pub kind: PictureKind,
     /// How many points side by side a pixel has, 1 to 16.
     pub side: u8,
     /// The colour of lit pixels, if the command line says it. The sign has one colour then.
@@ -47,21 +58,53 @@ pub struct PictureRequest<'a> {
     pub file: Option<&'a str>,
 }
 
-/// What a file with this name, or the output, is written in: whether it is GIF, or why it is nothing.
-fn is_gif(file: Option<&str>, gif: bool) -> Result<bool, &'static str> {
-    let Some(file) = file else {
-        return Ok(gif);
-    };
+/// What a file with this name is written in.
+fn kind_of(file: &str) -> Option<PictureKind> {
     if file.ends_with(".gif") {
-        return Ok(true);
+        return Some(PictureKind::Gif);
     }
-    if !file.ends_with(".ppm") {
-        return Err("the name of a picture's file ends in .gif or .ppm");
+    if file.ends_with(".png") {
+        return Some(PictureKind::Png);
     }
-    if gif {
-        return Err("a file whose name ends in .ppm is no GIF");
+    if file.ends_with(".ppm") {
+        return Some(PictureKind::Ppm);
     }
-    Ok(false)
+    None
+}
+
+/// Why a file whose name ends otherwise isn't what is asked for.
+fn mismatch(asked: PictureKind, kind: PictureKind) -> &'static str {
+    match (asked, kind) {
+        (PictureKind::Gif, PictureKind::Png) => "a file whose name ends in .png is no GIF",
+        (PictureKind::Gif, _) => "a file whose name ends in .ppm is no GIF",
+        (_, PictureKind::Gif) => "a file whose name ends in .gif is no PNG",
+        (_, _) => "a file whose name ends in .ppm is no PNG",
+    }
+}
+
+/// What a picture is written in: what its file's name says, unless an option says otherwise, or what the option says.
+fn picture_kind(file: Option<&str>, asked: PictureKind) -> Result<PictureKind, &'static str> {
+    let Some(file) = file else {
+        return Ok(asked);
+    };
+    let Some(kind) = kind_of(file) else {
+        return Err("the name of a picture's file ends in .gif, .png or .ppm");
+    };
+    if asked == PictureKind::Ppm || asked == kind {
+        return Ok(kind);
+    }
+    Err(mismatch(asked, kind))
+}
+
+/// What the options say that a picture is written in.
+fn kind_asked(picture: &ArgMatches<'_>) -> PictureKind {
+    if picture.get_flag("gif") || picture.get_flag("all") {
+        return PictureKind::Gif;
+    }
+    if picture.get_flag("png") {
+        return PictureKind::Png;
+    }
+    PictureKind::Ppm
 }
 
 /// What is drawn of a message.
@@ -99,11 +142,11 @@ pub(crate) fn picture_asked<'a>(
     messages: Messages<'a>,
 ) -> Result<PictureRequest<'a>, &'static str> {
     let file = picture.get_str("output");
-    let is_gif = is_gif(file, picture.get_flag("gif") || picture.get_flag("all"))?;
+    let kind = picture_kind(file, kind_asked(picture))?;
     Ok(PictureRequest {
         sign,
         shown: shown_of(picture),
-        is_gif,
+        kind,
         side: octet_of(picture, "scale").unwrap_or(8),
         lit: lit_of(picture),
         messages,

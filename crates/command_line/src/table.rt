@@ -192,7 +192,7 @@ const EXPLAIN: [OptionRow; 11] = [
 ];
 
 /// How a message is drawn.
-const PICTURE: [OptionRow; 9] = [
+const PICTURE: [OptionRow; 10] = [
     OptionRow {
         name: "page",
         takes: Takes::Number(1, 255),
@@ -242,6 +242,14 @@ const PICTURE: [OptionRow; 9] = [
         needs: &[],
     },
     OptionRow {
+        name: "png",
+        takes: Takes::Nothing,
+        help: "Writes PNG in place of PPM",
+        default: None,
+        conflicts: &["gif", "all"],
+        needs: &[],
+    },
+    OptionRow {
         name: "scale",
         takes: Takes::Number(1, 16),
         help: "Draws each pixel with N by N points, 1 to 16; its dot is round from 4 on",
@@ -260,7 +268,7 @@ const PICTURE: [OptionRow; 9] = [
     OptionRow {
         name: "output",
         takes: Takes::Text("FILE"),
-        help: "Writes this file, in the format of its ending, .gif or .ppm",
+        help: "Writes this file, in the format of its ending, .gif, .png or .ppm",
         default: None,
         conflicts: &[],
         needs: &[],
@@ -485,7 +493,7 @@ pub(crate) const COMMANDS: [CommandRow; 9] = [
     },
     CommandRow {
         name: "picture",
-        about: "Reads a sign file, a line %% and one message, and writes it as a picture in PPM or GIF",
+        about: "Reads a sign file, a line %% and one message, and writes it as a picture in PPM, GIF or PNG",
         examples: "Examples:\n  signctl picture --sign sign.toml --all --output message.gif -m 'ROAD[np]WORK'",
         options: &[&SIGN, &PICTURE, &GIVEN, &PLACE],
     },

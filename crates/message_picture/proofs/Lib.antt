@@ -1,2 +1,3 @@
+pub mod DrawingLemmas
 pub mod MomentLemmas
 pub mod PpmLemmas

@@ -1,12 +1,13 @@
 //! A message, drawn.
 ghost use Rattle.std.specs.Prelude.{◌≡◌, ◌<◌, ◌≤◌, ◌^◌, IfErr, IfOk, length};
 ghost use Rattle.page_picture.specs.Shown.{IsThere};
-ghost use Rattle.message_picture.specs.Drawn.{AllowsSeconds, IsDrawn, IsNoFilm, IsNoMoment, IsUndrawn, seen};
+ghost use Rattle.message_picture.specs.Drawn.{AllowsSeconds, HasPoints, IsDrawn, IsNoFilm, IsNoMoment, IsUndrawn, seen};
 
+use crate::drawing::drawing_of;
 use crate::view::{Moment, View};
 use message_film::{FilmFault, as_it_plays, still};
 use multi_layout::{Checked, Shown};
-use page_picture::PageColours;
+use page_picture::{PageColours, draw_colours};
 use sign_font::Sign;
 use std::alloc::{AllocError, Global};
 use thiserror::Error;
@@ -80,6 +81,34 @@ fn draw_ppm(
     Ok(file)
 }
 
+/// A moment of a string, as a file in PNG.
+fn draw_png(
+    alloc: Global,
+    sign: &Sign,
+    checked: &mut Checked<'_>,
+    moment: Moment,
+    side: u8,
+) -> Result<Vec<u8>, DrawFault>
+    requires sign { checked.old.sign ≡ sign.now }
+    requires short { length checked.old.source.octets < 2 ^ 32 }
+    requires points { 1 ≤ side }
+    requires side { side ≤ 16 }
+    ensures drawn { IfOk result (λ file. IsDrawn side sign.now checked.old.source.octets (View.Png moment) file.items) }
+    ensures fault { IfErr result (IsNoMoment checked.old.source.octets moment) }
+{
+    let shown = seen_at(checked, moment)?;
+    let colours = draw_colours(alloc, sign, checked, shown)?;
+    let file = drawing_of(
+        alloc,
+        side,
+        sign.width(),
+        sign.height(),
+        sign.classic(),
+        &colours,
+    )?;
+    Ok(file)
+}
+
 /// A string as it plays, as a file in GIF.
 fn draw_film(
     alloc: Global,
@@ -109,6 +138,7 @@ fn draw_film(
 ///
 /// The dot of a pixel is round from 4 points on. It has the pixel's colour: one of the ten classic colours, or
 /// on a monochrome sign amber or dark. A file in PPM has three octets for each point, and at most 100,663,317.
+/// One in PNG has one for each point, and at most 33,565,336. `side` isn't 0 for PNG, which has no empty files.
 /// A film lasts for at most 6,000 tenths of a second, and its file has at most 64,000,000 octets.
 pub fn draw_message(
     alloc: Global,
@@ -123,6 +153,7 @@ pub fn draw_message(
     requires short { length octets.now < 2 ^ 32 }
     requires side { side ≤ 16 }
     requires seconds { AllowsSeconds view }
+    requires points { HasPoints side view }
     ensures drawn { IfOk result (λ file. IsDrawn side sign.now octets.now view file.items) }
     ensures fault { IfErr result (IsUndrawn side sign.now octets.now view) }
 {
@@ -132,6 +163,7 @@ pub fn draw_message(
             let shown = seen_at(checked, moment)?;
             Ok(still(alloc, sign, checked, shown, side)?)
         }
+        View::Png { moment } => draw_png(alloc, sign, checked, moment, side),
         View::Film { seconds } => draw_film(alloc, sign, checked, octets, seconds, side),
     }
 }

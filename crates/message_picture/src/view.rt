@@ -16,6 +16,8 @@ pub enum View {
     Ppm { moment: Moment },
     /// One moment, as a file in GIF with one picture.
     Gif { moment: Moment },
+    /// One moment, as a file in PNG.
+    Png { moment: Moment },
     /// The message as it plays, over and over, as a file in GIF: until it begins anew, or for its first seconds, 1 to 600.
     Film { seconds: Option<u16> },
 }

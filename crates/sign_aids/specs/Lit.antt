@@ -2,8 +2,10 @@
 use Rattle.std.specs.Prelude.{ℕ, ◌+◌, ◌*◌, ◌/◌, ◌%◌, List, [], ◌∷◌, ◌++◌, length, take, drop, if◌then◌else◌}
 use Rattle.std.specs.List.{flat_map, range_with_len}
 use Rattle.std.specs.Str.{bytes_eq}
+use Rattle.std.specs.Int.{w32, to_be_bytes}
+use Rattle.saved_octets.specs.Checksum.{crc32}
 use Rattle.message_picture.specs.declared.view.View.{View}
-use Rattle.message_picture.specs.declared.view.View.TheVariants.{Film, Gif, Ppm}
+use Rattle.message_picture.specs.declared.view.View.TheVariants.{Film, Gif, Png, Ppm}
 use Rattle.sign_aids.specs.declared.lit.Lit.{Lit}
 use Rattle.sign_aids.specs.declared.lit.Lit.TheVariants.{Amber, Green, Red, White}
 
@@ -29,9 +31,16 @@ lit_points lit from count file =
     ++ flat_map (λ place. lit_point lit (point_at file (from + 3 * place))) (range_with_len 0 count)
     ++ drop (from + 3 * count) file
 
+-- a file in PNG with the CRC-32 of its palette as it is: the kind of that chunk stands at octet 37, before 48 octets of colours, and the
+-- CRC at octet 89 (PNG)
+abbrev pub sealed : List ℕ → List ℕ
+sealed file = take 89 file ++ to_be_bytes w32 (crc32 (take 52 (drop 37 file))) ++ drop 93 file
+
 -- a picture in a colour in place of amber. The points of a file in PPM stand at its end, three octets each, and before them is text, in
--- which no octet is above 127. In GIF the colours of the points are the 16 of the palette, from octet 13 on (own)
+-- which no octet is above 127. The colours of the points are the 16 of the palette, in GIF from octet 13 on, and in PNG from octet 41 on,
+-- with a CRC behind them (own)
 abbrev pub lit_file : Lit → View → List ℕ → List ℕ
 lit_file lit (Ppm moment) file = lit_points lit (length file % 3) (length file / 3) file
 lit_file lit (Gif moment) file = lit_points lit 13 16 file
+lit_file lit (Png moment) file = sealed (lit_points lit 41 16 file)
 lit_file lit (Film seconds) file = lit_points lit 13 16 file

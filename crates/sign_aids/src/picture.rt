@@ -1,6 +1,6 @@
 //! A message, drawn and written as a file.
 ghost use Rattle.std.specs.Prelude.{◌≡◌, ◌+◌, ◌≤◌, IfOk, IfErr};
-ghost use Rattle.message_picture.specs.Drawn.{AllowsSeconds};
+ghost use Rattle.message_picture.specs.Drawn.{AllowsSeconds, HasPoints};
 ghost use Rattle.tool_streams.specs.Lines.{input_limit};
 ghost use Rattle.sign_aids.specs.Pictures.{DrawsInput, DrawsLit, DrawsMessage, IsFaultOf, IsFaultOfLit, IsNoMessage, IsPicture, IsUndrawn, TakesLast, picture_fault};
 
@@ -109,6 +109,7 @@ fn picture_of(
 ) -> Result<Vec<u8>, PictureFault>
     requires side { side ≤ 16 }
     requires seconds { AllowsSeconds view }
+    requires points { HasPoints side view }
     ensures drawn { IfOk result (λ file. DrawsMessage side sign.now message.now view file.items) }
     ensures fault { IfErr result (λ e. IsFaultOf side sign.now message.now view e) }
 {
@@ -141,6 +142,7 @@ fn lit_picture(
 ) -> Result<Vec<u8>, PictureFault>
     requires side { side ≤ 16 }
     requires seconds { AllowsSeconds view }
+    requires points { HasPoints side view }
     ensures drawn { IfOk result (λ file. DrawsLit lit side sign.now message.now view file.items) }
     ensures fault { IfErr result (λ e. IsFaultOfLit lit side sign.now message.now view e) }
 {
@@ -160,8 +162,8 @@ fn lit_picture(
     }
 }
 
-/// Reads an input to its end, and draws its one message: the octets of a file in PPM or GIF, with
-/// `side` by `side` points for each pixel, 1 to 16. The input is that of `check`, with one message.
+/// Reads an input to its end, and draws its one message: the octets of a file in PPM, GIF or PNG,
+/// with `side` by `side` points for each pixel, 1 to 16. The input is that of `check`, with one message.
 /// `lit` is the colour of the lit pixels of a sign of one colour, which are amber without it.
 pub fn draw_picture<R: Read>(
     alloc: Global,
@@ -173,6 +175,7 @@ pub fn draw_picture<R: Read>(
 ) -> Result<Vec<u8>, PictureFault>
     requires side { side ≤ 16 }
     requires seconds { AllowsSeconds view }
+    requires points { HasPoints side view }
     ensures drawn { IfOk result (λ file. IsPicture lit sample side view (R.remaining reader.old) (R.remaining reader.new) file.items) }
     ensures fault { IfErr result (IsUndrawn lit sample side view (R.remaining reader.old) (R.remaining reader.new)) }
 {
@@ -204,6 +207,7 @@ pub fn run_picture<R: Read, W: Write>(
 ) -> Result<(), PictureFault>
     requires side { side ≤ 16 }
     requires seconds { AllowsSeconds view }
+    requires points { HasPoints side view }
     ensures drawn { DrawsInput lit sample side view
         (R.remaining reader.old) (R.remaining reader.new) (W.contents writer.old) (W.contents writer.new) result }
 {

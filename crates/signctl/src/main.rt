@@ -31,11 +31,11 @@
 //! read them, and `--format json` a record for each message, with the pictures of its pages by `--pages`. `--refused` leaves out what is
 //! accepted without a warning, and `--strict` counts a warning as a refusal. How many messages there were is said on standard error.
 //!
-//! `signctl picture` reads what `check` reads, with one message, and writes it as a picture in PPM, or with `--gif` in GIF. `--page` says
-//! which page, counted from 1, and `--phase` when, in tenths of a second since the page began; or `--clock` says when, since the message
-//! began to be shown. With `--all` the picture is the message as it plays, until it begins anew or for its first `--seconds`. A pixel has
-//! `--scale` by `--scale` points, 8 by 8 if it isn't given. `--output` names a file that is written in place of standard output, and whose
-//! ending says the format.
+//! `signctl picture` reads what `check` reads, with one message, and writes it as a picture in PPM, or with `--gif` in GIF and with `--png`
+//! in PNG. `--page` says which page, counted from 1, and `--phase` when, in tenths of a second since the page began; or `--clock` says
+//! when, since the message began to be shown. With `--all` the picture is the message as it plays, until it begins anew or for its first
+//! `--seconds`. A pixel has `--scale` by `--scale` points, 8 by 8 if it isn't given. `--output` names a file that is written in place of
+//! standard output, and whose ending says the format.
 //!
 //! `signctl sign` reads a sign file alone, of the input or of the file that is named, and writes what it describes, or the faults that it
 //! finds in it, the permanent messages that its sign refuses, and warnings, each with its line. `--font` shows the characters of a font in

@@ -1,7 +1,8 @@
 //! `signctl picture`, which writes a message as a picture.
-ghost use Rattle.message_picture.specs.Drawn.{AllowsSeconds};
+ghost use Rattle.std.specs.Prelude.{ℕ, ◌≤◌};
+ghost use Rattle.message_picture.specs.Drawn.{AllowsSeconds, HasPoints};
 
-use command_line::{LitChoice, PictureRequest, Shown};
+use command_line::{LitChoice, PictureKind, PictureRequest, Shown};
 use message_picture::{Moment, View};
 use sign_aids::{Lit, PictureFault, draw_picture, run_picture};
 use std::alloc::Global;
@@ -11,8 +12,9 @@ use std::rt::Files;
 use tool_streams::{ToolFault, write_whole};
 
 /// What is drawn, with 1 to 600 seconds of a film. The command line has no others.
-fn view_of(shown: Shown, is_gif: bool) -> View
-    ensures { AllowsSeconds result }
+fn view_of(shown: Shown, kind: PictureKind) -> View
+    ensures seconds { AllowsSeconds result }
+    ensures points { (side : ℕ) → 1 ≤ side → HasPoints side result }
 {
     let moment = match shown {
         Shown::Film {
@@ -31,10 +33,10 @@ fn view_of(shown: Shown, is_gif: bool) -> View
             phase: u64::from(phase),
         },
     };
-    if is_gif {
-        View::Gif { moment }
-    } else {
-        View::Ppm { moment }
+    match kind {
+        PictureKind::Gif => View::Gif { moment },
+        PictureKind::Png => View::Png { moment },
+        PictureKind::Ppm => View::Ppm { moment },
     }
 }
 
@@ -64,8 +66,8 @@ pub(crate) fn answer_picture<P: Files, R: Read, W: Write>(
     reader: &mut R,
     writer: &mut W,
 ) -> Result<(), PictureFault> {
-    let view = view_of(asked.shown, asked.is_gif);
-    let side = asked.side.min(16);
+    let view = view_of(asked.shown, asked.kind);
+    let side = asked.side.clamp(1, 16);
     let lit = match asked.lit {
         Some(lit) => Some(lit_of(lit)),
         None => None,

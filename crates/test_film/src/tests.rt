@@ -1,3 +1,4 @@
+mod drawing;
 mod file;
 mod film;
 mod picture;

@@ -1,7 +1,7 @@
 //! Messages as pictures in files.
 
 ghost use Rattle.std.specs.Prelude.{◌≤◌};
-ghost use Rattle.message_picture.specs.Drawn.{AllowsSeconds};
+ghost use Rattle.message_picture.specs.Drawn.{AllowsSeconds, HasPoints};
 
 use crate::tests::so;
 use message_picture::{DrawFault, Moment, View, draw_message};
@@ -33,6 +33,7 @@ fn drawn(
 ) -> Result<Vec<u8>, DrawFault>
     requires side { side ≤ 16 }
     requires seconds { AllowsSeconds view }
+    requires points { HasPoints side view }
 {
     assert!(rt; text.len() <= 100);
     let Ok(mut checked) = check(sign, Source::new(text)) else {
@@ -116,4 +117,30 @@ fn a_moment_and_a_film_are_drawn_in_gif(rt: HostRuntime) {
         tenths: 3_368_562_317,
     };
     so(&rt, long == Err(want), "more than ten minutes");
+}
+
+#[test]
+fn a_moment_is_drawn_in_png(rt: HostRuntime) {
+    let alloc = rt.alloc();
+    let parts = sample_sign(alloc).expect(&rt, "the parts");
+    let sign = Sign::new(alloc, parts).expect(&rt, "a sign");
+    let view = View::Png {
+        moment: Moment::Page { page: 0, phase: 0 },
+    };
+    let file = drawn(&rt, alloc, &sign, MESSAGE, view, 1).expect(&rt, "a file");
+    // 7 rows of 12 points, and an octet before each
+    so(&rt, file.len() == 135 + 17 + 91, "the length of the file");
+    so(
+        &rt,
+        file.starts_with(b"\x89PNG\r\n\x1a\n\x00\x00\x00\x0dIHDR\x00\x00\x00\x0c\x00\x00\x00\x07"),
+        "its head",
+    );
+    // An `I` has the point of row 2, column 5, and not that of row 3, column 4; the palette has their shares.
+    for (place, shares) in [(152, LIT), (164, DARK)] {
+        let point = usize::from(*file.get(place).expect(&rt, "a point"));
+        let colour = file
+            .get(41 + 3 * point..44 + 3 * point)
+            .expect(&rt, "a colour");
+        so(&rt, colour == shares.as_slice(), "its colour");
+    }
 }

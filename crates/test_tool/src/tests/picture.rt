@@ -39,9 +39,10 @@ fn small_picture(alloc: Global) -> Result<Vec<u8>, AllocError> {
 const START: Moment = Moment::Page { page: 0, phase: 0 };
 
 /// What is drawn in 8 by 8 points for each pixel.
-const VIEWS: [View; 3] = [
+const VIEWS: [View; 4] = [
     View::Ppm { moment: START },
     View::Gif { moment: START },
+    View::Png { moment: START },
     View::Film { seconds: None },
 ];
 
@@ -50,7 +51,7 @@ fn a_picture_has_its_dots(rt: HostRuntime) -> Result<(), Fail> {
     let alloc = rt.alloc();
     let input = small_input(alloc)?;
     let picture = small_picture(alloc)?;
-    let [ppm, _, _] = VIEWS;
+    let [ppm, _, _, _] = VIEWS;
     let drawn = draw_picture(alloc, false, ppm, 8, None, &mut input.as_slice()).expect(
         &rt,
         "a picture",
