@@ -7,7 +7,8 @@ use Rattle.sign_script.specs.declared.ask.Ask.{Ask}
 use Rattle.sign_script.specs.declared.ask.Ask.TheVariants as ask
 use Rattle.sign_script.specs.Asks.{ask_of}
 use Rattle.sign_tool.specs.Script.{Told, replies, told}
-use Rattle.sign_tool.specs.Served.{ServesAsRuns, served, told_ask, told_line}
+use Rattle.sign_tool.specs.Served.{served, told_ask, told_line}
+use Rattle.sign_tool.specs.ServedLaws.{ServesAsRuns}
 use Rattle.sign_tool.proofs.ScriptLemmas.{replies_told}
 
 -- what is there

@@ -5,7 +5,7 @@ use Rattle.std.specs.Int.{w16, to_be_bytes}
 use Rattle.std.proofs.lemmas.Bool.{ne_eqb}
 use Rattle.hex.specs.Hex.{encode_lower, encode_with}
 use Rattle.message_store.specs.declared.message.MsgRef.{MsgRef}
-use Rattle.sign_tool.specs.Served.{code_octets, tenths_text}
+use Rattle.sign_tool.specs.ServedTexts.{code_octets, tenths_text}
 
 -- octets that are written one after the other are written as one
 pub hex_more : (front back : List ℕ) → encode_lower (front ++ back) ≡ encode_lower front ++ encode_lower back

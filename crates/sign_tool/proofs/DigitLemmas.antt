@@ -8,7 +8,7 @@ use Rattle.sign_font.specs.Sign.{SignData}
 use Rattle.multi_meaning.specs.declared.times.Shown.{Shown}
 use Rattle.page_picture.specs.Shown.{colours}
 use Rattle.sign_control.specs.Colours.{TellsColours}
-use Rattle.sign_tool.specs.Served.{digit_row, digit_rows}
+use Rattle.sign_tool.specs.ServedTexts.{digit_row, digit_rows}
 
 pub rows_none : (width : ℕ) (values : List ℕ) → digit_rows width values 0 ≡ []
 unfolding digit_rows

@@ -19,5 +19,6 @@ pub mod ServedLemmas
 pub mod ServingLemmas
 pub mod ServingSteps
 pub mod StartLemmas
+pub mod TalkLemmas
 pub mod ToolLemmas
 mod WrittenLemmas

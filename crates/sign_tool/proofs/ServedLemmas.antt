@@ -18,7 +18,8 @@ use Rattle.tool_streams.specs.Lines.{Cut, IsOneLine, cut, text_of}
 use Rattle.tool_streams.specs.Lines as lines_as
 use Rattle.tool_streams.proofs.SeenLemmas.{length-text_of}
 use Rattle.sign_tool.specs.Script.{Told}
-use Rattle.sign_tool.specs.Served.{CommandsRun, OneReplyEach, ServesOn, acted, acts_of, line_acts, or_kept, restoring, served, served_acts, told_line, told_or_bad, told_restore, told_restored}
+use Rattle.sign_tool.specs.Served.{served, told_line, told_or_bad, told_restore, told_restored}
+use Rattle.sign_tool.specs.ServedLaws.{CommandsRun, OneReplyEach, ServesOn, acted, acts_of, line_acts, or_kept, restoring, served_acts}
 use Rattle.sign_tool.specs.Serving.{ServerData, last_line, last_reply, replies_so_far, replies_to, replies_to_all, told_cut}
 use Rattle.sign_tool.specs.internal.Blocks.{AreLines}
 use Rattle.sign_tool.proofs.CutLemmas.{cut-lines, cut-unfinished}

@@ -121,6 +121,12 @@ module _ (server here : ServerData) (input now output written : Option (List ℕ
     );
   }
 
+  -- no reply to a whole line waits
+  pub caught_up : IsOneLine rest → ready ≡ [] → replies_so_far server (taken ++ (lost ++ rest)) ≡ gone
+  caught_up one empty =
+      so_far server here taken (gone ++ ready) lines go.given (lost ++ rest) (All-append (λ c. c ≢ 10) lost rest go.one one)
+      ∙ ap (λ l. gone ++ l) empty ∙ append-nil gone
+
   -- the reader fails
   ends_failed : IsOneLine rest → ready ≡ [] → Serves server input now output written (Some faults.Read)
   ends_failed one empty = record {
@@ -128,8 +134,7 @@ module _ (server here : ServerData) (input now output written : Option (List ℕ
     sent = gone;
     takes = all_taken;
     writes = go.writes;
-    served = so_far server here taken (gone ++ ready) lines go.given (lost ++ rest) (All-append (λ c. c ≢ 10) lost rest go.one one)
-        ∙ ap (λ l. gone ++ l) empty ∙ append-nil gone;
+    served = caught_up one empty;
   }
 
   -- the first line is answered
@@ -164,7 +169,7 @@ module _ (server here : ServerData) (input now output written : Option (List ℕ
 
   -- no line ends here, and too much of one is passed over
   pub passed : (rest' : List ℕ) (is_cut' : Bool) → IsOneLine rest → PassesCut rest rest' is_cut is_cut'
-      → (lost' : List ℕ) × Serving server here input now output written rest' ready (length rest') is_cut' taken lost' gone lines rounds × IsOneLine rest'
+      → (lost' : List ℕ) × Serving server here input now output written rest' ready (length rest') is_cut' taken lost' gone lines rounds × IsOneLine rest' × (lost' ++ rest' ≡ lost ++ rest)
   passed rest' true one p =
       let long : 8301 < length (lost ++ rest) = elim p.1 [
         | inl cut ↦ omega (arith, length-append lost rest, subst (λ b. IsLost b lost) cut go.is_lost)
@@ -183,6 +188,7 @@ module _ (server here : ServerData) (input now output written : Option (List ℕ
           counted = omega (arith, go.counted, length-append lost rest);
         },
         subst IsOneLine (sym p.0) (All-nil (λ c. c ≢ 10)),
+        ap (λ l. (lost ++ rest) ++ l) p.0 ∙ append-nil (lost ++ rest),
       )
   passed rest' false one p =
       let same = p.0 in (
@@ -198,6 +204,7 @@ module _ (server here : ServerData) (input now output written : Option (List ℕ
           counted = omega (arith, go.counted, ap length same);
         },
         subst IsOneLine (sym same) one,
+        ap (λ l. lost ++ l) same,
       )
 
   -- more is read
@@ -232,14 +239,13 @@ module _ (server here : ServerData) (input now output written : Option (List ℕ
 
   -- the input is at its end, and so all of it is known
   module _ (new : Option (List ℕ)) (one : IsOneLine rest) (took : Consumes now new []) (end : IsAtEnd new) where
-    last : List ℕ
+    abbrev last : List ℕ
     last = last_reply here is_cut rest
 
     all_read : Consumes input new (taken ++ (lost ++ rest))
     all_read = subst (Consumes input new) (append-nil (taken ++ (lost ++ rest))) (Consumes-trans input now new (taken ++ (lost ++ rest)) [] all_taken took)
 
-    replies_are : replies_to_all server (taken ++ (lost ++ rest)) ≡ (gone ++ ready) ++ last
-    unfolding last
+    pub replies_are : replies_to_all server (taken ++ (lost ++ rest)) ≡ (gone ++ ready) ++ last
     replies_are =
         whole server here taken (gone ++ ready) lines go.given (lost ++ rest) (All-append (λ c. c ≢ 10) lost rest go.one one)
         ∙ ap (λ l. (gone ++ ready) ++ l) (last_told here is_cut lost rest go.is_lost)
@@ -278,7 +284,6 @@ module _ (server here : ServerData) (input now output written : Option (List ℕ
 
     pub ends_at_end : (written' : Option (List ℕ)) (result : Result (Unit {0}) ToolFault) → EndsServed here is_cut rest ready written written' result
         → Serves server input new output written' (fault_of result)
-    unfolding last
     ends_at_end written' (Ok done) ends = ends_well written' ends
     ends_at_end written' (Err e) ends = elim ends [
       | inl none ↦ subst (λ f. Serves server input new output written' (Some f)) (sym none.0) (ends_without written' none.1)

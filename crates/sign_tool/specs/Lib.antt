@@ -8,6 +8,9 @@ pub mod Runs
 pub mod SampleSetup
 pub mod Script
 pub mod Served
+pub mod ServedLaws
+pub mod ServedTexts
 pub mod Serving
+pub mod Talk
 pub mod Tool
 pub mod internal

@@ -6,7 +6,7 @@ ghost use Rattle.hex.specs.Hex.{encode_lower};
 ghost use Rattle.sign_control.specs.Change.{next_change};
 ghost use Rattle.sign_control.specs.Report.{row_shown};
 ghost use Rattle.sign_tool.specs.Reply.{check_answer};
-ghost use Rattle.sign_tool.specs.Served.{code_octets, code_reply, colours_text, crc_reply, digit_rows, digits_text, help_text, tenths_text};
+ghost use Rattle.sign_tool.specs.ServedTexts.{code_octets, code_reply, colours_text, crc_reply, digit_rows, digits_text, help_text, tenths_text};
 
 use crate::ready::{Ready, push_number, push_octet, push_octets};
 use crate::replies::{push_crc, push_fault, push_hex};

@@ -4,7 +4,8 @@ ghost use Rattle.sign_control.specs.Saved.{restored, save_size, saved_octets};
 ghost use Rattle.sign_font.specs.Defaults.{default_fault, under};
 ghost use Rattle.sign_script.specs.Fields.{octets_of};
 ghost use Rattle.sign_tool.specs.Reply.{check_answer};
-ghost use Rattle.sign_tool.specs.Served.{answer_of, crc_reply, octets_reply, told_restore, told_restored};
+ghost use Rattle.sign_tool.specs.Served.{answer_of, told_restore, told_restored};
+ghost use Rattle.sign_tool.specs.ServedTexts.{crc_reply, octets_reply};
 
 use crate::answers::{push_text_crc, push_verdict_by};
 use crate::ready::{Ready, push_octets};

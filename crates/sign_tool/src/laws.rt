@@ -1,7 +1,7 @@
 //! Laws of scripts, which no call has to be trusted for.
 
 ghost use Rattle.sign_tool.specs.Script.{CarriesOn, RepliesAsRun};
-ghost use Rattle.sign_tool.specs.Served.{CommandsRun, OneReplyEach, ServesAsRuns, ServesOn};
+ghost use Rattle.sign_tool.specs.ServedLaws.{CommandsRun, OneReplyEach, ServesAsRuns, ServesOn};
 
 /// The replies to lines that spell commands are the texts of the replies of one run of the controller over these commands.
 /// What comes after some lines of a script finds the state that this run makes of the commands that they spell.

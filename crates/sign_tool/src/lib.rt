@@ -24,10 +24,12 @@ mod serving;
 mod setup;
 mod show;
 mod start;
+mod talk;
 mod tool;
 
 pub use laws::{scripts_run_the_controller, served_signs_run_the_controller};
-pub use serving::serve;
+pub use serving::{serve, serve_talk};
 pub use setup::Setup;
 pub use start::{Start, begin};
+pub use talk::Talk;
 pub use tool::{Mode, run_script, run_tool};

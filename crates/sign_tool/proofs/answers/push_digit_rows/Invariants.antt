@@ -1,5 +1,5 @@
 use Rattle.std.proofs.Common.{◌≡◌, ◌++◌}
-use Rattle.sign_tool.specs.Served.{digit_rows}
+use Rattle.sign_tool.specs.ServedTexts.{digit_rows}
 use Rattle.sign_tool.proofs.answers.push_digit_rows.Given as goal
 
 abbrev pub invariant-loop-row : goal.invariant-loop-row

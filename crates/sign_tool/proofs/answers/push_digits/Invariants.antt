@@ -1,5 +1,5 @@
 use Rattle.std.proofs.Common.{◌≡◌, ◌++◌, drop}
-use Rattle.sign_tool.specs.Served.{digits_text}
+use Rattle.sign_tool.specs.ServedTexts.{digits_text}
 use Rattle.sign_tool.proofs.answers.push_digits.Given as goal
 
 abbrev pub invariant-loop-colour : goal.invariant-loop-colour

@@ -1,6 +1,6 @@
 use Rattle.std.proofs.Common.{◌≡◌, ◌++◌, OnOk, subst, List, ℕ}
 use Rattle.sign_control.specs.Saved.{saved_octets, save_size}
-use Rattle.sign_tool.specs.Served.{octets_reply}
+use Rattle.sign_tool.specs.ServedTexts.{octets_reply}
 use Rattle.sign_tool.proofs.SavedLemmas.{saved_front}
 use Rattle.sign_tool.proofs.decoded.push_saved_into.Goals as goal
 
