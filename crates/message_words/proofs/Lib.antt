@@ -1,4 +1,5 @@
 mod CharacterLemmas
+mod OnLinesLemmas
 mod OnPagesLemmas
 mod PageTimesLemmas
 mod SaidLemmas

@@ -55,10 +55,8 @@ is_told told code = of (slice_get told (code_number code - 1))
     of None = false
     of (Some is) = is
 
--- definitions decide where warnings of this code stand; the others are found by drawing pages, or by how spaces stand in lines (own)
+-- definitions decide where warnings of this code stand; the others are found by drawing pages (own)
 abbrev pub is_decided : WarningCode → Bool
-is_decided SpaceAtEnd = false
-is_decided SpaceAtBegin = false
 is_decided DarkPage = false
 is_decided UnlitText = false
 is_decided CoveredText = false
@@ -69,5 +67,5 @@ is_decided _ = true
 -- the codes of which definitions decide, in the order in which they are told (own)
 abbrev pub decided_codes : List WarningCode
 decided_codes =
-    LongText ∷ IdleOff ∷ ShortPage ∷ LongDark ∷ NoColours ∷ FastFlash ∷ RapidFlash ∷ EndlessFlash ∷ OpenFlash ∷ AllFlashes ∷ ManyPages
-    ∷ AnyVersion ∷ []
+    LongText ∷ IdleOff ∷ ShortPage ∷ LongDark ∷ SpaceAtEnd ∷ SpaceAtBegin ∷ NoColours ∷ FastFlash ∷ RapidFlash ∷ EndlessFlash ∷ OpenFlash
+    ∷ AllFlashes ∷ ManyPages ∷ AnyVersion ∷ []

@@ -6,10 +6,11 @@ use Rattle.multi_meaning.specs.Meaning.{meanings}
 use Rattle.multi_meaning.specs.Times.{Times, page_times}
 use Rattle.message_words.specs.Codes.{code_number, decided_codes, is_decided, is_told}
 use Rattle.message_words.specs.OnItems.{chosen_places, item_places}
+use Rattle.message_words.specs.OnLines.{leading_spaces, trailing_spaces}
 use Rattle.message_words.specs.OnPages.{all_flash, open_flashes, page_texts, place_first, short_pages}
 use Rattle.message_words.specs.Said.{said_items}
 use Rattle.message_words.specs.declared.code.WarningCode.{WarningCode}
-use Rattle.message_words.specs.declared.code.WarningCode.TheVariants.{AllFlashes, LongText, OpenFlash, ShortPage}
+use Rattle.message_words.specs.declared.code.WarningCode.TheVariants.{AllFlashes, LongText, OpenFlash, ShortPage, SpaceAtBegin, SpaceAtEnd}
 use Rattle.message_words.specs.declared.said.Said.{Said}
 use Rattle.message_words.specs.declared.warnings.Warning.{Warning}
 
@@ -23,6 +24,8 @@ places_in sign most octets said times LongText = octets_too_many most octets
 places_in sign most octets said times ShortPage = short_pages times (page_texts said)
 places_in sign most octets said times OpenFlash = open_flashes sign.defaults said
 places_in sign most octets said times AllFlashes = place_first (all_flash sign.defaults said) 0 []
+places_in sign most octets said times SpaceAtEnd = trailing_spaces sign.defaults said
+places_in sign most octets said times SpaceAtBegin = leading_spaces sign.defaults said
 places_in sign most octets said times code = chosen_places code (item_places sign (length times) code said)
 
 -- where warnings of a code stand in a string, on a sign whose message table takes texts of so many octets (own)
@@ -53,8 +56,8 @@ is_seen told code = not (is_decided code) && is_told told code
 abbrev pub IsSeen : List Bool → Warning → Type 0
 IsSeen told warning = is_seen told warning.code ≡ true
 
--- these are the warnings on a string: first exactly those that definitions decide, and then some that were found by drawing its pages or
--- by how spaces stand in its lines (own)
+-- these are the warnings on a string: first exactly those that definitions decide, and then some that were found by drawing its pages
+-- (own)
 abbrev pub AreWarnings : List Bool → SignData → ℕ → List ℕ → List Warning → Type 0
 AreWarnings told sign most octets warnings = (decided seen : List Warning) × (warnings ≡ decided ++ seen)
     × (notes_of decided ≡ decided_notes told sign most octets) × All (IsSeen told) seen

@@ -121,14 +121,12 @@ impl WarningCode {
         }
     }
 
-    /// Whether definitions decide where its warnings stand. The others are found by drawing pages, or by how spaces stand in lines.
+    /// Whether definitions decide where its warnings stand. The others are found by drawing pages.
     pub(crate) fn is_decided(self) -> bool
         ensures { result ≡ is_decided self }
     {
         match self {
-            WarningCode::SpaceAtEnd
-            | WarningCode::SpaceAtBegin
-            | WarningCode::DarkPage
+            WarningCode::DarkPage
             | WarningCode::UnlitText
             | WarningCode::CoveredText
             | WarningCode::SameColour
@@ -139,11 +137,13 @@ impl WarningCode {
 }
 
 /// The codes whose warnings definitions decide, in the order in which they are told.
-pub(crate) const DECIDED: [WarningCode; 12] = [
+pub(crate) const DECIDED: [WarningCode; 14] = [
     WarningCode::LongText,
     WarningCode::IdleOff,
     WarningCode::ShortPage,
     WarningCode::LongDark,
+    WarningCode::SpaceAtEnd,
+    WarningCode::SpaceAtBegin,
     WarningCode::NoColours,
     WarningCode::FastFlash,
     WarningCode::RapidFlash,

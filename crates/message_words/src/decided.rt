@@ -8,6 +8,7 @@ ghost use Rattle.message_words.specs.Warned.{decided_notes, note_of, notes_of, p
 use crate::code::{CODES, DECIDED, WarningCode};
 use crate::flashes::{all_flash, open_flashes};
 use crate::items::{chosen_places, flash_period};
+use crate::lines::{leading_spaces, trailing_spaces};
 use crate::pages::{page_texts, short_pages};
 use crate::places::add_place;
 use crate::said::{Said, said_items};
@@ -38,6 +39,27 @@ fn seconds(tenths: u8) -> (Value<'static>, Value<'static>) {
     (Number((tenths / 10).into()), Number((tenths % 10).into()))
 }
 
+/// The words of a warning with a code, if they are the same in each message.
+fn plain_words(code: WarningCode) -> Option<&'static str> {
+    match code {
+        WarningCode::IdleOff => Some(
+            "the off time does nothing: a message of one page is shown all the time",
+        ),
+        WarningCode::SpaceAtEnd => {
+            Some("a space at the end of the line takes room and moves the line")
+        }
+        WarningCode::SpaceAtBegin => {
+            Some("a space at the beginning of the line takes room and moves the line")
+        }
+        WarningCode::EndlessFlash => Some("this flash never goes out: its off time is 0"),
+        WarningCode::OpenFlash => {
+            Some("the flash goes on on the next page: no [/fl] ends it before")
+        }
+        WarningCode::AllFlashes => Some("all text flashes, so that nothing stands out"),
+        _ => None,
+    }
+}
+
 impl<'a> ReadMessage<'a> {
     /// One place if this is so, and none if it isn't.
     fn place_if(&self, is: bool, at: usize) -> Result<Vec<usize>, AllocError>
@@ -61,6 +83,8 @@ impl<'a> ReadMessage<'a> {
             WarningCode::ShortPage => short_pages(self.alloc, self.times, self.said),
             WarningCode::OpenFlash => open_flashes(self.alloc, defaults, self.said),
             WarningCode::AllFlashes => self.place_if(all_flash(defaults, self.said), 0),
+            WarningCode::SpaceAtEnd => trailing_spaces(self.alloc, defaults, self.said),
+            WarningCode::SpaceAtBegin => leading_spaces(self.alloc, defaults, self.said),
             _ => chosen_places(self.alloc, self.sign, self.times.len(), code, self.said),
         }
     }
@@ -149,6 +173,9 @@ impl<'a> ReadMessage<'a> {
     /// The words of a warning with a code at an offset.
     fn words(&self, code: WarningCode, at: usize) -> Result<String, AllocError> {
         let say = |words: &str, values: &[Value<'_>]| sentence_of(self.alloc, words, values);
+        if let Some(words) = plain_words(code) {
+            return say(words, &[]);
+        }
         match code {
             WarningCode::LongText => {
                 let sizes = [
@@ -160,10 +187,6 @@ impl<'a> ReadMessage<'a> {
                     &sizes,
                 )
             }
-            WarningCode::IdleOff => say(
-                "the off time does nothing: a message of one page is shown all the time",
-                &[],
-            ),
             WarningCode::ShortPage => self.short_words(at),
             WarningCode::LongDark => self.dark_words(at),
             WarningCode::NoColours => self.colour_words(at),
@@ -175,14 +198,6 @@ impl<'a> ReadMessage<'a> {
                 "this flash lights every 0.{} seconds; 3 to 30 times a second can harm viewers",
                 &[self.flash_tenths(at)],
             ),
-            WarningCode::EndlessFlash => {
-                say("this flash never goes out: its off time is 0", &[])
-            }
-            WarningCode::OpenFlash => say(
-                "the flash goes on on the next page: no [/fl] ends it before",
-                &[],
-            ),
-            WarningCode::AllFlashes => say("all text flashes, so that nothing stands out", &[]),
             WarningCode::ManyPages => say(
                 "the message has {} pages; drivers have time to read two",
                 &[Number(self.times.len() as u64)],

@@ -13,6 +13,7 @@ mod excerpt;
 mod flashes;
 mod forms;
 mod items;
+mod lines;
 mod names;
 mod pages;
 mod piece;

@@ -38,12 +38,6 @@ pub struct Findings {
 /// The number of the space.
 const SPACE: u16 = 32;
 
-/// The number of left justification (NTCIP 1203 v03, MULTI tag 'jl').
-const LEFT: u8 = 2;
-
-/// The number of right justification (NTCIP 1203 v03, MULTI tag 'jl').
-const RIGHT: u8 = 4;
-
 /// What has been read of a message.
 #[derive(Drop)]
 struct Reading<'a> {
@@ -58,13 +52,6 @@ struct Reading<'a> {
     /// The page, counted from 0, and the octet where it begins.
     page: u8,
     begin: usize,
-    line_just: u8,
-    /// The octet of the space that is the last character of the line so far, if it is one, after another character.
-    space: Option<usize>,
-    /// The octet of the space with which the line begins, if it begins with one.
-    lead: Option<usize>,
-    /// Whether the line has a character that is no space.
-    is_begun: bool,
     /// Whether no tag so far can hide text, and each page before this one has a character that is no space.
     is_plain: bool,
     /// Whether this page has one.
@@ -96,10 +83,6 @@ impl<'a> Reading<'a> {
             },
             page: 0,
             begin: 0,
-            line_just: defaults.line,
-            space: None,
-            lead: None,
-            is_begun: false,
             is_plain: is_seen_in(sign, defaults.fore),
             has_text: false,
             is_flashing: false,
@@ -121,93 +104,29 @@ impl<'a> Reading<'a> {
         Ok(self.found.warnings.push(Warning { at, code, words })?)
     }
 
-    /// Ends a line.
-    #[inline(always)]
-    fn end_line(&mut self) -> Result<(), AllocError> {
-        if self.space.is_some() || self.lead.is_some() {
-            self.look_at_spaces()?;
-        }
-        self.space = None;
-        self.lead = None;
-        self.is_begun = false;
-        Ok(())
-    }
-
-    /// Warns of spaces at the ends of a line that move what stands between them.
-    #[inline(never)]
-    fn look_at_spaces(&mut self) -> Result<(), AllocError> {
-        if let Some(at) = self.lead {
-            if self.is_begun && self.line_just != RIGHT {
-                self.say(
-                    at,
-                    WarningCode::SpaceAtBegin,
-                    "a space at the beginning of the line takes room and moves the line",
-                    &[],
-                )?;
-            }
-        }
-        if let Some(at) = self.space {
-            if self.line_just > LEFT {
-                self.say(
-                    at,
-                    WarningCode::SpaceAtEnd,
-                    "a space at the end of the line takes room and moves the line",
-                    &[],
-                )?;
-            }
-        }
-        Ok(())
-    }
-
     /// The number of the page, counted from 1.
     fn page_number(&self) -> Value<'static> {
         Number(u64::from(self.page).saturating_add(1))
     }
 
     /// Passes a character.
-    fn pass_character(&mut self, number: u16, at: usize) {
+    fn pass_character(&mut self, number: u16) {
         if self.is_flashing {
             self.found.flashes = true;
         }
         if number != SPACE {
             self.has_text = true;
-            self.is_begun = true;
-            self.space = None;
-        } else if !self.is_begun {
-            self.begin_with_space(at);
-        } else if self.space.is_none() {
-            self.space = Some(at);
         }
     }
 
-    /// Passes a space before the first other character of a line.
-    fn begin_with_space(&mut self, at: usize) {
-        if self.lead.is_none() {
-            self.lead = Some(at);
-        }
-    }
-
-    /// Passes characters that aren't written by their numbers, where the last octets of the message begin with them.
+    /// Passes characters that aren't written by their numbers.
     #[inline(always)]
-    fn pass_text(&mut self, text: &[u8], rest: &[u8]) {
+    fn pass_text(&mut self, text: &[u8]) {
         if self.is_flashing {
             self.found.flashes = true;
         }
-        if !self.is_begun && text.first() == Some(&b' ') {
-            self.begin_with_space(self.offset(rest));
-        }
-        let last = text.iter().rposition(|octet| *octet != b' ');
-        let end = match last {
-            Some(last) => last.saturating_add(1),
-            None => 0,
-        };
-        if end > 0 {
+        if text.iter().any(|octet| *octet != b' ') {
             self.has_text = true;
-            self.is_begun = true;
-            self.space = None;
-        }
-        if end < text.len() && self.is_begun && self.space.is_none() {
-            self.space = Some(self.offset(rest).saturating_add(end));
         }
     }
 
@@ -221,7 +140,6 @@ impl<'a> Reading<'a> {
     #[inline(always)]
     fn pass_page(&mut self, behind: &[u8], dark: &[u8]) -> Result<(), AllocError> {
         self.look_back(dark)?;
-        self.end_line()?;
         self.is_plain = self.is_plain && self.has_text;
         self.has_text = false;
         self.begin = self.offset(behind);
@@ -229,7 +147,7 @@ impl<'a> Reading<'a> {
         Ok(())
     }
 
-    /// Passes a tag that ends no line and needs no warning.
+    /// Passes a tag that begins no page and shows no character.
     #[inline(always)]
     fn set(&mut self, tag: Tag) {
         match tag {
@@ -243,8 +161,6 @@ impl<'a> Reading<'a> {
                 let fore = colour.unwrap_or(self.sign.defaults().fore);
                 self.is_plain = self.is_plain && is_seen_in(self.sign, fore);
             }
-            Tag::LineJust(None) => self.line_just = self.sign.defaults().line,
-            Tag::LineJust(Some(just)) => self.line_just = just.number(),
             Tag::Flash { on, off, .. } => {
                 let defaults = self.sign.defaults();
                 self.is_flashing = off.unwrap_or(defaults.flash_off) > 0;
@@ -255,23 +171,13 @@ impl<'a> Reading<'a> {
         }
     }
 
-    /// Passes the tag with which the last octets of the message begin, and after which these stand. On these pages nothing is lit.
+    /// Passes a tag after which these octets of the message stand. On these pages nothing is lit.
     #[inline(always)]
-    fn pass_tag(
-        &mut self,
-        tag: Tag,
-        rest: &[u8],
-        behind: &[u8],
-        dark: &[u8],
-    ) -> Result<(), AllocError> {
+    fn pass_tag(&mut self, tag: Tag, behind: &[u8], dark: &[u8]) -> Result<(), AllocError> {
         match tag {
             Tag::NewPage => return self.pass_page(behind, dark),
-            Tag::NewLine(_) => return self.end_line(),
-            Tag::Rect { .. } => {
-                self.is_plain = false;
-                return self.end_line();
-            }
-            Tag::HexChar(number) => self.pass_character(number, self.offset(rest)),
+            Tag::Rect { .. } => self.is_plain = false,
+            Tag::HexChar(number) => self.pass_character(number),
             _ => self.set(tag),
         }
         Ok(())
@@ -307,11 +213,11 @@ impl<'a> Reading<'a> {
         ensures { IfOk result (λ behind. length behind.now < length rest.now) }
     {
         let Some((tag, len)) = tag_of(rest) else {
-            self.pass_text(b"[", rest);
+            self.pass_text(b"[");
             return Ok(rest.get(2..).unwrap_or(b""));
         };
         let behind = &rest[len..];
-        self.pass_tag(tag, rest, behind, dark)?;
+        self.pass_tag(tag, behind, dark)?;
         Ok(behind)
     }
 
@@ -325,7 +231,7 @@ impl<'a> Reading<'a> {
         let others = &rest[1..];
         let plain = others.iter().position(|octet| *octet == b'[');
         let len = 1 + plain.unwrap_or(others.len());
-        self.pass_text(&rest[..len], rest);
+        self.pass_text(&rest[..len]);
         &rest[len..]
     }
 
@@ -339,7 +245,6 @@ impl<'a> Reading<'a> {
                 self.pass_run(rest)
             };
         }
-        self.end_line()?;
         self.look_back(dark)
     }
 
@@ -415,14 +320,14 @@ impl<'a> Reading<'a> {
     }
 }
 
-/// Whether warnings with a code are told, and found by drawing pages or by how spaces stand.
+/// Whether warnings with a code are told, and found by drawing pages.
 fn is_seen(code: WarningCode, told: [bool; CODES]) -> bool
     ensures { result ≡ is_seen told code }
 {
     !code.is_decided() && code.is_told(told)
 }
 
-/// Adds the warnings that were found by drawing pages and by how spaces stand.
+/// Adds the warnings that were found by drawing pages.
 fn add_seen(
     found: &mut Vec<Warning>,
     seen: Vec<Warning>,
