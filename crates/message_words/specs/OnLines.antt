@@ -83,18 +83,12 @@ ended_texts defaults said = some_after (λ before (s : Said). if ends_line s.tag
 abbrev pub line_texts : Defaults → List Said → List LineText
 line_texts defaults said = ended_texts defaults said ++ text_after defaults said ∷ []
 
--- the space that moves a line with letters which doesn't end on the right (4): the one with which it begins (own)
-abbrev pub moved_by_lead : LineText → Option ℕ
-moved_by_lead line = if line.has_letters && not (line.just == 4) then line.lead else None
+-- a space that moves a line: the one with which it begins, if it has letters and doesn't end on the right (4); or the first of those with
+-- which it ends, if it doesn't begin on the left (2) (own)
+abbrev pub moved_by : Bool → LineText → Option ℕ
+moved_by false line = if line.has_letters && not (line.just == 4) then line.lead else None
+moved_by true line = if nat_lt 2 line.just then line.trail else None
 
--- the space that moves a line which doesn't begin on the left (2): the first of those with which it ends (own)
-abbrev pub moved_by_trail : LineText → Option ℕ
-moved_by_trail line = if nat_lt 2 line.just then line.trail else None
-
--- where spaces at the beginning of a line move it (own)
-abbrev pub leading_spaces : Defaults → List Said → List ℕ
-leading_spaces defaults said = filter_map moved_by_lead (line_texts defaults said)
-
--- where spaces at the end of a line move it (own)
-abbrev pub trailing_spaces : Defaults → List Said → List ℕ
-trailing_spaces defaults said = filter_map moved_by_trail (line_texts defaults said)
+-- where spaces at the beginnings of lines move them, or those at their ends (own)
+abbrev pub moving_spaces : Bool → Defaults → List Said → List ℕ
+moving_spaces at_end defaults said = filter_map (moved_by at_end) (line_texts defaults said)

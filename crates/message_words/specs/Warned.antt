@@ -1,12 +1,12 @@
 -- Where warnings stand whose codes definitions decide, and what they are on.
-use Rattle.std.specs.Prelude.{◌≡◌, ℕ, Bool, true, not, ◌&&◌, nat_lt, List, [], ◌++◌, All, map, length, if◌then◌else◌}
+use Rattle.std.specs.Prelude.{◌≡◌, ℕ, Bool, true, false, not, ◌&&◌, nat_lt, List, [], ◌++◌, All, map, length, if◌then◌else◌}
 use Rattle.std.specs.List.{flat_map}
 use Rattle.sign_font.specs.Sign.{SignData}
 use Rattle.multi_meaning.specs.Meaning.{meanings}
 use Rattle.multi_meaning.specs.Times.{Times, page_times}
 use Rattle.message_words.specs.Codes.{code_number, decided_codes, is_decided, is_told}
 use Rattle.message_words.specs.OnItems.{chosen_places, item_places}
-use Rattle.message_words.specs.OnLines.{leading_spaces, trailing_spaces}
+use Rattle.message_words.specs.OnLines.{moving_spaces}
 use Rattle.message_words.specs.OnPages.{all_flash, open_flashes, page_texts, place_first, short_pages}
 use Rattle.message_words.specs.Said.{said_items}
 use Rattle.message_words.specs.declared.code.WarningCode.{WarningCode}
@@ -24,8 +24,8 @@ places_in sign most octets said times LongText = octets_too_many most octets
 places_in sign most octets said times ShortPage = short_pages times (page_texts said)
 places_in sign most octets said times OpenFlash = open_flashes sign.defaults said
 places_in sign most octets said times AllFlashes = place_first (all_flash sign.defaults said) 0 []
-places_in sign most octets said times SpaceAtEnd = trailing_spaces sign.defaults said
-places_in sign most octets said times SpaceAtBegin = leading_spaces sign.defaults said
+places_in sign most octets said times SpaceAtEnd = moving_spaces true sign.defaults said
+places_in sign most octets said times SpaceAtBegin = moving_spaces false sign.defaults said
 places_in sign most octets said times code = chosen_places code (item_places sign (length times) code said)
 
 -- where warnings of a code stand in a string, on a sign whose message table takes texts of so many octets (own)

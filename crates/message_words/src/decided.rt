@@ -8,7 +8,7 @@ ghost use Rattle.message_words.specs.Warned.{decided_notes, note_of, notes_of, p
 use crate::code::{CODES, DECIDED, WarningCode};
 use crate::flashes::{all_flash, open_flashes};
 use crate::items::{chosen_places, flash_period};
-use crate::lines::{leading_spaces, trailing_spaces};
+use crate::lines::moving_spaces;
 use crate::pages::{page_texts, short_pages};
 use crate::places::add_place;
 use crate::said::{Said, said_items};
@@ -83,8 +83,8 @@ impl<'a> ReadMessage<'a> {
             WarningCode::ShortPage => short_pages(self.alloc, self.times, self.said),
             WarningCode::OpenFlash => open_flashes(self.alloc, defaults, self.said),
             WarningCode::AllFlashes => self.place_if(all_flash(defaults, self.said), 0),
-            WarningCode::SpaceAtEnd => trailing_spaces(self.alloc, defaults, self.said),
-            WarningCode::SpaceAtBegin => leading_spaces(self.alloc, defaults, self.said),
+            WarningCode::SpaceAtEnd => moving_spaces(self.alloc, true, defaults, self.said),
+            WarningCode::SpaceAtBegin => moving_spaces(self.alloc, false, defaults, self.said),
             _ => chosen_places(self.alloc, self.sign, self.times.len(), code, self.said),
         }
     }

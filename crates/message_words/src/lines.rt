@@ -1,7 +1,7 @@
 //! Which spaces of a message take room at the ends of its lines.
 ghost use Rattle.std.specs.Prelude.{◌≡◌, ◌++◌, ◌∷◌, [], IfOk, List, None, OnOk, false, true};
 ghost use Rattle.std.specs.List.{cons_option, filter_map};
-ghost use Rattle.message_words.specs.OnLines.{ends_line, is_character, just_set, leading_spaces, line_texts, moved_by_lead, moved_by_trail, text_after, trailing_spaces, with_character};
+ghost use Rattle.message_words.specs.OnLines.{ends_line, is_character, just_set, line_texts, moved_by, moving_spaces, text_after, with_character};
 ghost use Rattle.message_words.specs.declared.said.Said.{Said};
 
 use crate::items::is_letter;
@@ -98,7 +98,7 @@ impl LineText {
     }
 
     /// The line on which items end, with one more item.
-    fn behind(self, defaults: Defaults, one: &Said) -> LineText
+    fn with_item(self, defaults: Defaults, one: &Said) -> LineText
         ensures { (before : List Said) → self ≡ text_after defaults before → result ≡ text_after defaults (before ++ one.now ∷ []) }
     {
         let just = just_set(defaults, one.tag).unwrap_or(self.just);
@@ -112,22 +112,18 @@ impl LineText {
         line
     }
 
-    /// The space with which it begins, if that moves it.
-    fn moved_by_lead(self) -> Option<usize>
-        ensures { result ≡ moved_by_lead self }
+    /// The space with which it begins, or the first of those with which it ends, if that moves it.
+    fn moved_by(self, at_end: bool) -> Option<usize>
+        ensures { result ≡ moved_by at_end self }
     {
+        if at_end {
+            return if self.just > LEFT { self.trail } else { None };
+        }
         if self.has_letters && self.just != RIGHT {
             self.lead
         } else {
             None
         }
-    }
-
-    /// The first of the spaces with which it ends, if they move it.
-    fn moved_by_trail(self) -> Option<usize>
-        ensures { result ≡ moved_by_trail self }
-    {
-        if self.just > LEFT { self.trail } else { None }
     }
 }
 
@@ -151,54 +147,32 @@ fn line_texts(alloc: Global, defaults: Defaults, said: &[Said]) -> Result<Vec<Li
         if ends_line(one.tag) {
             lines.push(here)?;
         }
-        here = here.behind(defaults, one);
+        here = here.with_item(defaults, one);
     }
     lines.push(here)?;
     Ok(lines)
 }
 
-/// Where spaces at the beginnings of these lines move them. The error says that memory was refused.
-fn leading_of(alloc: Global, lines: &[LineText]) -> Result<Vec<usize>, AllocError>
-    ensures { IfOk result (λ places. places.items ≡ filter_map moved_by_lead lines.now) }
+/// Where spaces at the beginnings of these lines move them, or those at their ends. The error says that memory was refused.
+fn moved_places(alloc: Global, at_end: bool, lines: &[LineText]) -> Result<Vec<usize>, AllocError>
+    ensures { IfOk result (λ places. places.items ≡ filter_map (moved_by at_end) lines.now) }
 {
     let mut places = Vec::new(alloc);
     for line in lines {
-        add_some(&mut places, line.moved_by_lead())?;
+        add_some(&mut places, line.moved_by(at_end))?;
     }
     Ok(places)
 }
 
-/// Where spaces at the ends of these lines move them. The error says that memory was refused.
-fn trailing_of(alloc: Global, lines: &[LineText]) -> Result<Vec<usize>, AllocError>
-    ensures { IfOk result (λ places. places.items ≡ filter_map moved_by_trail lines.now) }
-{
-    let mut places = Vec::new(alloc);
-    for line in lines {
-        add_some(&mut places, line.moved_by_trail())?;
-    }
-    Ok(places)
-}
-
-/// Where spaces at the beginnings of lines move them. The error says that memory was refused.
-pub(crate) fn leading_spaces(
+/// Where spaces at the beginnings of lines move them, or those at their ends. The error says that memory was refused.
+pub(crate) fn moving_spaces(
     alloc: Global,
+    at_end: bool,
     defaults: Defaults,
     said: &[Said],
 ) -> Result<Vec<usize>, AllocError>
-    ensures { IfOk result (λ places. places.items ≡ leading_spaces defaults said.now) }
+    ensures { IfOk result (λ places. places.items ≡ moving_spaces at_end defaults said.now) }
 {
     let lines = line_texts(alloc, defaults, said)?;
-    leading_of(alloc, &lines)
-}
-
-/// Where spaces at the ends of lines move them. The error says that memory was refused.
-pub(crate) fn trailing_spaces(
-    alloc: Global,
-    defaults: Defaults,
-    said: &[Said],
-) -> Result<Vec<usize>, AllocError>
-    ensures { IfOk result (λ places. places.items ≡ trailing_spaces defaults said.now) }
-{
-    let lines = line_texts(alloc, defaults, said)?;
-    trailing_of(alloc, &lines)
+    moved_places(alloc, at_end, &lines)
 }

@@ -19,7 +19,7 @@ loop-one-preserved c =
     let before = take i said in
     let old = ended_texts defaults before in
     let more = OnLinesLemmas.ended_more defaults said i none below in
-    let here : c.behind-here.result ≡ text_after defaults (take (i + 1) said) = c.behind-here.ensures before h.here_is ∙ ap (text_after defaults) (sym (take_more said i none below)) in
+    let here : c.with_item-here.result ≡ text_after defaults (take (i + 1) said) = c.with_item-here.ensures before h.here_is ∙ ap (text_after defaults) (sym (take_more said i none below)) in
     elim c.if-ends_line.branch [
       | then-ends_line+in_ok-push w ↦ rw w.lines-is (record {
         ended = w.in_ok-push.ensures.items ∙ ap (λ l. l ++ c.loop-one.here ∷ []) h.ended ∙ ap (λ (t : LineText). old ++ t ∷ []) h.here_is

@@ -5,7 +5,7 @@ use Rattle.message_words.specs.OnLines.{just_set, with_character}
 use Rattle.message_words.specs.declared.lines.LineText.{LineText}
 use Rattle.message_words.proofs.OnLinesLemmas
 use Rattle.message_words.proofs.OnLinesLemmas.{text, text_of}
-use Rattle.message_words.proofs.lines.LineText.behind.Goals as goal
+use Rattle.message_words.proofs.lines.LineText.with_item.Goals as goal
 
 pub returns-then-ends_line : goal.returns-then-ends_line
 returns-then-ends_line c = λ before is.
